@@ -1,0 +1,64 @@
+-- Tests over the numbers below n: what a loop over the numbers needs of them. Assumes nothing.
+use Prim.Native.Nat.{ℕ, zero, suc, _+_, _<_, _≤_}
+use mathlib.Core.Bool.{Bool, true, false, cond}
+use mathlib.Core.Path.{_≡_, refl}
+use mathlib.Core.Logic.{⊎-elim}
+use native.Mathlib.Numerals.{add-one}
+use native.Mathlib.Omega.{arith}
+use native.Mathlib.Nat.{not-suc-le-zero, le-of-suc-le-suc, eq-or-lt-of-le}
+use Rattle.pages.specs.Quant.{anyTo, allTo, firstTo}
+
+pub any-none : (p : ℕ → Bool) → anyTo 0 p ≡ false
+unfolding anyTo
+any-none p = refl
+
+pub all-none : (p : ℕ → Bool) → allTo 0 p ≡ true
+unfolding allTo
+all-none p = refl
+
+pub any-more : (p : ℕ → Bool) (n : ℕ) → anyTo n p ≡ false → p n ≡ false → anyTo (n + 1) p ≡ false
+unfolding anyTo
+any-more p n h k = rw (add-one n, h) k
+
+pub all-more : (p : ℕ → Bool) (n : ℕ) → allTo n p ≡ true → p n ≡ true → allTo (n + 1) p ≡ true
+unfolding allTo
+all-more p n h k = rw (add-one n, h) k
+
+or-right : (a : Bool) → cond a true true ≡ true
+or-right true = refl
+or-right false = refl
+
+and-right : (a : Bool) → cond a false false ≡ false
+and-right true = refl
+and-right false = refl
+
+pub any-found : (p : ℕ → Bool) (n i : ℕ) → i < n → p i ≡ true → anyTo n p ≡ true
+unfolding anyTo
+any-found p zero i h k = absurd (not-suc-le-zero h)
+any-found p (suc n) i h k =
+    ⊎-elim (λ (e : i ≡ n). rw (← e, k) (or-right (anyTo i p)))
+    (λ (l : i < n). rw (any-found p n i l k) refl)
+    (eq-or-lt-of-le (le-of-suc-le-suc h))
+
+pub all-failed : (p : ℕ → Bool) (n i : ℕ) → i < n → p i ≡ false → allTo n p ≡ false
+unfolding allTo
+all-failed p zero i h k = absurd (not-suc-le-zero h)
+all-failed p (suc n) i h k =
+    ⊎-elim (λ (e : i ≡ n). rw (← e, k) (and-right (allTo i p)))
+    (λ (l : i < n). rw (all-failed p n i l k) refl)
+    (eq-or-lt-of-le (le-of-suc-le-suc h))
+
+or-false : (a b : Bool) → cond a true b ≡ false → (a ≡ false) × (b ≡ false)
+or-false true b h = absurd (let z : _≡_ {A = ℕ} 0 1 = cc in omega arith)
+or-false false b h = (refl, h)
+
+pub first-none : (p : ℕ → Bool) (n : ℕ) → anyTo n p ≡ false → firstTo n p ≡ n
+unfolding anyTo firstTo
+first-none p zero h = refl
+first-none p (suc n) h = let z = or-false (anyTo n p) (p n) h in rw (z .0, z .1)
+
+pub first-at : (p : ℕ → Bool) (n i : ℕ) → i < n → anyTo i p ≡ false → p i ≡ true → firstTo n p ≡ i
+unfolding firstTo
+first-at p zero i l h k = absurd (not-suc-le-zero l)
+first-at p (suc n) i l h k =
+    ⊎-elim (λ (e : i ≡ n). rw (← e, h, k)) (λ (m : i < n). rw (any-found p n i m k) (first-at p n i m h k)) (eq-or-lt-of-le (le-of-suc-le-suc l))

@@ -1,0 +1,80 @@
+use Prim.Native.Nat.{ℕ, _+_, _*_, _-_, _<_, _≤_}
+use mathlib.Core.Path.{_≡_, refl, sym, _∙_, ap}
+use mathlib.Core.List.{List}
+use native.Mathlib.Omega.{arith}
+use native.Mathlib.Numerals.{add-one}
+use lib.ListN.{length, getD, set, length-set}
+use lib.Seq.{paste, paste-zero, paste-suc}
+use denote.Ref.{now}
+use borrow.Author.Needs.{needs}
+use Rattle.pages.proofs.put_bytes.Statement.{statement}
+use Rattle.pages.proofs.put_bytes.Tie as tie
+use Rattle.pages.proofs.put_bytes.Reads as reads
+use Rattle.pages.proofs.put_bytes.Lts as lts
+
+abbrev Inv-loop : tie.InvT-loop
+Inv-loop page₀ at bytes i₀ page i = (i ≤ length bytes) × (page ≡ paste page₀ at bytes i) × (length page ≡ length page₀)
+
+abbrev μ-loop : tie.MeasureT-loop
+μ-loop page₀ at bytes i₀ page i = length bytes - i
+
+-- src/lib.rt:183:5
+loop-holds : tie.Need-loop-holds Inv-loop μ-loop
+loop-holds c = (omega arith, paste-zero (now (c .args .page)) (c .args .at) (now (c .args .bytes)), refl)
+
+-- src/lib.rt:184:24
+shared-slice-read-page : tie.Need-shared-slice-read-page Inv-loop μ-loop
+shared-slice-read-page c = search needs
+
+-- src/lib.rt:184:14
+add-page : tie.Need-add-page Inv-loop μ-loop
+add-page c = search needs
+
+-- src/lib.rt:184:9
+slice-write-page : tie.Need-slice-write-page Inv-loop μ-loop
+slice-write-page c = search needs
+
+-- src/lib.rt:185:9
+add-i : tie.Need-add-i Inv-loop μ-loop
+add-i c = search needs
+
+-- src/lib.rt:183:5
+loop-less : tie.Need-loop-less Inv-loop μ-loop
+loop-less c = search needs
+
+-- src/lib.rt:183:5
+loop-again : tie.Need-loop-again Inv-loop μ-loop
+loop-again c =
+    let l = c .before .before .loop in
+    let a = c .before .before .before .args in (
+      omega arith,
+      rw (l .inv .1, add-one) (paste-suc (now (a .page)) (a .at) (now (a .bytes)) (l .i) 0 (omega (arith, c .before .before .before .pre)) (omega arith)),
+      length-set (l .page) (a .at + l .i) (getD (now (a .bytes)) (l .i) 0) ∙ l .inv .2,
+    )
+
+-- src/lib.rt:178:1
+same-length : tie.Need-same-length Inv-loop μ-loop
+same-length c = search needs
+
+-- src/lib.rt:178:1
+returns : tie.Need-returns Inv-loop μ-loop
+returns c =
+    let l = c .before .loop in
+    let e : l .i ≡ length (now (c .before .before .args .bytes)) = omega arith in
+    l .inv .1 ∙ rw e
+
+pub put-bytes-spec : {M : Type 1} → statement M
+put-bytes-spec =
+    tie.close
+    (tie.spec
+    Inv-loop
+    μ-loop
+    loop-holds
+    shared-slice-read-page
+    add-page
+    slice-write-page
+    add-i
+    loop-less
+    loop-again
+    same-length
+    returns)

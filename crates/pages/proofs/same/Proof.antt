@@ -1,0 +1,76 @@
+use Prim.Native.Nat.{ℕ, _+_, _*_, _-_, _/_, _%_, _<_, _≤_}
+use mathlib.Core.Path.{_≡_, refl, sym, _∙_, ap}
+use mathlib.Core.List.{List, [], _∷_, _++_}
+use mathlib.Core.Bool.{Bool, true, false}
+use mathlib.Core.Logic.{⊎-elim}
+use native.Mathlib.Omega.{arith}
+use denote.Ref.{now}
+use lib.ListN.{length, getD, take, drop}
+use borrow.Author.Needs.{needs}
+use Rattle.pages.proofs.Bytes.{eqs-on, eqs-off, eqs-end, eqs-length}
+use Rattle.pages.specs.Bytes.{eqs}
+use Prim.Native.Nat.{ℕ, _+_, _*_, _-_, _<_, _≤_}
+use Rattle.pages.proofs.Bytes.{eqs-on, eqs-off, eqs-end, eqs-length}
+use Rattle.pages.specs.Bytes.{eqs}
+use Rattle.pages.proofs.same.Statement.{statement}
+use Rattle.pages.proofs.same.Tie as tie
+use Rattle.pages.proofs.same.Reads as reads
+use Rattle.pages.proofs.same.Lts as lts
+
+abbrev Inv-loop : tie.InvT-loop
+Inv-loop a b i₀ i = (i ≤ length a) × (eqs a b ≡ eqs (drop i a) (drop i b))
+
+abbrev μ-loop : tie.MeasureT-loop
+μ-loop a b i₀ i = length a - i
+
+-- src/lib.rt:75:9
+returns : tie.Need-returns Inv-loop μ-loop
+returns c = sym (eqs-length _ _ (c .if1 .taken))
+
+-- src/lib.rt:78:5
+loop-holds : tie.Need-loop-holds Inv-loop μ-loop
+loop-holds c = (omega arith, refl)
+
+-- src/lib.rt:79:12
+shared-slice-read-if2 : tie.Need-shared-slice-read-if2 Inv-loop μ-loop
+shared-slice-read-if2 c = search needs
+
+-- src/lib.rt:79:20
+shared-slice-read-if2-2 : tie.Need-shared-slice-read-if2-2 Inv-loop μ-loop
+shared-slice-read-if2-2 c = search needs
+
+-- src/lib.rt:80:13
+returns-2 : tie.Need-returns-2 Inv-loop μ-loop
+returns-2 c = sym (c .before .before .before .before .loop .inv .1 ∙ eqs-off (now (c .before .before .before .before .before .before .args .a)) (now (c .before .before .before .before .before .before .args .b)) (c .before .before .before .before .loop .i) (omega arith) (omega arith) (c .if2 .taken))
+
+-- src/lib.rt:82:9
+add-i : tie.Need-add-i Inv-loop μ-loop
+add-i c = search needs
+
+-- src/lib.rt:78:5
+loop-less : tie.Need-loop-less Inv-loop μ-loop
+loop-less c = search needs
+
+-- src/lib.rt:78:5
+loop-again : tie.Need-loop-again Inv-loop μ-loop
+loop-again c = (omega arith, c .before .before .before .before .loop .inv .1 ∙ eqs-on (now (c .before .before .before .before .before .before .args .a)) (now (c .before .before .before .before .before .before .args .b)) (c .before .before .before .before .loop .i) (omega arith) (omega arith) (c .if2 .left))
+
+-- src/lib.rt:71:1
+returns-3 : tie.Need-returns-3 Inv-loop μ-loop
+returns-3 c = sym (c .before .loop .inv .1 ∙ eqs-end (now (c .before .before .before .args .a)) (now (c .before .before .before .args .b)) (c .before .loop .i) (omega arith) (omega arith))
+
+pub same-spec : {M : Type 1} → statement M
+same-spec =
+    tie.close
+    (tie.spec
+    Inv-loop
+    μ-loop
+    returns
+    loop-holds
+    shared-slice-read-if2
+    shared-slice-read-if2-2
+    returns-2
+    add-i
+    loop-less
+    loop-again
+    returns-3)

@@ -1,0 +1,60 @@
+use Prim.Native.Nat.{ℕ, _+_, _*_, _-_, _<_, _≤_}
+use mathlib.Core.Path.{_≡_, refl, sym, _∙_, ap}
+use native.Mathlib.Omega.{arith}
+use lib.ListN.{length, drop}
+use denote.Ref.{now}
+use borrow.Author.Needs.{needs}
+use Rattle.pages.specs.Bytes.{zeros}
+use Rattle.pages.proofs.Bytes.{zeros-on, zeros-off, zeros-end}
+use Rattle.pages.proofs.zeros_from.Statement.{statement}
+use Rattle.pages.proofs.zeros_from.Tie as tie
+use Rattle.pages.proofs.zeros_from.Reads as reads
+use Rattle.pages.proofs.zeros_from.Lts as lts
+
+abbrev Inv-loop : tie.InvT-loop
+Inv-loop page at i₀ i = (i ≤ length page) × (zeros (drop at page) ≡ zeros (drop i page))
+
+abbrev μ-loop : tie.MeasureT-loop
+μ-loop page at i₀ i = length page - i
+
+-- src/lib.rt:83:5
+loop-holds : tie.Need-loop-holds Inv-loop μ-loop
+loop-holds c = (omega arith, refl)
+
+-- src/lib.rt:84:12
+shared-slice-read-if1 : tie.Need-shared-slice-read-if1 Inv-loop μ-loop
+shared-slice-read-if1 c = search needs
+
+-- src/lib.rt:85:13
+returns : tie.Need-returns Inv-loop μ-loop
+returns c = sym (c .before .before .before .loop .inv .1 ∙ zeros-off (now (c .before .before .before .before .args .page)) (c .before .before .before .loop .i) (omega arith) (c .if1 .taken))
+
+-- src/lib.rt:87:9
+add-i : tie.Need-add-i Inv-loop μ-loop
+add-i c = search needs
+
+-- src/lib.rt:83:5
+loop-less : tie.Need-loop-less Inv-loop μ-loop
+loop-less c = search needs
+
+-- src/lib.rt:83:5
+loop-again : tie.Need-loop-again Inv-loop μ-loop
+loop-again c = (omega arith, c .before .before .before .loop .inv .1 ∙ zeros-on (now (c .before .before .before .before .args .page)) (c .before .before .before .loop .i) (omega arith) (c .if1 .left))
+
+-- src/lib.rt:78:1
+returns-2 : tie.Need-returns-2 Inv-loop μ-loop
+returns-2 c = sym (c .before .loop .inv .1 ∙ zeros-end (now (c .before .before .args .page)) (c .before .loop .i) (omega arith))
+
+pub zeros-from-spec : {M : Type 1} → statement M
+zeros-from-spec =
+    tie.close
+    (tie.spec
+    Inv-loop
+    μ-loop
+    loop-holds
+    shared-slice-read-if1
+    returns
+    add-i
+    loop-less
+    loop-again
+    returns-2)

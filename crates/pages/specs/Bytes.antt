@@ -1,0 +1,39 @@
+-- The bytes of a lent page, as a list of numbers below 256. "All numbers big-endian" (document 01, "Formulas and sheets").
+use mathlib.Core.Bool.{Bool, true, false, _&&_}
+use mathlib.Core.List.{List, [], _∷_}
+use Prim.Native.Nat.{ℕ, _+_, _*_, _/_, _%_}
+use lib.ListN.{length, getD}
+use lib.Seq.{paste}
+use lib.Dec.{eqb, leb}
+
+-- are two lists equal, byte for byte
+unfoldable pub eqs : List ℕ → List ℕ → Bool
+eqs [] [] = true
+eqs [] (y ∷ ys) = false
+eqs (x ∷ xs) [] = false
+eqs (x ∷ xs) (y ∷ ys) = eqb x y && eqs xs ys
+
+-- is every byte 0
+unfoldable pub zeros : List ℕ → Bool
+zeros [] = true
+zeros (x ∷ xs) = eqb x 0 && zeros xs
+
+-- is x from a to b, both included
+abbrev pub within : ℕ → ℕ → ℕ → Bool
+within a b x = leb a x && leb x b
+
+-- how many bytes the count at a page's front takes
+abbrev pub countBytes : ℕ
+countBytes = 2
+
+-- the count that a page begins with
+abbrev pub countOf : List ℕ → ℕ
+countOf page = getD page 0 0 * 256 + getD page 1 0
+
+-- the bytes that say a count
+abbrev pub bytesOf : ℕ → List ℕ
+bytesOf n = n / 256 ∷ n % 256 ∷ []
+
+-- the page with other bytes from index at on, and every other byte as it was
+abbrev pub put : List ℕ → ℕ → List ℕ → List ℕ
+put page at bytes = paste page at bytes (length bytes)

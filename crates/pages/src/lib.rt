@@ -1,0 +1,86 @@
+// Bytes in lent pages.
+ghost use mathlib.Core.Path.{_≡_};
+ghost use Prim.Native.Nat.{_+_, _≤_, _<_};
+ghost use lib.ListN.{length, drop, replicate};
+ghost use Rattle.pages.specs.Bytes.{eqs, zeros, countBytes, countOf, bytesOf, put};
+
+// How many bytes the count at a page's front takes.
+pub const COUNT_BYTES: usize = 2;
+
+// A byte as an index.
+pub fn index(b: u8) -> usize
+    ensures { λ r. ⌜ (r ≡ b) × (r < 256) ⌝ }
+{
+    b as usize
+}
+
+// Whether two slices have the same bytes.
+pub fn same(a: &[u8], b: &[u8]) -> bool
+    ensures { λ r. ⌜ r ≡ eqs (now (a .entry)) (now (b .entry)) ⌝ }
+{
+    if a.len() != b.len() {
+        return false;
+    }
+    let mut i: usize = 0;
+    while i < a.len() {
+        if a[i] != b[i] {
+            return false;
+        }
+        i += 1;
+    }
+    true
+}
+
+// Whether the bytes from index at on are all 0.
+pub fn zeros_from(page: &[u8], at: usize) -> bool
+    requires { ⌜ at ≤ length (now page) ⌝ }
+    ensures { λ r. ⌜ r ≡ zeros (drop at (now (page .entry))) ⌝ }
+{
+    let mut i = at;
+    while i < page.len() {
+        if page[i] != 0 {
+            return false;
+        }
+        i += 1;
+    }
+    true
+}
+
+// The count that the page's first two bytes say.
+pub fn count(page: &[u8]) -> usize
+    requires { ⌜ countBytes ≤ length (now page) ⌝ }
+    ensures { λ r. ⌜ (r ≡ countOf (now (page .entry))) × (r < 65536) ⌝ }
+{
+    index(page[0]) * 256 + index(page[1])
+}
+
+// The two bytes that say a count.
+pub fn count_bytes(n: usize) -> [u8; 2]
+    requires { ⌜ n < 65536 ⌝ }
+    ensures { λ r. ⌜ r ≡ bytesOf n ⌝ }
+{
+    [(n / 256) as u8, (n % 256) as u8]
+}
+
+// Writes bytes into the page from index at on.
+pub fn put_bytes(page: &mut [u8], at: usize, bytes: &[u8])
+    requires { ⌜ at + length (now bytes) ≤ length (now page) ⌝ }
+    ensures { λ _. ⌜ now (page .exit) ≡ put (now (page .entry)) at (now (bytes .entry)) ⌝ }
+{
+    let mut i = 0;
+    while i < bytes.len() {
+        page[at + i] = bytes[i];
+        i += 1;
+    }
+}
+
+// Makes every byte of the page 0.
+pub fn clear(page: &mut [u8])
+    ensures { λ _. ⌜ now (page .exit) ≡ replicate (length (now (page .entry))) 0 ⌝ }
+{
+    let mut i: usize = 0;
+    while i < page.len() {
+        page[i] = 0;
+        i += 1;
+    }
+}

@@ -1,0 +1,2 @@
+-- Laws that the proofs of every call cite.
+pub mod Lowest

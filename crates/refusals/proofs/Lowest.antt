@@ -1,0 +1,41 @@
+-- The lowest refusal of a list of conditions, found from the front: a condition that does not hold falls away by
+-- computation, and one that holds and has no lower number behind it is the verdict. Assumes nothing.
+use mathlib.Core.Path.{_≡_, refl}
+use mathlib.Core.Bool.{Bool, true, false, cond, _&&_}
+use mathlib.Core.List.{List, [], _∷_}
+use Prim.Native.Nat.{ℕ}
+use native.Mathlib.Omega.{arith}
+use lib.Dec.{leb}
+use Rattle.refusals.specs.Numbers.{numberOf}
+use Rattle.refusals.specs.Lowest.{Condition, _when_, lower, lowest}
+use Rattle.refusals.specs.declared.Refusal.{Refusal}
+use Rattle.refusals.specs.declared.Verdict.{Verdict}
+use Rattle.refusals.specs.declared.Verdict.the-variants.{Passed, Refused}
+
+-- no condition of the list has a lower number than r, whether or not it holds
+abbrev pub above : Refusal → List Condition → Bool
+above r [] = true
+above r ((s when b) ∷ cs) = leb (numberOf r) (numberOf s) && above r cs
+
+and-both : (a b : Bool) → (a && b) ≡ true → (a ≡ true) × (b ≡ true)
+and-both true b h = (refl, h)
+and-both false b h = absurd (let z : _≡_ {A = ℕ} 0 1 = cc in omega arith)
+
+-- one more verdict behind r, which is no lower
+lower-more : (r s : Refusal) (v : Verdict) → leb (numberOf r) (numberOf s) ≡ true → lower r v ≡ Refused r → lower r (lower s v) ≡ Refused r
+lower-more r s Passed h e = rw h
+lower-more r s (Refused t) h e = go (leb (numberOf s) (numberOf t))
+  where
+    go : (b : Bool) → lower r (Refused (cond b s t)) ≡ Refused r
+    go true = rw h
+    go false = e
+
+pub first-holds : (r : Refusal) (cs : List Condition) → above r cs ≡ true → lower r (lowest cs) ≡ Refused r
+first-holds r [] h = refl
+first-holds r ((s when b) ∷ cs) h =
+    let k = and-both (leb (numberOf r) (numberOf s)) (above r cs) h in
+    go b (k .0) (first-holds r cs (k .1))
+  where
+    go : (b : Bool) → leb (numberOf r) (numberOf s) ≡ true → lower r (lowest cs) ≡ Refused r → lower r (cond b (lower s (lowest cs)) (lowest cs)) ≡ Refused r
+    go true l ih = lower-more r s (lowest cs) l ih
+    go false l ih = ih

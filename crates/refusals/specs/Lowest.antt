@@ -1,0 +1,29 @@
+-- "The lowest number that applies comes first" (document 01, below the table): a call lists its conditions, and the
+-- refusal with the lowest number among those that apply is given, in whatever order they are listed.
+use mathlib.Core.Bool.{Bool, cond}
+use mathlib.Core.List.{List, [], _∷_}
+use lib.Dec.{leb}
+use Rattle.refusals.specs.Numbers.{numberOf}
+use Rattle.refusals.specs.declared.Refusal.{Refusal}
+use Rattle.refusals.specs.declared.Verdict.{Verdict}
+use Rattle.refusals.specs.declared.Verdict.the-variants.{Passed, Refused}
+
+infix 20 _when_
+-- a refusal, and whether its condition holds of the call's input
+pub data Condition : Type 0 where
+  _when_ : Refusal → Bool → Condition
+
+-- of a refusal and a verdict, what has the lower number
+abbrev pub lower : Refusal → Verdict → Verdict
+lower r Passed = Refused r
+lower r (Refused s) = Refused (cond (leb (numberOf r) (numberOf s)) r s)
+
+-- the lowest refusal that applies
+abbrev pub lowest : List Condition → Verdict
+lowest [] = Passed
+lowest ((r when b) ∷ cs) = cond b (lower r (lowest cs)) (lowest cs)
+
+-- a value that only a call that passes changes
+abbrev pub unlessRefused : {A : Type 0} → Verdict → A → A → A
+unlessRefused Passed new old = new
+unlessRefused (Refused r) new old = old

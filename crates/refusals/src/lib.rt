@@ -1,0 +1,64 @@
+// The refusals of document 01 ("Formulas and sheets", the table): one list for every call.
+ghost use mathlib.Core.Path.{_≡_};
+ghost use Rattle.refusals.specs.Numbers.{numberOf, codeOf};
+
+// Why a call gives no result.
+pub enum Refusal {
+    // A type kind, node form or operator code is undefined.
+    Undefined,
+    // A lent store or table, or the bindings, break their form.
+    Broken,
+    // A name, type or node number is not in use.
+    Unused,
+    // A name is malformed.
+    Malformed,
+    // A unit breaks its form.
+    BadUnit,
+    // A type has a wrong number of children, or a result union is too wide.
+    Width,
+    // A type or formula is too deep.
+    Depth,
+    // A result exponent is outside its limits.
+    Exponent,
+    // A result has too many symbols.
+    Symbols,
+    // There is no place for one more.
+    Full,
+    // A sheet is too long, of another version, cut or misordered.
+    Sheet,
+}
+
+// What a call with no result but success answers.
+pub enum Verdict {
+    Passed,
+    Refused(Refusal),
+}
+
+// The number that document 01 gives a refusal.
+pub fn number(r: Refusal) -> u8
+    ensures { λ n. ⌜ n ≡ numberOf r ⌝ }
+{
+    match r {
+        Refusal::Undefined => 1,
+        Refusal::Broken => 2,
+        Refusal::Unused => 3,
+        Refusal::Malformed => 4,
+        Refusal::BadUnit => 5,
+        Refusal::Width => 6,
+        Refusal::Depth => 7,
+        Refusal::Exponent => 8,
+        Refusal::Symbols => 9,
+        Refusal::Full => 10,
+        Refusal::Sheet => 11,
+    }
+}
+
+// A verdict as a number: 0 where the call passed, else the refusal's.
+pub fn code(v: Verdict) -> u8
+    ensures { λ n. ⌜ n ≡ codeOf v ⌝ }
+{
+    match v {
+        Verdict::Passed => 0,
+        Verdict::Refused(r) => number(r),
+    }
+}
