@@ -1,6 +1,6 @@
 -- Tests over the numbers below n: what a loop over the numbers needs of them. Assumes nothing.
 use Prim.Native.Nat.{ℕ, zero, suc, _+_, _<_, _≤_}
-use mathlib.Core.Bool.{Bool, true, false, cond}
+use mathlib.Core.Bool.{Bool, true, false, cond, _&&_}
 use mathlib.Core.Path.{_≡_, refl}
 use mathlib.Core.Logic.{⊎-elim}
 use native.Mathlib.Numerals.{add-one}
@@ -62,3 +62,30 @@ unfolding firstTo
 first-at p zero i l h k = absurd (not-suc-le-zero l)
 first-at p (suc n) i l h k =
     ⊎-elim (λ (e : i ≡ n). rw (← e, h, k)) (λ (m : i < n). rw (any-found p n i m k) (first-at p n i m h k)) (eq-or-lt-of-le (le-of-suc-le-suc l))
+
+pub first-le : (p : ℕ → Bool) (n : ℕ) → firstTo n p ≤ n
+unfolding firstTo
+first-le p zero = omega arith
+first-le p (suc n) = go (anyTo n p) (p n) (first-le p n)
+  where
+    go : (a b : Bool) → firstTo n p ≤ n → cond a (firstTo n p) (cond b n (suc n)) ≤ suc n
+    go true b h = omega arith
+    go false true h = omega arith
+    go false false h = omega arith
+
+-- ---- a test that passed, taken apart
+
+pub and-true : (a b : Bool) → (a && b) ≡ true → (a ≡ true) × (b ≡ true)
+and-true true b h = (refl, h)
+and-true false b h = absurd (let z : _≡_ {A = ℕ} 0 1 = cc in omega arith)
+
+both : (a b : Bool) → cond a b false ≡ true → (a ≡ true) × (b ≡ true)
+both true b h = (refl, h)
+both false b h = absurd (let z : _≡_ {A = ℕ} 0 1 = cc in omega arith)
+
+pub all-at : (p : ℕ → Bool) (n i : ℕ) → allTo n p ≡ true → i < n → p i ≡ true
+unfolding allTo
+all-at p zero i h l = absurd (not-suc-le-zero l)
+all-at p (suc n) i h l =
+    let z = both (allTo n p) (p n) h in
+    ⊎-elim (λ (e : i ≡ n). rw e (z .1)) (λ (m : i < n). all-at p n i (z .0) m) (eq-or-lt-of-le (le-of-suc-le-suc l))

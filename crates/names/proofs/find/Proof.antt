@@ -1,0 +1,89 @@
+use Prim.Native.Nat.{ℕ, _+_, _*_, _-_, _/_, _%_, _<_, _≤_}
+use mathlib.Core.Path.{_≡_, refl, sym, _∙_, ap}
+use mathlib.Core.List.{List, [], _∷_, _++_}
+use mathlib.Core.Bool.{Bool, true, false}
+use mathlib.Core.Logic.{⊎-elim}
+use native.Mathlib.Omega.{arith}
+use denote.Ref.{now}
+use lib.ListN.{length, getD, take, drop}
+use borrow.Author.Needs.{needs}
+use Rattle.names.proofs.Table.{offset-ge, step-in, step-at, name-there, found-at}
+use Rattle.names.specs.Table.{offset, named, numberOf}
+use Rattle.pages.specs.Quant.{anyTo}
+use Rattle.pages.proofs.Quant.{any-none, any-more, first-none, first-at}
+use Prim.Native.Nat.{ℕ, _+_, _*_, _-_, _<_, _≤_}
+use Rattle.names.proofs.find.Statement.{statement}
+use Rattle.names.proofs.find.Tie as tie
+
+abbrev Inv-loop : tie.InvT-loop
+Inv-loop page n name i₀ at₀ i at = (i ≤ n) × (at ≡ offset page i) × (at ≤ length page) × (anyTo i (named page name) ≡ false)
+
+abbrev μ-loop : tie.MeasureT-loop
+μ-loop page n name i₀ at₀ i at = n - i
+
+loop-holds : tie.Need-loop-holds Inv-loop μ-loop
+unfolding offset
+loop-holds c = (omega arith, refl, let z = offset-ge (now (c .before .before .args .page)) (c .before .before .args .n) in omega (arith, c .before .before .pre), any-none _)
+
+add-start : tie.Need-add-start Inv-loop μ-loop
+add-start c = let z = step-in (now (c .before .before .before .before .args .page)) (c .before .loop .i) (c .before .loop .at) (c .before .before .before .before .args .n) (c .before .loop .inv .1) (c .loop-test .taken) (c .before .before .before .before .pre) in omega arith
+
+shared-slice-read-index : tie.Need-shared-slice-read-index Inv-loop μ-loop
+shared-slice-read-index c = let z = step-in (now (c .before .before .before .before .before .args .page)) (c .before .before .loop .i) (c .before .before .loop .at) (c .before .before .before .before .before .args .n) (c .before .before .loop .inv .1) (c .before .loop-test .taken) (c .before .before .before .before .before .pre) in omega arith
+
+index-requires : tie.Need-index-requires Inv-loop μ-loop
+index-requires c κs = search needs
+
+add-end : tie.Need-add-end Inv-loop μ-loop
+add-end c = let z = step-in (now (c .before .before .before .before .before .before .args .page)) (c .before .before .before .loop .i) (c .before .before .before .loop .at) (c .before .before .before .before .before .before .args .n) (c .before .before .before .loop .inv .1) (c .before .before .loop-test .taken) (c .before .before .before .before .before .before .pre) in omega arith
+
+sub-same : tie.Need-sub-same Inv-loop μ-loop
+sub-same c = search needs
+
+part-same-start : tie.Need-part-same-start Inv-loop μ-loop
+part-same-start c = search needs
+
+part-same-end : tie.Need-part-same-end Inv-loop μ-loop
+part-same-end c = let z = step-in (now (c .before .before .before .before .before .before .args .page)) (c .before .before .before .loop .i) (c .before .before .before .loop .at) (c .before .before .before .before .before .before .args .n) (c .before .before .before .loop .inv .1) (c .before .before .loop-test .taken) (c .before .before .before .before .before .before .pre) in omega arith
+
+same-requires : tie.Need-same-requires Inv-loop μ-loop
+same-requires c κs = search needs
+
+returns : tie.Need-returns Inv-loop μ-loop
+returns c = let p = now (c .before .before .before .before .before .before .before .before .before .args .page) in let l = c .before .before .before .before .before .before .loop in
+    sym (first-at _ _ (l .i) (c .before .before .before .before .before .loop-test .taken) (l .inv .3) (found-at p (l .i) (l .at) _ (now (c .before .before .before .before .before .before .before .before .before .args .name)) (l .inv .1) (c .before .before .before .index .ensures .0) _ (sym (c .before .same .ensures) ∙ c .if1 .taken)))
+
+add-i : tie.Need-add-i Inv-loop μ-loop
+add-i c = search needs
+
+loop-less : tie.Need-loop-less Inv-loop μ-loop
+loop-less c = search needs
+
+loop-again : tie.Need-loop-again Inv-loop μ-loop
+loop-again c = let p = now (c .before .before .before .before .before .before .before .before .before .args .page) in let l = c .before .before .before .before .before .before .loop in
+    let z = step-in p (l .i) (l .at) (c .before .before .before .before .before .before .before .before .before .args .n) (l .inv .1) (c .before .before .before .before .before .loop-test .taken) (c .before .before .before .before .before .before .before .before .before .pre) in
+    (omega arith, step-at p (l .i) (l .at) (c .before .before .before .before .before .before .before .before .before .args .n) (l .inv .1) (c .before .before .before .before .before .loop-test .taken) (c .before .before .before .before .before .before .before .before .before .pre) _ (c .before .before .before .index .ensures .0), omega arith, any-more _ _ (l .inv .3) (found-at p (l .i) (l .at) _ (now (c .before .before .before .before .before .before .before .before .before .args .name)) (l .inv .1) (c .before .before .before .index .ensures .0) _ (sym (c .before .same .ensures) ∙ c .if1 .left)))
+
+returns-2 : tie.Need-returns-2 Inv-loop μ-loop
+returns-2 c = let e : c .before .loop .i ≡ c .before .before .before .before .args .n = omega arith in sym (first-none _ _ (rw e at (c .before .loop .inv .3)))
+
+pub find-spec : {M : Type 1} → statement M
+find-spec =
+    tie.close
+    (tie.spec
+    Inv-loop
+    μ-loop
+    loop-holds
+    add-start
+    shared-slice-read-index
+    index-requires
+    add-end
+    sub-same
+    part-same-start
+    part-same-end
+    same-requires
+    returns
+    add-i
+    loop-less
+    loop-again
+    returns-2)

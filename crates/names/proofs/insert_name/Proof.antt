@@ -1,0 +1,126 @@
+-- `names::insert_name` meets its contract: each return is one of the ways of `Calls`. Assumes nothing.
+use mathlib.Core.Path.{_≡_, sym, ap, _∙_}
+use Prim.Native.Nat.{_≤_}
+use native.Mathlib.Nat.{le-of-eq}
+use native.Mathlib.Omega.{arith}
+use lib.ListN.{length}
+use denote.Ref.{now}
+use borrow.Author.Needs.{needs}
+use Rattle.pages.proofs.Quant.{first-le}
+use Rattle.names.specs.Table.{named}
+use Rattle.names.proofs.Calls.{form, fits-to, name-small, add-malformed, add-known, add-many, add-short, add-new}
+use Rattle.names.proofs.insert_name.Statement.{statement}
+use Rattle.names.proofs.insert_name.Tie as tie
+
+is-name-requires : tie.Need-is-name-requires
+is-name-requires c κs = search needs
+
+count-requires : tie.Need-count-requires
+count-requires c κs = form (now (c .before .before .before .before .before .args .page)) (c .before .before .before .before .before .pre) .two
+
+find-requires : tie.Need-find-requires
+find-requires c κs = fits-to (now (c .before .before .before .before .before .before .before .args .page)) (form (now (c .before .before .before .before .before .before .before .args .page)) (c .before .before .before .before .before .before .before .pre)) (c .before .count .result) (le-of-eq (c .before .count .ensures .0))
+
+same-length : tie.Need-same-length
+same-length c = search needs
+
+returns : tie.Need-returns
+returns c =
+    let page = now (c .before .before .before .before .before .before .before .before .before .args .page) in
+    let name = now (c .before .before .before .before .before .before .before .before .before .args .name) in
+    let w = sym (c .before .before .before .before .before .before .is-name .ensures) ∙ c .before .before .before .before .before .if1 .taken in
+    let n = c .before .before .before .count in
+    let k = c .before .find in
+    add-known page name (c .before .before .before .before .before .before .before .before .before .pre) w (n .result) (k .result) (n .ensures .0) (k .ensures) (c .if2 .taken)
+
+same-length-2 : tie.Need-same-length-2
+same-length-2 c = search needs
+
+returns-2 : tie.Need-returns-2
+returns-2 c =
+    let page = now (c .before .before .before .before .before .before .before .before .before .before .args .page) in
+    let name = now (c .before .before .before .before .before .before .before .before .before .before .args .name) in
+    let w = sym (c .before .before .before .before .before .before .before .is-name .ensures) ∙ c .before .before .before .before .before .before .if1 .taken in
+    let n = c .before .before .before .before .count in
+    let k = c .before .before .find in
+    add-many page name (c .before .before .before .before .before .before .before .before .before .before .pre) w (n .result) (k .result) (n .ensures .0) (k .ensures) (c .before .if2 .left) (c .if3 .taken)
+
+offset-of-requires : tie.Need-offset-of-requires
+offset-of-requires c κs = fits-to (now (c .before .before .before .before .before .before .before .before .before .before .before .args .page)) (form (now (c .before .before .before .before .before .before .before .before .before .before .before .args .page)) (c .before .before .before .before .before .before .before .before .before .before .before .pre)) (c .before .before .before .before .before .count .result) (le-of-eq (c .before .before .before .before .before .count .ensures .0))
+
+add-if4 : tie.Need-add-if4
+add-if4 c =
+    let page = now (c .before .before .before .before .before .before .before .before .before .before .before .before .args .page) in
+    let z : c .offset-of .result ≤ length page = rw (c .offset-of .ensures) (fits-to page (form page (c .before .before .before .before .before .before .before .before .before .before .before .before .pre)) (c .before .before .before .before .before .before .count .result) (le-of-eq (c .before .before .before .before .before .before .count .ensures .0))) in
+    let y = name-small (now (c .before .before .before .before .before .before .before .before .before .before .before .before .args .name)) (sym (c .before .before .before .before .before .before .before .before .before .is-name .ensures) ∙ c .before .before .before .before .before .before .before .before .if1 .taken) in
+    omega arith
+
+add-if4-2 : tie.Need-add-if4-2
+add-if4-2 c =
+    let page = now (c .before .before .before .before .before .before .before .before .before .before .before .before .args .page) in
+    let z : c .offset-of .result ≤ length page = rw (c .offset-of .ensures) (fits-to page (form page (c .before .before .before .before .before .before .before .before .before .before .before .before .pre)) (c .before .before .before .before .before .before .count .result) (le-of-eq (c .before .before .before .before .before .before .count .ensures .0))) in
+    let y = name-small (now (c .before .before .before .before .before .before .before .before .before .before .before .before .args .name)) (sym (c .before .before .before .before .before .before .before .before .before .is-name .ensures) ∙ c .before .before .before .before .before .before .before .before .if1 .taken) in
+    omega arith
+
+same-length-3 : tie.Need-same-length-3
+same-length-3 c = search needs
+
+returns-3 : tie.Need-returns-3
+returns-3 c =
+    let page = now (c .before .before .before .before .before .before .before .before .before .before .before .before .before .args .page) in
+    let name = now (c .before .before .before .before .before .before .before .before .before .before .before .before .before .args .name) in
+    let w = sym (c .before .before .before .before .before .before .before .before .before .before .is-name .ensures) ∙ c .before .before .before .before .before .before .before .before .before .if1 .taken in
+    let n = c .before .before .before .before .before .before .before .count in
+    let k = c .before .before .before .before .before .find in
+    add-short page name (c .before .before .before .before .before .before .before .before .before .before .before .before .before .pre) w (n .result) (k .result) (n .ensures .0) (k .ensures) (c .before .before .before .before .if2 .left) (c .before .before .before .if3 .left) (c .before .offset-of .result) (c .before .offset-of .ensures) (c .if4 .taken)
+
+cast-t23 : tie.Need-cast-t23
+cast-t23 c = let y = name-small (now (c .before .before .before .before .before .before .before .before .before .before .before .before .before .args .name)) (sym (c .before .before .before .before .before .before .before .before .before .before .is-name .ensures) ∙ c .before .before .before .before .before .before .before .before .before .if1 .taken) in omega arith
+
+add-count-bytes : tie.Need-add-count-bytes
+add-count-bytes c = search needs
+
+count-bytes-requires : tie.Need-count-bytes-requires
+count-bytes-requires c κs = search needs
+
+add-put-bytes : tie.Need-add-put-bytes
+add-put-bytes c = search needs
+
+put-bytes-requires : tie.Need-put-bytes-requires
+put-bytes-requires c κs = search needs
+
+slice-aggregate-put-bytes : tie.Need-slice-aggregate-put-bytes
+slice-aggregate-put-bytes c = search needs
+
+put-bytes-requires-2 : tie.Need-put-bytes-requires-2
+put-bytes-requires-2 c κs = search needs
+
+slice-aggregate-put-bytes-2 : tie.Need-slice-aggregate-put-bytes-2
+slice-aggregate-put-bytes-2 c = search needs
+
+put-bytes-requires-3 : tie.Need-put-bytes-requires-3
+put-bytes-requires-3 c κs =
+    let a = ap length (c .before .before .before .before .before .before .before .before .before .before .before .count-bytes .ensures) in
+    let t = form (now (c .before .before .before .before .before .before .before .before .before .before .before .before .before .before .before .before .before .before .before .before .before .before .before .before .before .args .page)) (c .before .before .before .before .before .before .before .before .before .before .before .before .before .before .before .before .before .before .before .before .before .before .before .before .before .pre) .two in
+    omega (arith, c .before .before .before .before .before .before .before .before .before .put-bytes .kept .0, c .before .before .before .before .put-bytes2 .kept .0, a, t)
+
+same-length-4 : tie.Need-same-length-4
+same-length-4 c = search needs
+
+returns-4 : tie.Need-returns-4
+returns-4 c =
+    let page = now (c .before .before .before .before .before .before .before .before .before .before .before .before .before .before .before .before .before .before .before .before .before .before .before .before .before .before .before .before .args .page) in
+    let name = now (c .before .before .before .before .before .before .before .before .before .before .before .before .before .before .before .before .before .before .before .before .before .before .before .before .before .before .before .before .args .name) in
+    let w = sym (c .before .before .before .before .before .before .before .before .before .before .before .before .before .before .before .before .before .before .before .before .before .before .before .before .before .is-name .ensures) ∙ c .before .before .before .before .before .before .before .before .before .before .before .before .before .before .before .before .before .before .before .before .before .before .before .before .if1 .taken in
+    let n = c .before .before .before .before .before .before .before .before .before .before .before .before .before .before .before .before .before .before .before .before .before .before .count in
+    let k = c .before .before .before .before .before .before .before .before .before .before .before .before .before .before .before .before .before .before .before .before .find in
+    let m = first-le (named page name) (n .result) in
+    let e : k .result ≡ n .result = omega (arith, k .ensures, m, c .before .before .before .before .before .before .before .before .before .before .before .before .before .before .before .before .before .before .before .if2 .left) in
+    let d = add-new page name (c .before .before .before .before .before .before .before .before .before .before .before .before .before .before .before .before .before .before .before .before .before .before .before .before .before .before .before .before .pre) w (n .result) (k .result) (n .ensures .0) (k .ensures) (c .before .before .before .before .before .before .before .before .before .before .before .before .before .before .before .before .before .before .before .if2 .left) (c .before .before .before .before .before .before .before .before .before .before .before .before .before .before .before .before .before .before .if3 .left) (c .before .before .before .before .before .before .before .before .before .before .before .before .before .before .before .before .offset-of .result) (c .before .before .before .before .before .before .before .before .before .before .before .before .before .before .before .before .offset-of .ensures) e (c .before .before .before .before .before .before .before .before .before .before .before .before .before .before .before .if4 .left) in
+    (d .0, c .before .before .put-bytes3 .ensures ∙ rw (c .before .before .before .before .before .before .before .put-bytes2 .ensures, c .before .before .before .before .before .before .before .before .before .before .before .before .put-bytes .ensures, c .before .before .before .before .before .before .before .before .before .before .before .before .before .before .count-bytes .ensures) (d .1))
+
+returns-5 : tie.Need-returns-5
+returns-5 c = add-malformed (now (c .before .before .before .before .args .page)) (now (c .before .before .before .before .args .name)) (c .before .before .before .before .pre) (sym (c .before .is-name .ensures) ∙ c .if1 .left)
+
+pub insert-name-spec : {M : Type 1} → statement M
+insert-name-spec = tie.close (tie.spec is-name-requires count-requires find-requires same-length returns same-length-2 returns-2 offset-of-requires add-if4 add-if4-2 same-length-3 returns-3 cast-t23 add-count-bytes count-bytes-requires add-put-bytes put-bytes-requires slice-aggregate-put-bytes put-bytes-requires-2 slice-aggregate-put-bytes-2 put-bytes-requires-3 same-length-4 returns-4 returns-5)

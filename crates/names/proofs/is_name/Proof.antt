@@ -1,0 +1,82 @@
+use Prim.Native.Nat.{ℕ, _+_, _*_, _-_, _/_, _%_, _<_, _≤_}
+use mathlib.Core.Path.{_≡_, refl, sym, _∙_, ap}
+use mathlib.Core.List.{List, [], _∷_, _++_}
+use mathlib.Core.Bool.{Bool, true, false}
+use mathlib.Core.Logic.{⊎-elim}
+use native.Mathlib.Omega.{arith}
+use denote.Ref.{now}
+use lib.ListN.{length, getD, take, drop}
+use borrow.Author.Needs.{needs}
+use Rattle.names.proofs.Table.{named-short, named-long, named-digit, named-all}
+use Rattle.names.specs.Table.{nameByteAt, wellNamed}
+use Rattle.pages.specs.Quant.{allTo}
+use Rattle.pages.proofs.Quant.{all-none, all-more, all-failed}
+use Prim.Native.Nat.{ℕ, _+_, _*_, _-_, _<_, _≤_}
+use Rattle.names.proofs.is_name.Statement.{statement}
+use Rattle.names.proofs.is_name.Tie as tie
+
+abbrev Inv-loop : tie.InvT-loop
+Inv-loop name i₀ i = (i ≤ length name) × (allTo i (nameByteAt name) ≡ true)
+
+abbrev μ-loop : tie.MeasureT-loop
+μ-loop name i₀ i = length name - i
+
+returns : tie.Need-returns Inv-loop μ-loop
+returns c = named-short _ (c .if1 .taken)
+
+returns-2 : tie.Need-returns-2 Inv-loop μ-loop
+returns-2 c = named-long _ (c .before .if1 .left) (c .if2 .taken)
+
+shared-slice-read-is-digit : tie.Need-shared-slice-read-is-digit Inv-loop μ-loop
+shared-slice-read-is-digit c = search needs
+
+is-digit-requires : tie.Need-is-digit-requires Inv-loop μ-loop
+is-digit-requires c κs = search needs
+
+returns-3 : tie.Need-returns-3 Inv-loop μ-loop
+returns-3 c = named-digit _ (c .before .before .before .before .if1 .left) (c .before .before .before .if2 .left) (sym (c .before .is-digit .ensures) ∙ c .if3 .taken)
+
+loop-holds : tie.Need-loop-holds Inv-loop μ-loop
+loop-holds c = (omega arith, all-none _)
+
+shared-slice-read-is-name-byte : tie.Need-shared-slice-read-is-name-byte Inv-loop μ-loop
+shared-slice-read-is-name-byte c = search needs
+
+is-name-byte-requires : tie.Need-is-name-byte-requires Inv-loop μ-loop
+is-name-byte-requires c κs = search needs
+
+add-i : tie.Need-add-i Inv-loop μ-loop
+add-i c = search needs
+
+loop-less : tie.Need-loop-less Inv-loop μ-loop
+loop-less c = search needs
+
+loop-again : tie.Need-loop-again Inv-loop μ-loop
+loop-again c = (omega arith, all-more _ _ (c .before .before .before .before .loop .inv .1) (sym (c .before .is-name-byte .ensures) ∙ c .if4 .taken))
+
+returns-4 : tie.Need-returns-4 Inv-loop μ-loop
+returns-4 c = sym (all-failed _ _ (c .before .before .before .before .loop .i) (c .before .before .before .loop-test .taken) (sym (c .before .is-name-byte .ensures) ∙ c .if4 .left)) ∙ named-all _ (c .before .before .before .before .before .before .before .before .before .if1 .left) (c .before .before .before .before .before .before .before .before .if2 .left) (sym (c .before .before .before .before .before .before .is-digit .ensures) ∙ c .before .before .before .before .before .if3 .left)
+
+returns-5 : tie.Need-returns-5 Inv-loop μ-loop
+returns-5 c = let e : c .before .loop .i ≡ length (now (c .before .before .before .before .before .before .before .before .args .name)) = omega arith in
+    sym (rw e at (c .before .loop .inv .1)) ∙ named-all _ (c .before .before .before .before .before .before .if1 .left) (c .before .before .before .before .before .if2 .left) (sym (c .before .before .before .is-digit .ensures) ∙ c .before .before .if3 .left)
+
+pub is-name-spec : {M : Type 1} → statement M
+is-name-spec =
+    tie.close
+    (tie.spec
+    Inv-loop
+    μ-loop
+    returns
+    returns-2
+    shared-slice-read-is-digit
+    is-digit-requires
+    returns-3
+    loop-holds
+    shared-slice-read-is-name-byte
+    is-name-byte-requires
+    add-i
+    loop-less
+    loop-again
+    returns-4
+    returns-5)

@@ -1,0 +1,39 @@
+-- `names::read_name` meets its contract. Assumes nothing.
+use mathlib.Core.Path.{_≡_, sym, ap, _∙_}
+use denote.Ref.{now}
+use borrow.Author.Tests.{not-true, not-false}
+use borrow.Author.Needs.{needs}
+use Rattle.names.specs.Calls.{nameOf}
+use Rattle.names.proofs.Calls.{form, read-broken, read-unused, read-name}
+use Rattle.names.proofs.read_name.Statement.{statement}
+use Rattle.names.proofs.read_name.Tie as tie
+
+is-formed-requires : tie.Need-is-formed-requires
+is-formed-requires c κs = search needs
+
+no-name-requires : tie.Need-no-name-requires
+no-name-requires c κs = search needs
+
+returns : tie.Need-returns
+returns c = c .no-name .ensures ∙ read-broken (now (c .before .before .before .before .args .page)) (c .before .before .before .before .args .k) (sym (c .before .before .is-formed .ensures) ∙ not-true (c .before .before .is-formed .result) (c .before .if1 .taken))
+
+count-requires : tie.Need-count-requires
+count-requires c κs = form (now (c .before .before .before .args .page)) (sym (c .before .is-formed .ensures) ∙ not-false (c .before .is-formed .result) (c .if1 .left)) .two
+
+no-name-requires-2 : tie.Need-no-name-requires-2
+no-name-requires-2 c κs = search needs
+
+returns-2 : tie.Need-returns-2
+returns-2 c = c .no-name2 .ensures ∙ read-unused (now (c .before .before .before .before .before .before .args .page)) (c .before .before .before .before .before .before .args .k) (sym (c .before .before .before .before .is-formed .ensures) ∙ not-false (c .before .before .before .before .is-formed .result) (c .before .before .before .if1 .left)) (c .before .before .count .result) (c .before .before .count .ensures .0) (c .before .if2 .taken)
+
+name-of-requires : tie.Need-name-of-requires
+name-of-requires c κs = (sym (c .before .before .before .is-formed .ensures) ∙ not-false (c .before .before .before .is-formed .result) (c .before .before .if1 .left), rw (← c .before .count .ensures .0) (c .if2 .left))
+
+copied-requires : tie.Need-copied-requires
+copied-requires c κs = c .name-of .ensures .2
+
+returns-3 : tie.Need-returns-3
+returns-3 c = c .copied .ensures ∙ ap nameOf (c .before .name-of .ensures .0) ∙ read-name (now (c .before .before .before .before .before .before .before .args .page)) (c .before .before .before .before .before .before .before .args .k) (sym (c .before .before .before .before .before .is-formed .ensures) ∙ not-false (c .before .before .before .before .before .is-formed .result) (c .before .before .before .before .if1 .left)) (c .before .before .before .count .result) (c .before .before .before .count .ensures .0) (c .before .before .if2 .left)
+
+pub read-name-spec : {M : Type 1} → statement M
+read-name-spec = tie.close (tie.spec is-formed-requires no-name-requires returns count-requires no-name-requires-2 returns-2 name-of-requires copied-requires returns-3)

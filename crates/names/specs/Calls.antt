@@ -1,0 +1,92 @@
+-- What the calls on a table of names answer, and leave in the page (document 01, "Names" and the table of refusals).
+use mathlib.Core.Bool.{Bool, _&&_, not, cond}
+use mathlib.Core.List.{List, [], _∷_}
+use Prim.Native.Nat.{ℕ, _+_}
+use lib.ListN.{length, replicate}
+use lib.Dec.{ltb, leb}
+use Rattle.refusals.specs.Lowest.{Condition, _when_, lowest, unlessRefused}
+use Rattle.refusals.specs.declared.Refusal.{Refusal}
+use Rattle.refusals.specs.declared.Refusal.the-variants.{Broken, Unused, Malformed, Full}
+use Rattle.refusals.specs.declared.Verdict.{Verdict}
+use Rattle.refusals.specs.declared.Verdict.the-variants.{Passed, Refused}
+use Rattle.pages.specs.Bytes.{countBytes, countOf, bytesOf, put}
+use Rattle.pages.specs.Pad.{pad}
+use Rattle.names.specs.Table.{namesMax, nameMax, wellNamed, offset, nameAt, numberOf, formed}
+use Rattle.names.specs.declared.Added.{Added}
+use Rattle.names.specs.declared.Found.{Found}
+use Rattle.names.specs.declared.Name.{Name}
+
+-- ---- making a table
+
+-- a page too short for the count cannot be a table
+unfoldable pub emptyVerdict : List ℕ → Verdict
+emptyVerdict page = lowest ((Broken when ltb (length page) countBytes) ∷ [])
+
+-- a table of no name is all zeros
+unfoldable pub emptyPage : List ℕ → List ℕ
+emptyPage page = unlessRefused (emptyVerdict page) (replicate (length page) 0) page
+
+-- ---- adding a name
+
+-- has the table this name
+abbrev pub isKnown : List ℕ → List ℕ → Bool
+isKnown page name = ltb (numberOf page (countOf page) name) (countOf page)
+
+-- is there a number for one more name, and a place in the page
+unfoldable pub roomy : List ℕ → List ℕ → Bool
+roomy page name = ltb (countOf page) namesMax && leb (offset page (countOf page) + 1 + length name) (length page)
+
+-- the page with one more name: the name behind the last, and the count
+unfoldable pub withName : List ℕ → List ℕ → List ℕ
+withName page name = put (put page (offset page (countOf page)) (length name ∷ name)) 0 (bytesOf (countOf page + 1))
+
+unfoldable pub addVerdict : List ℕ → List ℕ → Verdict
+addVerdict page name =
+    lowest
+    ((Broken when not (formed page))
+    ∷ (Malformed when not (wellNamed name))
+    ∷ (Full when (not (isKnown page name) && not (roomy page name)))
+    ∷ [])
+
+abbrev pub numbered : Verdict → ℕ → Added
+numbered Passed n = Added.At n
+numbered (Refused r) n = Added.Refused r
+
+-- "An existing name gets its old number", and a new one the next
+unfoldable pub addAnswer : List ℕ → List ℕ → Added
+addAnswer page name = numbered (addVerdict page name) (numberOf page (countOf page) name)
+
+unfoldable pub pageAfter : List ℕ → List ℕ → List ℕ
+pageAfter page name = unlessRefused (addVerdict page name) (cond (isKnown page name) page (withName page name)) page
+
+-- ---- looking for a name
+
+unfoldable pub findVerdict : List ℕ → List ℕ → Verdict
+findVerdict page name = lowest ((Broken when not (formed page)) ∷ (Malformed when not (wellNamed name)) ∷ [])
+
+abbrev pub found : Verdict → Bool → ℕ → Found
+found Passed known n = cond known (Found.At n) Found.Absent
+found (Refused r) known n = Found.Refused r
+
+-- the name's number, if the table has the name
+unfoldable pub findAnswer : List ℕ → List ℕ → Found
+findAnswer page name = found (findVerdict page name) (isKnown page name) (numberOf page (countOf page) name)
+
+-- ---- reading a name
+
+unfoldable pub readVerdict : List ℕ → ℕ → Verdict
+readVerdict page k = lowest ((Broken when not (formed page)) ∷ (Unused when leb (countOf page) k) ∷ [])
+
+-- a name by value
+abbrev pub nameOf : List ℕ → Name
+nameOf name = record { verdict = Passed; length = length name; bytes = pad nameMax 0 name }
+
+abbrev pub noName : Refusal → Name
+noName r = record { verdict = Refused r; length = 0; bytes = pad nameMax 0 [] }
+
+abbrev pub named : Verdict → List ℕ → Name
+named Passed name = nameOf name
+named (Refused r) name = noName r
+
+unfoldable pub readAnswer : List ℕ → ℕ → Name
+readAnswer page k = named (readVerdict page k) (nameAt page k)
