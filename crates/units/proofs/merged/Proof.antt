@@ -1,0 +1,254 @@
+-- `units::merged` meets its contract. The invariant is `Stand`: what is out, with what is left, comes to the whole.
+-- Assumes nothing.
+use mathlib.Core.Path.{_≡_, sym, ap, ap₂, subst, _∙_}
+use Prim.Native.Nat.{_+_, _-_}
+use borrow.Author.Needs.{needs}
+use borrow.Author.Tests.{not-true, not-false}
+use Rattle.names.specs.Table.{namesMax}
+use Rattle.units.specs.Unit.{placesMax, isZero}
+use Rattle.units.specs.Product.{combine}
+use Rattle.units.specs.Merge.{turn}
+use Rattle.units.proofs.Signed.{back}
+use Rattle.units.proofs.Form.{symAt, expAt, formed-inside}
+use Rattle.units.proofs.Merge.{Stand, Pushed, stand-start, left-last, left-low, right-last, right-low, both-stay, both-gone, stand-end}
+use Rattle.units.proofs.Held.{placesOf, kind}
+use Rattle.units.proofs.Si.{combine-turn}
+use Rattle.units.proofs.merged.Statement.{statement}
+use Rattle.units.proofs.merged.Tie as tie
+
+abbrev Inv-loop : tie.InvT-loop
+Inv-loop quotient a b n m w₀ i₀ j₀ w i j = Stand kind placesMax quotient (placesOf a) (placesOf b) w i j
+
+abbrev μ-loop : tie.MeasureT-loop
+μ-loop quotient a b n m w₀ i₀ j₀ w i j = (n - i) + (m - j)
+
+empty-sum-requires : tie.Need-empty-sum-requires Inv-loop μ-loop
+empty-sum-requires c κs = search needs
+
+loop-holds : tie.Need-loop-holds Inv-loop μ-loop
+loop-holds c =
+    stand-start kind placesMax (c .before .args .quotient) (placesOf (c .before .args .t1)) (placesOf (c .before .args .t2)) namesMax (c .empty-sum .result) (c .empty-sum .ensures) (c .before .pre .0) (c .before .pre .1)
+
+element-copy-out-s : tie.Need-element-copy-out-s Inv-loop μ-loop
+element-copy-out-s c = search needs
+
+mul-e : tie.Need-mul-e Inv-loop μ-loop
+mul-e c = search needs
+
+element-copy-out-e : tie.Need-element-copy-out-e Inv-loop μ-loop
+element-copy-out-e c = search needs
+
+element-copy-out-t : tie.Need-element-copy-out-t Inv-loop μ-loop
+element-copy-out-t c = search needs
+
+mul-f : tie.Need-mul-f Inv-loop μ-loop
+mul-f c = search needs
+
+element-copy-out-f : tie.Need-element-copy-out-f Inv-loop μ-loop
+element-copy-out-f c = search needs
+
+pushed-requires : tie.Need-pushed-requires Inv-loop μ-loop
+pushed-requires c κs = search needs
+
+add-i : tie.Need-add-i Inv-loop μ-loop
+add-i c = search needs
+
+loop-less : tie.Need-loop-less Inv-loop μ-loop
+loop-less c = search needs
+
+loop-again : tie.Need-loop-again Inv-loop μ-loop
+loop-again c =
+    let g = c .before .before .before .before .before .before .before .before .before .before .args in
+    let a = placesOf (g .t1) in
+    let b = placesOf (g .t2) in
+    let l = c .before .before .before .before .before .before .before .before .loop in
+    left-low kind placesMax (g .quotient) a b (l .w) (c .pushed .result) (l .i) (l .j) (l .inv) (c .before .before .before .before .before .before .before .if1 .taken)
+    (subst (λ z. Pushed kind (l .w) (c .pushed .result) (symAt a (l .i)) z) (back (expAt a (l .i)) (c .before .before .before .before .before .e .given)) (c .pushed .ensures))
+    (c .before .before .before .before .if2 .taken) (c .before .if3 .taken)
+
+turned-by-requires : tie.Need-turned-by-requires Inv-loop μ-loop
+turned-by-requires c κs =
+    let g = c .before .before .before .before .before .before .before .before .before .before .args in
+    let a = placesOf (g .t1) in
+    let b = placesOf (g .t2) in
+    let l = c .before .before .before .before .before .before .before .before .loop in
+    rw (back (expAt b (l .j)) (c .before .before .f .given)) (formed-inside placesMax namesMax b (c .before .before .before .before .before .before .before .before .before .before .pre .1) (l .j) (c .before .before .before .before .if2 .taken))
+
+pushed-requires-2 : tie.Need-pushed-requires-2 Inv-loop μ-loop
+pushed-requires-2 c κs = search needs
+
+add-j : tie.Need-add-j Inv-loop μ-loop
+add-j c = search needs
+
+loop-less-2 : tie.Need-loop-less-2 Inv-loop μ-loop
+loop-less-2 c = search needs
+
+loop-again-2 : tie.Need-loop-again-2 Inv-loop μ-loop
+loop-again-2 c =
+    let g = c .before .before .before .before .before .before .before .before .before .before .before .before .args in
+    let a = placesOf (g .t1) in
+    let b = placesOf (g .t2) in
+    let l = c .before .before .before .before .before .before .before .before .before .before .loop in
+    let f = back (c .before .turned-by .result) (c .before .turned-by .ok) ∙ c .before .turned-by .ensures ∙ ap (turn (g .quotient)) (back (expAt b (l .j)) (c .before .before .before .before .f .given)) in
+    right-low kind placesMax (g .quotient) a b (l .w) (c .pushed2 .result) (l .i) (l .j) (l .inv) (c .before .before .before .before .before .before .if2 .taken)
+    (subst (λ z. Pushed kind (l .w) (c .pushed2 .result) (symAt b (l .j)) z) f (c .pushed2 .ensures))
+    (c .before .before .before .before .before .before .before .before .before .if1 .taken) (c .before .before .if4 .taken)
+
+combined-requires : tie.Need-combined-requires Inv-loop μ-loop
+combined-requires c κs =
+    let g = c .before .before .before .before .before .before .before .before .before .before .args in
+    let a = placesOf (g .t1) in
+    let b = placesOf (g .t2) in
+    let l = c .before .before .before .before .before .before .before .before .loop in (
+      rw (back (expAt a (l .i)) (c .before .before .before .before .before .e .given)) (formed-inside placesMax namesMax a (c .before .before .before .before .before .before .before .before .before .before .pre .0) (l .i) (c .before .before .before .before .before .before .before .if1 .taken)),
+      rw (back (expAt b (l .j)) (c .before .before .f .given)) (formed-inside placesMax namesMax b (c .before .before .before .before .before .before .before .before .before .before .pre .1) (l .j) (c .before .before .before .before .if2 .taken)),
+    )
+
+add-i-2 : tie.Need-add-i-2 Inv-loop μ-loop
+add-i-2 c = search needs
+
+add-j-2 : tie.Need-add-j-2 Inv-loop μ-loop
+add-j-2 c = search needs
+
+is-zero-requires : tie.Need-is-zero-requires Inv-loop μ-loop
+is-zero-requires c κs = search needs
+
+pushed-requires-3 : tie.Need-pushed-requires-3 Inv-loop μ-loop
+pushed-requires-3 c κs = search needs
+
+loop-less-3 : tie.Need-loop-less-3 Inv-loop μ-loop
+loop-less-3 c = search needs
+
+loop-again-3 : tie.Need-loop-again-3 Inv-loop μ-loop
+loop-again-3 c =
+    let g = c .before .before .before .before .before .before .before .before .before .before .before .before .before .before .args in
+    let a = placesOf (g .t1) in
+    let b = placesOf (g .t2) in
+    let l = c .before .before .before .before .before .before .before .before .before .before .before .before .loop in
+    let h = back (c .before .before .before .combined .result) (c .before .before .before .combined .ok) ∙ c .before .before .before .combined .ensures ∙ ap₂ (combine (g .quotient)) (back (expAt a (l .i)) (c .before .before .before .before .before .before .before .before .before .e .given)) (back (expAt b (l .j)) (c .before .before .before .before .before .before .f .given)) ∙ (combine-turn (g .quotient) (expAt a (l .i)) (expAt b (l .j))) in
+    both-stay kind placesMax (g .quotient) a b (l .w) (c .pushed3 .result) (l .i) (l .j) (l .inv) (c .before .before .before .before .before .before .before .before .before .before .before .if1 .taken) (c .before .before .before .before .before .before .before .before .if2 .taken) (c .before .before .before .before .if4 .left) (c .before .before .before .before .before .if3 .left)
+    (ap isZero (sym h) ∙ sym (c .before .before .is-zero .ensures) ∙ not-true (c .before .before .is-zero .result) (c .before .if5 .taken))
+    (subst (λ z. Pushed kind (l .w) (c .pushed3 .result) (symAt a (l .i)) z) h (c .pushed3 .ensures))
+
+loop-less-4 : tie.Need-loop-less-4 Inv-loop μ-loop
+loop-less-4 c = search needs
+
+loop-again-4 : tie.Need-loop-again-4 Inv-loop μ-loop
+loop-again-4 c =
+    let g = c .before .before .before .before .before .before .before .before .before .before .before .before .before .args in
+    let a = placesOf (g .t1) in
+    let b = placesOf (g .t2) in
+    let l = c .before .before .before .before .before .before .before .before .before .before .before .loop in
+    let h = back (c .before .before .combined .result) (c .before .before .combined .ok) ∙ c .before .before .combined .ensures ∙ ap₂ (combine (g .quotient)) (back (expAt a (l .i)) (c .before .before .before .before .before .before .before .before .e .given)) (back (expAt b (l .j)) (c .before .before .before .before .before .f .given)) ∙ (combine-turn (g .quotient) (expAt a (l .i)) (expAt b (l .j))) in
+    both-gone kind placesMax (g .quotient) a b (l .w) (l .w) (l .i) (l .j) (l .inv) (c .before .before .before .before .before .before .before .before .before .before .if1 .taken) (c .before .before .before .before .before .before .before .if2 .taken) (c .before .before .before .if4 .left) (c .before .before .before .before .if3 .left)
+    (ap isZero (sym h) ∙ sym (c .before .is-zero .ensures) ∙ not-false (c .before .is-zero .result) (c .if5 .left))
+
+pushed-requires-4 : tie.Need-pushed-requires-4 Inv-loop μ-loop
+pushed-requires-4 c κs = search needs
+
+add-i-3 : tie.Need-add-i-3 Inv-loop μ-loop
+add-i-3 c = search needs
+
+loop-less-5 : tie.Need-loop-less-5 Inv-loop μ-loop
+loop-less-5 c = search needs
+
+loop-again-5 : tie.Need-loop-again-5 Inv-loop μ-loop
+loop-again-5 c =
+    let g = c .before .before .before .before .before .before .before .args in
+    let a = placesOf (g .t1) in
+    let b = placesOf (g .t2) in
+    let l = c .before .before .before .before .before .loop in
+    left-last kind placesMax (g .quotient) a b (l .w) (c .pushed4 .result) (l .i) (l .j) (l .inv) (c .before .before .before .before .if1 .taken)
+    (subst (λ z. Pushed kind (l .w) (c .pushed4 .result) (symAt a (l .i)) z) (back (expAt a (l .i)) (c .before .before .e .given)) (c .pushed4 .ensures))
+    (c .before .if2 .left)
+
+element-copy-out-pushed : tie.Need-element-copy-out-pushed Inv-loop μ-loop
+element-copy-out-pushed c = search needs
+
+mul-turned-by : tie.Need-mul-turned-by Inv-loop μ-loop
+mul-turned-by c = search needs
+
+element-copy-out-turned-by : tie.Need-element-copy-out-turned-by Inv-loop μ-loop
+element-copy-out-turned-by c = search needs
+
+turned-by-requires-2 : tie.Need-turned-by-requires-2 Inv-loop μ-loop
+turned-by-requires-2 c κs =
+    let g = c .before .before .before .before .before .before .args in
+    let a = placesOf (g .t1) in
+    let b = placesOf (g .t2) in
+    let l = c .before .before .before .before .loop in
+    rw (back (expAt b (l .j)) (c .turned-by-arg .given)) (formed-inside placesMax namesMax b (c .before .before .before .before .before .before .pre .1) (l .j) (c .before .before .if6 .taken))
+
+pushed-requires-5 : tie.Need-pushed-requires-5 Inv-loop μ-loop
+pushed-requires-5 c κs = search needs
+
+add-j-3 : tie.Need-add-j-3 Inv-loop μ-loop
+add-j-3 c = search needs
+
+loop-less-6 : tie.Need-loop-less-6 Inv-loop μ-loop
+loop-less-6 c = search needs
+
+loop-again-6 : tie.Need-loop-again-6 Inv-loop μ-loop
+loop-again-6 c =
+    let g = c .before .before .before .before .before .before .before .before .args in
+    let a = placesOf (g .t1) in
+    let b = placesOf (g .t2) in
+    let l = c .before .before .before .before .before .before .loop in
+    let f = back (c .before .turned-by2 .result) (c .before .turned-by2 .ok) ∙ c .before .turned-by2 .ensures ∙ ap (turn (g .quotient)) (back (expAt b (l .j)) (c .before .before .turned-by-arg .given)) in
+    right-last kind placesMax (g .quotient) a b (l .w) (c .pushed5 .result) (l .i) (l .j) (l .inv) (c .before .before .before .before .if6 .taken)
+    (subst (λ z. Pushed kind (l .w) (c .pushed5 .result) (symAt b (l .j)) z) f (c .pushed5 .ensures))
+    (c .before .before .before .before .before .if1 .left)
+
+returns : tie.Need-returns Inv-loop μ-loop
+returns c =
+    let g = c .before .before .before .before .args in
+    let a = placesOf (g .t1) in
+    let b = placesOf (g .t2) in
+    let l = c .before .before .loop in
+    stand-end kind placesMax (g .quotient) a b (l .w) (l .w) (l .i) (l .j) (l .inv) (c .before .if1 .left) (c .if6 .left)
+
+pub merged-spec : {M : Type 1} → statement M
+merged-spec =
+    tie.close
+    (tie.spec
+    Inv-loop
+    μ-loop
+    empty-sum-requires
+    loop-holds
+    element-copy-out-s
+    mul-e
+    element-copy-out-e
+    element-copy-out-t
+    mul-f
+    element-copy-out-f
+    pushed-requires
+    add-i
+    loop-less
+    loop-again
+    turned-by-requires
+    pushed-requires-2
+    add-j
+    loop-less-2
+    loop-again-2
+    combined-requires
+    add-i-2
+    add-j-2
+    is-zero-requires
+    pushed-requires-3
+    loop-less-3
+    loop-again-3
+    loop-less-4
+    loop-again-4
+    pushed-requires-4
+    add-i-3
+    loop-less-5
+    loop-again-5
+    element-copy-out-pushed
+    mul-turned-by
+    element-copy-out-turned-by
+    turned-by-requires-2
+    pushed-requires-5
+    add-j-3
+    loop-less-6
+    loop-again-6
+    returns)

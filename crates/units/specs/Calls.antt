@@ -1,0 +1,90 @@
+-- How the structs of src/ hold a unit, and what the calls on units answer (document 01, "Units and pairs").
+use mathlib.Core.Bool.{Bool, true, false, _&&_, _||_, not, cond}
+use mathlib.Core.List.{List, [], _∷_}
+use Prim.Native.Nat.{ℕ, zero, suc}
+use lib.Dec.{eqb}
+use lib.ListN.{length, getD}
+use lib.IntN.{ℤ, pos}
+use Rattle.refusals.specs.Lowest.{_when_, lowest}
+use Rattle.refusals.specs.declared.Refusal.{Refusal}
+use Rattle.refusals.specs.declared.Refusal.the-variants.{BadUnit}
+use Rattle.refusals.specs.declared.Verdict.{Verdict}
+use Rattle.refusals.specs.declared.Verdict.the-variants.{Passed, Refused}
+use Rattle.pages.specs.Pad.{pad}
+use Rattle.names.specs.Table.{namesMax}
+use Rattle.units.specs.Unit.{placesMax, Term, term, formed, exponent}
+use Rattle.units.specs.Product.{productOf, productVerdict, anyOutside}
+use Rattle.units.specs.declared.Unit.{Unit}
+use Rattle.units.specs.declared.MaybeUnit.{MaybeUnit}
+use Rattle.units.specs.declared.UnitResult.{UnitResult}
+use Rattle.units.specs.declared.Power.{Power}
+use Rattle.units.specs.declared.Unitless.{Unitless}
+use Rattle.units.specs.declared.Sum.{Sum}
+
+-- ---- a unit in its places
+
+-- the terms at n places of two arrays, from place i on
+abbrev pub terms : ℕ → ℕ → List ℕ → List ℤ → List Term
+terms zero i ss es = []
+terms (suc n) i ss es = term (getD ss i 0) (getD es i (pos 0)) ∷ terms n (suc i) ss es
+
+-- the terms of a unit: those at its first `count` places
+abbrev pub termsOf : Unit → List Term
+termsOf u = terms (u .count) 0 (u .symbols) (u .exponents)
+
+abbrev pub syms : List Term → List ℕ
+syms [] = []
+syms (x ∷ xs) = x .sym ∷ syms xs
+
+abbrev pub exps : List Term → List ℤ
+exps [] = []
+exps (x ∷ xs) = x .exp ∷ exps xs
+
+-- the unit that holds these terms, with zeros behind them
+abbrev pub unitOf : List Term → Unit
+unitOf l = record { count = length l; symbols = pad placesMax 0 (syms l); exponents = pad placesMax (pos 0) (exps l) }
+
+-- the terms gathered so far, as `Sum` holds them: also more than there are places
+abbrev pub sumOf : List Term → Sum
+sumOf l = record { count = length l; wide = anyOutside l; symbols = pad placesMax 0 (syms l); exponents = pad placesMax (pos 0) (exps l) }
+
+-- ---- is it a unit
+
+unfoldable pub formVerdict : Unit → Verdict
+formVerdict u = lowest ((BadUnit when not (formed placesMax namesMax (termsOf u))) ∷ [])
+
+-- ---- product and quotient
+
+-- a result, or the empty unit beside the refusal
+abbrev pub given : Verdict → List Term → UnitResult
+given Passed l = record { verdict = Passed; unit = unitOf l }
+given (Refused r) l = record { verdict = Refused r; unit = unitOf [] }
+
+unfoldable pub productAnswer : Bool → Unit → Unit → UnitResult
+productAnswer quotient a b =
+    given (productVerdict placesMax namesMax quotient (termsOf a) (termsOf b)) (productOf namesMax quotient (termsOf a) (termsOf b))
+
+-- ---- the exponent of a symbol
+
+abbrev pub powered : Verdict → ℤ → Power
+powered Passed e = Power.Of e
+powered (Refused r) e = Power.Refused r
+
+unfoldable pub exponentAnswer : Unit → ℕ → Power
+exponentAnswer u s = powered (formVerdict u) (exponent s (termsOf u))
+
+-- ---- unitless or not: "\"No unit\" and the empty unit are different values; both count as unitless"
+
+unfoldable pub unitless : MaybeUnit → Bool
+unitless m = not (m .some) || eqb (length (termsOf (m .unit))) 0
+
+-- what stands beside a no is not looked at
+unfoldable pub maybeVerdict : MaybeUnit → Verdict
+maybeVerdict m = lowest ((BadUnit when (m .some && not (formed placesMax namesMax (termsOf (m .unit))))) ∷ [])
+
+abbrev pub answered : Verdict → Bool → Unitless
+answered Passed holds = cond holds Unitless.Yes Unitless.No
+answered (Refused r) holds = Unitless.Refused r
+
+unfoldable pub unitlessAnswer : MaybeUnit → Unitless
+unitlessAnswer m = answered (maybeVerdict m) (unitless m)

@@ -1,0 +1,4 @@
+pub mod Unit
+pub mod Product
+pub mod Merge
+pub mod Calls
