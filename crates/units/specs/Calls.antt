@@ -1,7 +1,7 @@
 -- How the structs of src/ hold a unit, and what the calls on units answer (document 01, "Units and pairs").
 use mathlib.Core.Bool.{Bool, true, false, _&&_, _||_, not, cond}
 use mathlib.Core.List.{List, [], _∷_}
-use Prim.Native.Nat.{ℕ, zero, suc}
+use Prim.Native.Nat.{ℕ, zero, suc, _-_}
 use lib.Dec.{eqb}
 use lib.ListN.{length, getD}
 use lib.IntN.{ℤ, pos}
@@ -31,6 +31,10 @@ terms (suc n) i ss es = term (getD ss i 0) (getD es i (pos 0)) ∷ terms n (suc 
 -- the terms of a unit: those at its first `count` places
 abbrev pub termsOf : Unit → List Term
 termsOf u = terms (u .count) 0 (u .symbols) (u .exponents)
+
+-- those from place i on
+abbrev pub termsFrom : Unit → ℕ → List Term
+termsFrom u i = terms (u .count - i) i (u .symbols) (u .exponents)
 
 abbrev pub syms : List Term → List ℕ
 syms [] = []
