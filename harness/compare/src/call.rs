@@ -1,6 +1,9 @@
 //! The exported calls, a question put to one of them, and its answer.
 
-use crate::limits::{Refusal, MAX_NAME_BYTES, TEXT_BYTES, UNIT_BYTES};
+use crate::limits::{
+    Refusal, BROKEN_TABLE, BROKEN_UNIT, EXPONENT_TOO_LARGE, MALFORMED_NAME, MAX_NAME_BYTES,
+    NOT_IN_USE, NO_ROOM, TEXT_BYTES, TOO_MANY_SYMBOLS, UNIT_BYTES,
+};
 
 /// The exported calls. The numbers are the call bytes of the sample.
 #[derive(Debug, Clone, Copy, PartialEq, Eq, PartialOrd, Ord, Hash)]
@@ -45,6 +48,19 @@ impl Call {
         }
     }
 
+    /// Every refusal that the call can give, the lowest first.
+    pub fn refusals(self) -> &'static [Refusal] {
+        match self {
+            Call::EmptyNames => &[BROKEN_TABLE],
+            Call::AddName => &[BROKEN_TABLE, MALFORMED_NAME, NO_ROOM],
+            Call::FindName => &[BROKEN_TABLE, MALFORMED_NAME],
+            Call::ReadName => &[BROKEN_TABLE, NOT_IN_USE],
+            Call::UnitForm | Call::Exponent | Call::IsDimensionless => &[BROKEN_UNIT],
+            Call::Product => &[BROKEN_UNIT, EXPONENT_TOO_LARGE, TOO_MANY_SYMBOLS],
+            Call::UnitText => &[BROKEN_TABLE, NOT_IN_USE, BROKEN_UNIT],
+        }
+    }
+
     /// The length of the call's `out` array; 0 where it has none.
     pub fn out_length(self) -> usize {
         match self {
@@ -67,7 +83,7 @@ impl Call {
 }
 
 /// All that a call is given. A part that the call does not have is empty or 0.
-#[derive(Debug, Clone, PartialEq, Eq, PartialOrd, Ord)]
+#[derive(Debug, Clone, PartialEq, Eq, PartialOrd, Ord, Hash)]
 pub struct Question {
     pub call: Call,
     /// `read_name`: the number; `product`: 1 for a quotient; `exponent`: the symbol.
@@ -170,4 +186,12 @@ fn unchanged(question: &Question) -> Vec<u8> {
     } else {
         Vec::new()
     }
+}
+
+/// Every outcome that there can be: each call with each of its refusals, and with 0 for none.
+#[cfg(test)]
+pub fn all_outcomes() -> std::collections::BTreeSet<(Call, u32)> {
+    let outcomes =
+        |call: Call| [0].iter().chain(call.refusals()).map(move |&refusal| (call, refusal));
+    Call::ALL.into_iter().flat_map(outcomes).collect()
 }

@@ -32,7 +32,7 @@ fn main() -> ExitCode {
     eprintln!("{} rows, {} bytes", rows.len(), bytes.len());
     let counts = sample::counts(&rows);
     for call in Call::ALL {
-        let of_call = counts.iter().filter(|((code, _), _)| *code == call as u8);
+        let of_call = counts.iter().filter(|((of, _), _)| *of == call);
         let parts: Vec<String> =
             of_call.map(|((_, refusal), count)| format!("R{refusal} {count}")).collect();
         eprintln!("{}: {}", call.name(), parts.join(", "));

@@ -71,3 +71,31 @@ pub fn short_strings() -> Vec<Vec<u8>> {
     all.extend((0..=u16::MAX).map(|word| word.to_be_bytes().to_vec()));
     all
 }
+
+#[cfg(test)]
+mod tests {
+    use super::*;
+    use crate::call::{all_outcomes, Call};
+    use crate::expected::expected;
+    use std::collections::BTreeSet;
+    use std::hash::{DefaultHasher, Hash, Hasher};
+
+    /// A digest of all questions, and the outcomes that they meet.
+    fn digest(seed: u64) -> (u64, BTreeSet<(Call, u32)>) {
+        let mut hasher = DefaultHasher::new();
+        let mut outcomes = BTreeSet::new();
+        questions(seed, 500, &mut |question| {
+            question.hash(&mut hasher);
+            outcomes.insert((question.call, expected(&question).refusal));
+        });
+        (hasher.finish(), outcomes)
+    }
+
+    #[test]
+    fn a_seed_gives_the_same_questions_and_they_meet_every_outcome() {
+        let (first, outcomes) = digest(1);
+        assert_eq!(outcomes, all_outcomes());
+        assert_eq!(digest(1).0, first);
+        assert_ne!(digest(2).0, first);
+    }
+}

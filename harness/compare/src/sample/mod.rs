@@ -5,7 +5,7 @@ pub mod names;
 pub mod rows;
 pub mod units;
 
-use crate::call::Question;
+use crate::call::{Call, Question};
 use crate::expected::expected;
 use crate::inputs;
 use crate::random::Random;
@@ -42,11 +42,11 @@ pub fn bytes(rows: &[Row]) -> Vec<u8> {
     rows.iter().flat_map(Row::bytes).collect()
 }
 
-/// How many rows there are of each call (by its byte) and refusal (0: none).
-pub fn counts(rows: &[Row]) -> BTreeMap<(u8, u32), usize> {
+/// How many rows there are of each call and refusal (0: none).
+pub fn counts(rows: &[Row]) -> BTreeMap<(Call, u32), usize> {
     let mut counts = BTreeMap::new();
     for row in rows {
-        *counts.entry((row.question.call as u8, row.answer.refusal)).or_default() += 1;
+        *counts.entry((row.question.call, row.answer.refusal)).or_default() += 1;
     }
     counts
 }
@@ -86,20 +86,11 @@ fn fits(question: &Question) -> bool {
 #[cfg(test)]
 mod tests {
     use super::*;
-    use crate::call::Call;
+    use crate::call::all_outcomes;
 
-    /// Every refusal that each call can give, and 0 for a plain answer.
-    const OUTCOMES: [(Call, &[u32]); 9] = [
-        (Call::EmptyNames, &[0, 2]),
-        (Call::AddName, &[0, 2, 4, 10]),
-        (Call::FindName, &[0, 2, 4]),
-        (Call::ReadName, &[0, 2, 3]),
-        (Call::UnitForm, &[0, 5]),
-        (Call::Product, &[0, 5, 8, 9]),
-        (Call::Exponent, &[0, 5]),
-        (Call::IsDimensionless, &[0, 5]),
-        (Call::UnitText, &[0, 2, 3, 5]),
-    ];
+    fn outcomes(rows: &[Row]) -> BTreeSet<(Call, u32)> {
+        counts(rows).into_keys().collect()
+    }
 
     #[test]
     fn a_seed_gives_one_sample_and_it_is_read_back() {
@@ -109,33 +100,19 @@ mod tests {
             assert_eq!(bytes, super::bytes(&super::rows(seed)));
             assert!(bytes.len() <= MAX_BYTES, "{} bytes", bytes.len());
             assert!((600..=1_200).contains(&rows.len()), "{} rows", rows.len());
+            assert_eq!(outcomes(&rows), all_outcomes());
             assert_eq!(rows::read_rows(&bytes), Some(rows));
             assert_eq!(rows::read_rows(&bytes[..bytes.len() - 1]), None);
         }
     }
 
     #[test]
-    fn every_outcome_of_every_call_has_rows_and_there_is_no_other() {
-        let counts = counts(&rows(1));
-        let wanted: Vec<(u8, u32)> = OUTCOMES
-            .iter()
-            .flat_map(|(call, refusals)| refusals.iter().map(|&refusal| (*call as u8, refusal)))
-            .collect();
-        assert_eq!(counts.keys().copied().collect::<Vec<_>>(), wanted);
-    }
-
-    #[test]
-    fn every_outcome_already_has_a_chosen_row() {
+    fn every_outcome_has_a_chosen_row() {
         let mut chosen = Rows::default();
         names::chosen()
             .into_iter()
             .chain(units::chosen())
             .for_each(|question| chosen.put(question));
-        let counts = counts(&chosen.rows);
-        for (call, refusals) in OUTCOMES {
-            for &refusal in refusals {
-                assert!(counts.contains_key(&(call as u8, refusal)), "{call:?} {refusal}");
-            }
-        }
+        assert_eq!(outcomes(&chosen.rows), all_outcomes());
     }
 }
