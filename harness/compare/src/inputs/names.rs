@@ -131,7 +131,7 @@ fn some_count(random: &mut Random) -> usize {
     }
 }
 
-/// Names that are usually different, and a word to ask of them: one of them,
+/// Words that are usually different names, and one to ask of them: one of them,
 /// one that begins or goes on like one of them, or any other.
 fn names_and_word(random: &mut Random) -> (Vec<Vec<u8>>, Vec<u8>) {
     let count = some_count(random);
@@ -140,13 +140,16 @@ fn names_and_word(random: &mut Random) -> (Vec<Vec<u8>>, Vec<u8>) {
         let (from, to) = (random.below(count), random.below(count));
         names[to] = names[from].clone();
     }
+    if count > 0 && random.once_in(10) {
+        names[random.below(count)] = some_word(random);
+    }
     if count == 0 {
         return (names, some_word(random));
     }
     let known = random.pick(&names).clone();
     let word = match random.below(6) {
         0 | 1 => known,
-        2 => known[..known.len() - 1].to_vec(),
+        2 => known[..known.len().saturating_sub(1)].to_vec(),
         3 => [known, vec![*random.pick(REST)]].concat(),
         _ => some_word(random),
     };
@@ -227,7 +230,8 @@ fn small_tables() -> Vec<Vec<u8>> {
         table_on(&["m", "s"], 0),
         table_on(&["m", "mm", "M", "_m"], 0),
         table_on(&["m", "s", "m"], 0),
-        table_on(&["mmmmmmmmmmmmmmmmmmmmmmmmmmmmmmm", "m"], 0),
+        table(&[vec![b'm'; MAX_NAME_BYTES], b"m".to_vec()]),
+        table(&[vec![b'm'; MAX_NAME_BYTES + 1], b"m".to_vec()]),
         table_on(&["a", "b", "c", "d", "e", "f", "g", "h", "i", "j", "k"], 0),
     ]
 }
