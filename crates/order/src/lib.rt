@@ -3,6 +3,7 @@ use names::Symbol;
 use names::name_of;
 use pages::index;
 use units::Unit;
+use units::with_term;
 ghost use mathlib.Core.Path.{_≡_};
 ghost use mathlib.Core.Bool.{true};
 ghost use mathlib.Core.List.{List, [], _∷_, _++_};
@@ -31,19 +32,6 @@ fn is_before(a: &[u8], b: &[u8]) -> bool
         i += 1;
     }
     false
-}
-
-// The unit with one term more at its end.
-fn with_term(u: Unit, s: Symbol, e: i16) -> Unit
-    requires { ⌜ u .count < placesMax ⌝ }
-    ensures { λ r. ⌜ (r .count ≡ u .count + 1) × ((l : List Term) → u ≡ unitOf l → r ≡ unitOf (l ++ (term s e ∷ []))) ⌝ }
-{
-    let mut v = u;
-    let k = u.count;
-    v.symbols[k] = s;
-    v.exponents[k] = e;
-    v.count = k + 1;
-    v
 }
 
 // The unit v with the terms of w from place j on at its end.

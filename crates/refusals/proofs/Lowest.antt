@@ -39,3 +39,12 @@ first-holds r ((s when b) ∷ cs) h =
     go : (b : Bool) → leb (numberOf r) (numberOf s) ≡ true → lower r (lowest cs) ≡ Refused r → lower r (cond b (lower s (lowest cs)) (lowest cs)) ≡ Refused r
     go true l ih = lower-more r s (lowest cs) l ih
     go false l ih = ih
+
+-- nothing is refused only where no condition holds
+pub passed-parts : (r : Refusal) (b : Bool) (cs : List Condition) → lowest ((r when b) ∷ cs) ≡ Passed → (b ≡ false) × (lowest cs ≡ Passed)
+passed-parts r true cs h = absurd (never (lowest cs) h)
+  where
+    never : (v : Verdict) → lower r v ≡ Passed → ⊥
+    never Passed e = let z : _≡_ {A = ℕ} 0 1 = cc in omega arith
+    never (Refused s) e = let z : _≡_ {A = ℕ} 0 1 = cc in omega arith
+passed-parts r false cs h = (refl, h)

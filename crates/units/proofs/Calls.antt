@@ -7,13 +7,13 @@ use native.Mathlib.Omega.{arith}
 use lib.Dec.{ltb}
 use lib.ListN.{length, getD}
 use lib.IntN.{ℤ, pos, _+ℤ_, +ℤ-idl}
-use borrow.Author.Tests.{lt-ltb, le-ltb, eq-eqb, ne-eqb}
+use borrow.Author.Tests.{lt-ltb, le-ltb, ltb-false, eq-eqb, ne-eqb}
 use Rattle.refusals.specs.Lowest.{_when_}
 use Rattle.refusals.specs.declared.Refusal.{Refusal}
 use Rattle.refusals.specs.declared.Refusal.the-variants.{BadUnit, Exponent, Symbols}
 use Rattle.refusals.specs.declared.Verdict.{Verdict}
 use Rattle.refusals.specs.declared.Verdict.the-variants.{Passed, Refused}
-use Rattle.refusals.proofs.Lowest.{first-holds}
+use Rattle.refusals.proofs.Lowest.{first-holds, passed-parts}
 use Rattle.names.specs.Table.{namesMax}
 use Rattle.units.specs.Unit.{placesMax, Term, term, formed, exponent}
 use Rattle.units.specs.Product.{anyOutside, productOf, productVerdict}
@@ -88,6 +88,25 @@ module _ (d : Bool) (a b : Unit) where
         pub product-done : length (merge (termsOf a) (turned d (termsOf b))) ≤ placesMax → given Passed (merge (termsOf a) (turned d (termsOf b))) ≡ productAnswer d a b
         unfolding productAnswer
         product-done l = rw (in-limits placesMax namesMax d (termsOf a) (termsOf b) h k (rw same at w) (rw same at l)) (ap (given Passed) same)
+
+-- ---- a result has no more symbols than places
+
+verdict-few : (p n : ℕ) (d : Bool) (xs ys : List Term) → productVerdict p n d xs ys ≡ Passed → length (productOf n d xs ys) ≤ p
+unfolding productVerdict
+verdict-few p n d xs ys h =
+    let m = productOf n d xs ys in
+    let a = passed-parts BadUnit (not (formed p n xs)) ((BadUnit when not (formed p n ys)) ∷ (Exponent when anyOutside m) ∷ (Symbols when ltb p (length m)) ∷ []) h in
+    let b = passed-parts BadUnit (not (formed p n ys)) ((Exponent when anyOutside m) ∷ (Symbols when ltb p (length m)) ∷ []) (a .1) in
+    let c = passed-parts Exponent (anyOutside m) ((Symbols when ltb p (length m)) ∷ []) (b .1) in
+    ltb-false p (length m) (passed-parts Symbols (ltb p (length m)) [] (c .1) .0)
+
+pub result-few : (d : Bool) (a b : Unit) → productAnswer d a b .unit .count ≤ placesMax
+unfolding productAnswer
+result-few d a b = go (productVerdict placesMax namesMax d (termsOf a) (termsOf b)) (verdict-few placesMax namesMax d (termsOf a) (termsOf b))
+  where
+    go : (v : Verdict) → (v ≡ Passed → length (productOf namesMax d (termsOf a) (termsOf b)) ≤ placesMax) → given v (productOf namesMax d (termsOf a) (termsOf b)) .unit .count ≤ placesMax
+    go Passed h = h refl
+    go (Refused r) h = omega arith
 
 -- ---- form, exponent, unitless
 

@@ -5,7 +5,7 @@ use refusals::Verdict;
 ghost use mathlib.Core.Path.{_≡_};
 ghost use mathlib.Core.Bool.{true, false};
 ghost use mathlib.Core.List.{List, [], _∷_, _++_};
-ghost use Prim.Native.Nat.{_<_};
+ghost use Prim.Native.Nat.{_+_, _<_};
 ghost use Rattle.refusals.specs.declared.Verdict.{Verdict};
 ghost use Rattle.names.specs.Table.{namesMax};
 ghost use Rattle.units.specs.Unit.{placesMax, Term, term, isZero, outside, formed};
@@ -123,6 +123,19 @@ fn pushed(w: Sum, s: Symbol, e: i16) -> Sum
         v.symbols[k] = s;
         v.exponents[k] = e;
     }
+    v
+}
+
+// The unit with one term more at its end, in order or not, for crates above.
+pub fn with_term(u: Unit, s: Symbol, e: i16) -> Unit
+    requires { ⌜ u .count < placesMax ⌝ }
+    ensures { λ r. ⌜ (r .count ≡ u .count + 1) × ((l : List Term) → u ≡ unitOf l → r ≡ unitOf (l ++ (term s e ∷ []))) ⌝ }
+{
+    let mut v = u;
+    let k = u.count;
+    v.symbols[k] = s;
+    v.exponents[k] = e;
+    v.count = k + 1;
     v
 }
 

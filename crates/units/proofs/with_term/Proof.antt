@@ -1,10 +1,10 @@
--- `order::with_term` meets its contract. Assumes nothing.
+-- `units::with_term` meets its contract. Assumes nothing.
 use mathlib.Core.Path.{refl}
 use mir.Facts.{toZ-ofZ}
 use borrow.Author.Needs.{needs}
 use Rattle.units.proofs.Held.{unit-more}
-use Rattle.order.proofs.with_term.Statement.{statement}
-use Rattle.order.proofs.with_term.Tie as tie
+use Rattle.units.proofs.with_term.Statement.{statement}
+use Rattle.units.proofs.with_term.Tie as tie
 
 element-write-v : tie.Need-element-write-v
 element-write-v c = search needs

@@ -1,0 +1,55 @@
+-- `calls::riddlepoppy_exponent` meets its contract. Assumes nothing.
+use mathlib.Core.Path.{_≡_, refl, sym, ap, _∙_}
+use Rattle.calls.specs.Codes.{packed, addedCode, foundCode, powerCode, unitlessCode}
+use Rattle.units.proofs.Signed.{back}
+use Rattle.refusals.specs.declared.Verdict.the-variants.{Passed}
+use Rattle.units.specs.Calls.{exponentAnswer}
+use Rattle.values.specs.Value.{rawOf}
+use borrow.Author.Needs.{needs}
+use Rattle.calls.proofs.riddlepoppy_exponent.Statement.{statement}
+use Rattle.calls.proofs.riddlepoppy_exponent.Tie as tie
+
+unit-or-broken-requires : tie.Need-unit-or-broken-requires
+unit-or-broken-requires c κs = search needs
+
+exponent-requires : tie.Need-exponent-requires
+exponent-requires c κs = search needs
+
+enum-known-power : tie.Need-enum-known-power
+enum-known-power c = search needs
+
+raw-requires : tie.Need-raw-requires
+raw-requires c κs = search needs
+
+packed-as-requires : tie.Need-packed-as-requires
+packed-as-requires c κs = search needs
+
+enum-known-power-2 : tie.Need-enum-known-power-2
+enum-known-power-2 c = search needs
+
+packed-as-requires-2 : tie.Need-packed-as-requires-2
+packed-as-requires-2 c κs = search needs
+
+returns : tie.Need-returns
+returns c =
+    let u = ap (λ v. exponentAnswer v (c .before .before .before .before .before .before .before .before .args .symbol)) (c .before .before .before .before .before .before .unit-or-broken .ensures) in
+    c .packed-as .ensures ∙ ap (packed Passed) (c .before .raw .ensures .0 ∙ ap rawOf (back (c .before .before .before .power .given .0 .0) (c .before .before .known-told .given .0 .1))) ∙ ap powerCode (sym (c .before .before .before .power .given .1) ∙ c .before .before .before .before .before .exponent .ensures ∙ u)
+
+returns-2 : tie.Need-returns-2
+returns-2 c =
+    let u = ap (λ v. exponentAnswer v (c .before .before .before .before .before .before .before .args .symbol)) (c .before .before .before .before .before .unit-or-broken .ensures) in
+    c .packed-as2 .ensures ∙ ap powerCode (sym (c .before .before .power2 .given .1) ∙ c .before .before .before .before .exponent .ensures ∙ u)
+
+pub riddlepoppy-exponent-spec : {M : Type 1} → statement M
+riddlepoppy-exponent-spec =
+    tie.close
+    (tie.spec
+    unit-or-broken-requires
+    exponent-requires
+    enum-known-power
+    raw-requires
+    packed-as-requires
+    enum-known-power-2
+    packed-as-requires-2
+    returns
+    returns-2)

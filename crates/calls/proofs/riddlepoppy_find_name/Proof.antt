@@ -1,0 +1,51 @@
+-- `calls::riddlepoppy_find_name` meets its contract. Assumes nothing.
+use mathlib.Core.Path.{_≡_, refl, sym, ap, _∙_}
+use Rattle.calls.specs.Codes.{packed, addedCode, foundCode, powerCode, unitlessCode}
+use borrow.Author.Needs.{needs}
+use Rattle.calls.proofs.riddlepoppy_find_name.Statement.{statement}
+use Rattle.calls.proofs.riddlepoppy_find_name.Tie as tie
+
+find-name-requires : tie.Need-find-name-requires
+find-name-requires c κs = search needs
+
+enum-known-found : tie.Need-enum-known-found
+enum-known-found c = search needs
+
+packed-as-requires : tie.Need-packed-as-requires
+packed-as-requires c κs = search needs
+
+enum-told : tie.Need-enum-told
+enum-told c = search needs
+
+packed-as-requires-2 : tie.Need-packed-as-requires-2
+packed-as-requires-2 c κs = search needs
+
+enum-known-found-2 : tie.Need-enum-known-found-2
+enum-known-found-2 c = search needs
+
+packed-as-requires-3 : tie.Need-packed-as-requires-3
+packed-as-requires-3 c κs = search needs
+
+returns : tie.Need-returns
+returns c = c .packed-as .ensures ∙ ap foundCode (sym (c .before .before .found .given .1) ∙ c .before .before .before .before .find-name .ensures)
+
+returns-2 : tie.Need-returns-2
+returns-2 c = c .packed-as2 .ensures ∙ ap foundCode (sym (c .before .enum-told .given .1) ∙ c .before .before .before .find-name .ensures)
+
+returns-3 : tie.Need-returns-3
+returns-3 c = c .packed-as3 .ensures ∙ ap foundCode (sym (c .before .before .found2 .given .1) ∙ c .before .before .before .before .find-name .ensures)
+
+pub riddlepoppy-find-name-spec : {M : Type 1} → statement M
+riddlepoppy-find-name-spec =
+    tie.close
+    (tie.spec
+    find-name-requires
+    enum-known-found
+    packed-as-requires
+    enum-told
+    packed-as-requires-2
+    enum-known-found-2
+    packed-as-requires-3
+    returns
+    returns-2
+    returns-3)

@@ -1,0 +1,150 @@
+// The entry calls as functions on numbers and byte slices, for callers in other languages. An answer is one number: the
+// refusal's (0 for none) in the upper half, the value in the lower. A unit passes as its bytes in a value node.
+use names::Added;
+use names::Found;
+use names::NAME_BYTES;
+use refusals::Refusal;
+use refusals::Verdict;
+use units::PLACES;
+use units::Power;
+use units::Unit;
+use units::Unitless;
+use values::UNIT_BYTES;
+ghost use mathlib.Core.Path.{_≡_};
+ghost use Rattle.pages.specs.Pad.{pad};
+ghost use Rattle.refusals.specs.declared.Verdict.{Verdict};
+ghost use Rattle.names.specs.Calls.{emptyVerdict, emptyPage, addAnswer, pageAfter, findAnswer, readAnswer};
+ghost use Rattle.units.specs.Calls.{termsOf, formVerdict, productAnswer, exponentAnswer};
+ghost use Rattle.values.specs.Value.{unitMax, unitBytes};
+ghost use Rattle.calls.specs.Codes.{packed, addedCode, foundCode, powerCode, unitlessCode, brokenUnit, unitOrBroken, unitlessIn};
+
+// A verdict and a value as one number.
+fn packed_as(verdict: Verdict, value: usize) -> u32
+    ensures { λ r. ⌜ r ≡ packed verdict value ⌝ }
+{
+    let code = refusals::code(verdict) as u32;
+    code * 65536 + (value % 65536) as u32
+}
+
+// Makes the page an empty table of names.
+#[no_mangle]
+pub extern "C" fn riddlepoppy_empty_names(page: &mut [u8]) -> u32
+    ensures { λ r. ⌜ (r ≡ packed (emptyVerdict (now (page .entry))) 0) × (now (page .exit) ≡ emptyPage (now (page .entry))) ⌝ }
+{
+    packed_as(names::empty_names(page), 0)
+}
+
+// The number of a name, which is added if it is new.
+#[no_mangle]
+pub extern "C" fn riddlepoppy_add_name(page: &mut [u8], name: &[u8]) -> u32
+    ensures { λ r. ⌜ (r ≡ addedCode (addAnswer (now (page .entry)) (now (name .entry)))) × (now (page .exit) ≡ pageAfter (now (page .entry)) (now (name .entry))) ⌝ }
+{
+    let added = names::add_name(page, name);
+    match added {
+        Added::At(n) => packed_as(Verdict::Passed, n),
+        Added::Refused(r) => packed_as(Verdict::Refused(r), 0),
+    }
+}
+
+// The number of a name, or 65,535 where the table does not have it.
+#[no_mangle]
+pub extern "C" fn riddlepoppy_find_name(page: &[u8], name: &[u8]) -> u32
+    ensures { λ r. ⌜ r ≡ foundCode (findAnswer (now (page .entry)) (now (name .entry))) ⌝ }
+{
+    let found = names::find_name(page, name);
+    match found {
+        Found::At(n) => packed_as(Verdict::Passed, n),
+        Found::Absent => packed_as(Verdict::Passed, 65535),
+        Found::Refused(r) => packed_as(Verdict::Refused(r), 0),
+    }
+}
+
+// The name with number k, and its length.
+#[no_mangle]
+pub extern "C" fn riddlepoppy_read_name(page: &[u8], k: u32, out: &mut [u8; NAME_BYTES]) -> u32
+    ensures { λ r. ⌜ (r ≡ packed (readAnswer (now (page .entry)) k .verdict) (readAnswer (now (page .entry)) k .length)) × (now (out .exit) ≡ readAnswer (now (page .entry)) k .bytes) ⌝ }
+{
+    let name = names::read_name(page, k as usize);
+    let bytes = name.bytes;
+    *out = bytes;
+    let verdict = name.verdict;
+    packed_as(verdict, name.length)
+}
+
+fn broken_unit() -> Unit
+    ensures { λ r. ⌜ r ≡ brokenUnit ⌝ }
+{
+    Unit {
+        count: PLACES + 1,
+        symbols: [0; PLACES],
+        exponents: [0; PLACES],
+    }
+}
+
+// The unit that the bytes say; bytes that say none give one that breaks its form.
+fn unit_or_broken(bytes: &[u8]) -> Unit
+    ensures { λ r. ⌜ r ≡ unitOrBroken (now (bytes .entry)) ⌝ }
+{
+    let value = values::read_value(bytes);
+    let unit = value.unit;
+    if unit.some {
+        return unit.unit;
+    }
+    broken_unit()
+}
+
+// Whether a unit is in form.
+#[no_mangle]
+pub extern "C" fn riddlepoppy_unit_form(unit: &[u8]) -> u32
+    ensures { λ r. ⌜ r ≡ packed (formVerdict (unitOrBroken (now (unit .entry)))) 0 ⌝ }
+{
+    packed_as(units::unit_form(unit_or_broken(unit)), 0)
+}
+
+// The product of two units or, with `quotient`, their quotient.
+#[no_mangle]
+pub extern "C" fn riddlepoppy_product(
+    a: &[u8],
+    b: &[u8],
+    quotient: bool,
+    out: &mut [u8; UNIT_BYTES],
+) -> u32
+    ensures { λ r. ⌜ (r ≡ packed (productAnswer quotient (unitOrBroken (now (a .entry))) (unitOrBroken (now (b .entry))) .verdict) 0) × (now (out .exit) ≡ pad unitMax 0 (unitBytes (termsOf (productAnswer quotient (unitOrBroken (now (a .entry))) (unitOrBroken (now (b .entry))) .unit)))) ⌝ }
+{
+    let result = units::product(unit_or_broken(a), unit_or_broken(b), quotient);
+    let unit = result.unit;
+    *out = values::value_bytes(unit);
+    let verdict = result.verdict;
+    packed_as(verdict, 0)
+}
+
+// The exponent of a symbol, as its sixteen bits.
+#[no_mangle]
+pub extern "C" fn riddlepoppy_exponent(unit: &[u8], symbol: u8) -> u32
+    ensures { λ r. ⌜ r ≡ powerCode (exponentAnswer (unitOrBroken (now (unit .entry))) symbol) ⌝ }
+{
+    let power = units::exponent(unit_or_broken(unit), symbol);
+    match power {
+        Power::Of(e) => packed_as(Verdict::Passed, values::raw(e)),
+        Power::Refused(r) => packed_as(Verdict::Refused(r), 0),
+    }
+}
+
+// Whether there is no unit, or the empty one: 1 for yes.
+#[no_mangle]
+pub extern "C" fn riddlepoppy_is_dimensionless(bytes: &[u8]) -> u32
+    ensures { λ r. ⌜ r ≡ unitlessCode (unitlessIn (now (bytes .entry))) ⌝ }
+{
+    let value = values::read_value(bytes);
+    let verdict = value.verdict;
+    if let Verdict::Refused(r) = verdict {
+        return packed_as(Verdict::Refused(r), 0);
+    }
+    let unit = value.unit;
+    let answer = units::is_dimensionless(unit);
+    match answer {
+        Unitless::Yes => packed_as(Verdict::Passed, 1),
+        Unitless::No => packed_as(Verdict::Passed, 0),
+        Unitless::Refused(r) => packed_as(Verdict::Refused(r), 0),
+    }
+}

@@ -1,0 +1,90 @@
+-- `values::unit_at` meets its contract. The invariant is `Reading`. Assumes nothing.
+use mathlib.Core.Path.{_≡_, ap, _∙_}
+use mathlib.Core.List.{[], _∷_, _++_}
+use Prim.Native.Nat.{_+_, _-_, _*_}
+use native.Mathlib.Omega.{arith}
+use lib.ListN.{getD}
+use denote.Ref.{now}
+use borrow.Author.Needs.{needs}
+use Rattle.units.specs.Unit.{term}
+use Rattle.units.specs.Calls.{unitOf}
+use Rattle.units.proofs.Signed.{back}
+use Rattle.values.specs.Value.{signedOf, wordAt}
+use Rattle.values.proofs.Terms.{Reading, reading-start, reading-count, reading-next, reading-end}
+use Rattle.values.proofs.unit_at.Statement.{statement}
+use Rattle.values.proofs.unit_at.Tie as tie
+
+abbrev Inv-loop : tie.InvT-loop
+Inv-loop bytes n u₀ at₀ i₀ u at i = Reading bytes n u at i
+
+abbrev μ-loop : tie.MeasureT-loop
+μ-loop bytes n u₀ at₀ i₀ u at i = n - i
+
+dimensionless-requires : tie.Need-dimensionless-requires Inv-loop μ-loop
+dimensionless-requires c κs = search needs
+
+loop-holds : tie.Need-loop-holds Inv-loop μ-loop
+loop-holds c = reading-start (now (c .before .before .args .bytes)) (c .before .before .args .n) (c .dimensionless .result) (c .dimensionless .ensures)
+
+shared-slice-read-with-term : tie.Need-shared-slice-read-with-term Inv-loop μ-loop
+shared-slice-read-with-term c = let p = c .before .before .loop .inv .place in omega (arith, p, c .before .loop-test .taken, c .before .before .before .before .before .pre .1)
+
+add-signed : tie.Need-add-signed Inv-loop μ-loop
+add-signed c = let p = c .before .before .loop .inv .place in omega (arith, p, c .before .loop-test .taken, c .before .before .before .before .before .pre .1)
+
+shared-slice-read-signed : tie.Need-shared-slice-read-signed Inv-loop μ-loop
+shared-slice-read-signed c = let p = c .before .before .before .loop .inv .place in omega (arith, p, c .before .before .loop-test .taken, c .before .before .before .before .before .before .pre .1)
+
+add-signed-2 : tie.Need-add-signed-2 Inv-loop μ-loop
+add-signed-2 c = let p = c .before .before .before .loop .inv .place in omega (arith, p, c .before .before .loop-test .taken, c .before .before .before .before .before .before .pre .1)
+
+shared-slice-read-signed-2 : tie.Need-shared-slice-read-signed-2 Inv-loop μ-loop
+shared-slice-read-signed-2 c = let p = c .before .before .before .before .loop .inv .place in omega (arith, p, c .before .before .before .loop-test .taken, c .before .before .before .before .before .before .before .pre .1)
+
+signed-requires : tie.Need-signed-requires Inv-loop μ-loop
+signed-requires c κs = search needs
+
+with-term-requires : tie.Need-with-term-requires Inv-loop μ-loop
+with-term-requires c κs = let z = reading-count (now (c .before .before .before .before .before .before .before .before .args .bytes)) (c .before .before .before .before .before .before .before .before .args .n) (c .before .before .before .before .before .loop .u) (c .before .before .before .before .before .loop .at) (c .before .before .before .before .before .loop .i) (c .before .before .before .before .before .loop .inv) in omega (arith, z, c .before .before .before .before .loop-test .taken, c .before .before .before .before .before .before .before .before .pre .0)
+
+add-at : tie.Need-add-at Inv-loop μ-loop
+add-at c = let p = c .before .before .before .before .before .before .loop .inv .place in omega (arith, p, c .before .before .before .before .before .loop-test .taken, c .before .before .before .before .before .before .before .before .before .pre .1)
+
+add-i : tie.Need-add-i Inv-loop μ-loop
+add-i c = search needs
+
+loop-less : tie.Need-loop-less Inv-loop μ-loop
+loop-less c = search needs
+
+loop-again : tie.Need-loop-again Inv-loop μ-loop
+loop-again c =
+    let bytes = now (c .before .before .before .before .before .before .before .before .before .args .bytes) in
+    let l = c .before .before .before .before .before .before .loop in
+    let e : signedOf (getD bytes (l .at + 1) 0 * 256 + getD bytes (l .at + 2) 0) ≡ signedOf (wordAt bytes (l .at + 1)) =
+    let z : l .at + 2 ≡ l .at + 1 + 1 = omega arith in ap (λ k. signedOf (getD bytes (l .at + 1) 0 * 256 + getD bytes k 0)) z in
+    reading-next bytes (c .before .before .before .before .before .before .before .before .before .args .n) (l .u) (l .at) (l .i) (l .inv) (c .before .before .before .before .before .loop-test .taken) (c .with-term .result)
+    (λ k q. c .with-term .ensures .1 k q ∙ ap (λ z. unitOf (k ++ (term (getD bytes (l .at) 0) z ∷ []))) (back (c .before .signed .result) (c .before .signed .ok) ∙ c .before .signed .ensures ∙ e))
+
+returns : tie.Need-returns Inv-loop μ-loop
+returns c = let l = c .before .loop in reading-end (now (c .before .before .before .before .args .bytes)) (c .before .before .before .before .args .n) (l .u) (l .at) (l .i) (l .inv) (c .loop-test .left)
+
+pub unit-at-spec : {M : Type 1} → statement M
+unit-at-spec =
+    tie.close
+    (tie.spec
+    Inv-loop
+    μ-loop
+    dimensionless-requires
+    loop-holds
+    shared-slice-read-with-term
+    add-signed
+    shared-slice-read-signed
+    add-signed-2
+    shared-slice-read-signed-2
+    signed-requires
+    with-term-requires
+    add-at
+    add-i
+    loop-less
+    loop-again
+    returns)

@@ -1,0 +1,96 @@
+-- `values::write_terms` meets its contract. The invariant is `Writing`. Assumes nothing.
+use mathlib.Core.Path.{_≡_, ap, _∙_}
+use Prim.Native.Nat.{_-_}
+use native.Mathlib.Omega.{arith}
+use denote.Ref.{now}
+use borrow.Author.Needs.{needs}
+use Rattle.units.proofs.Signed.{back}
+use Rattle.units.proofs.Form.{expAt}
+use Rattle.units.proofs.Held.{placesOf}
+use Rattle.values.specs.Value.{rawOf}
+use Rattle.values.proofs.Terms.{Writing, writing-start, writing-next, writing-end}
+use Rattle.values.proofs.write_terms.Statement.{statement}
+use Rattle.values.proofs.write_terms.Tie as tie
+
+abbrev Inv-loop : tie.InvT-loop
+Inv-loop out₀ u n at₀ i₀ out at i = Writing out₀ u out at i
+
+abbrev μ-loop : tie.MeasureT-loop
+μ-loop out₀ u n at₀ i₀ out at i = n - i
+
+loop-holds : tie.Need-loop-holds Inv-loop μ-loop
+loop-holds c = writing-start (now (c .before .args .out)) (c .before .args .t2)
+
+mul-raw : tie.Need-mul-raw Inv-loop μ-loop
+mul-raw c = search needs
+
+element-copy-out-raw : tie.Need-element-copy-out-raw Inv-loop μ-loop
+element-copy-out-raw c = search needs
+
+raw-requires : tie.Need-raw-requires Inv-loop μ-loop
+raw-requires c κs = search needs
+
+count-bytes-requires : tie.Need-count-bytes-requires Inv-loop μ-loop
+count-bytes-requires c κs = c .raw .ensures .1
+
+element-copy-out-t18 : tie.Need-element-copy-out-t18 Inv-loop μ-loop
+element-copy-out-t18 c = search needs
+
+array-read-t21 : tie.Need-array-read-t21 Inv-loop μ-loop
+array-read-t21 c = search needs
+
+array-read-t24 : tie.Need-array-read-t24 Inv-loop μ-loop
+array-read-t24 c = search needs
+
+slice-aggregate-put-bytes : tie.Need-slice-aggregate-put-bytes Inv-loop μ-loop
+slice-aggregate-put-bytes c = search needs
+
+put-bytes-requires : tie.Need-put-bytes-requires Inv-loop μ-loop
+put-bytes-requires c κs = let p = c .before .before .before .before .before .before .before .loop .inv .place in let q = c .before .before .before .before .before .before .before .loop .inv .long in omega (arith, p, q, c .before .before .before .before .before .before .loop-test .taken, c .before .before .before .before .before .before .before .before .before .pre .0, c .before .before .before .before .before .before .before .before .before .pre .1)
+
+add-at : tie.Need-add-at Inv-loop μ-loop
+add-at c = let p = c .before .before .before .before .before .before .before .before .before .before .loop .inv .place in omega (arith, p, c .before .before .before .before .before .before .before .before .before .loop-test .taken, c .before .before .before .before .before .before .before .before .before .before .before .before .pre .0)
+
+add-i : tie.Need-add-i Inv-loop μ-loop
+add-i c = search needs
+
+loop-less : tie.Need-loop-less Inv-loop μ-loop
+loop-less c = search needs
+
+loop-again : tie.Need-loop-again Inv-loop μ-loop
+loop-again c =
+    let page = now (c .before .before .before .before .before .before .before .before .before .before .before .before .args .out) in
+    let u = c .before .before .before .before .before .before .before .before .before .before .before .before .args .t2 in
+    let l = c .before .before .before .before .before .before .before .before .before .before .loop in
+    let r : c .before .before .before .before .before .before .before .raw .result ≡ rawOf (expAt (placesOf u) (l .i)) = c .before .before .before .before .before .before .before .raw .ensures .0 ∙ ap rawOf (back (expAt (placesOf u) (l .i)) (c .before .before .before .before .before .before .before .before .raw-arg .given)) in
+    writing-next page u (l .out) (l .at) (l .i) (l .inv) (c .before .before .before .before .before .before .before .before .before .loop-test .taken) (c .before .before .before .before .before .before .before .before .before .before .before .before .pre .0) (c .before .before .before .before .before .before .before .before .before .before .before .before .pre .1) _
+    (c .before .before .put-bytes .ensures ∙ rw (c .before .before .before .before .before .before .count-bytes .ensures, r))
+
+same-length : tie.Need-same-length Inv-loop μ-loop
+same-length c = search needs
+
+returns : tie.Need-returns Inv-loop μ-loop
+returns c = let l = c .before .loop in writing-end (now (c .before .before .before .args .out)) (c .before .before .before .args .t2) (l .out) (l .at) (l .i) (l .inv) (c .loop-test .left)
+
+pub write-terms-spec : {M : Type 1} → statement M
+write-terms-spec =
+    tie.close
+    (tie.spec
+    Inv-loop
+    μ-loop
+    loop-holds
+    mul-raw
+    element-copy-out-raw
+    raw-requires
+    count-bytes-requires
+    element-copy-out-t18
+    array-read-t21
+    array-read-t24
+    slice-aggregate-put-bytes
+    put-bytes-requires
+    add-at
+    add-i
+    loop-less
+    loop-again
+    same-length
+    returns)
