@@ -6,7 +6,6 @@ use native.Mathlib.Decide.{decLt}
 use native.Mathlib.Omega.{arith}
 use lib.ListN.{length}
 use borrow.Author.Tests.{lt-ltb, le-ltb}
-use Rattle.pages.specs.Bytes.{put}
 use Rattle.digits.specs.Decimal.{digitsMax, decimalMax, digitOf, digits, decimalOf}
 
 -- ---- by how many digits there is room for
@@ -81,7 +80,3 @@ module _ (n : ℕ) where
         | yes a ↦ let z = decimal-short a in omega arith
         | no a ↦ rw (← decimal-5 (omega arith) h) (omega arith)
       ]
-
--- what was written is the text meant
-pub spelled : (o : List ℕ) (at : ℕ) (t u : List ℕ) (r : ℕ) (p : List ℕ) → t ≡ u → (r ≡ at + length t) × (p ≡ put o at t) → (r ≡ at + length u) × (p ≡ put o at u)
-spelled o at t u r p e h = (h .0 ∙ rw e, h .1 ∙ rw e)

@@ -8,7 +8,7 @@ use native.Mathlib.Nat.{le-refl, le-of-eq, zero-add, suc-add}
 use native.Mathlib.Numerals.{add-one}
 use native.Mathlib.Decide.{decLt}
 use lib.ListN.{length, getD, take, drop, set, length-set, length-take, length-drop, length-append, List·getD-append, drop-of-length-le}
-use lib.Seq.{take-length, length-take-le, length-paste, drop-paste, drop-drop, drop-at, take-at, getD-take, getD-drop, getD-append-add, take-suc, append-snoc, set-at, set-append-left, ext-getD, drop-cons, paste-zero}
+use lib.Seq.{take-length, length-take-le, length-paste, take-paste, drop-paste, drop-drop, drop-at, take-at, getD-take, getD-drop, getD-append-add, take-suc, append-snoc, set-at, set-append-left, ext-getD, drop-cons, paste-zero}
 use Rattle.pages.specs.Bytes.{put}
 
 module _ (l : List ℕ) (at : ℕ) (bs : List ℕ) (fits : at + length bs ≤ length l) where
@@ -70,6 +70,21 @@ put-set l at bs i x h k =
     ∙ rw f at (set-append-right (take at l) (bs ++ rest) i x)
     ∙ ap (λ (r : List ℕ). take at l ++ r) (set-append-left bs rest i x k)
     ∙ sym (split l at (set bs i x) (rw (length-set bs i x) h) ∙ rw (length-set bs i x))
+
+-- ---- one text after another
+
+pub put-none : (l : List ℕ) (at : ℕ) → put l at [] ≡ l
+put-none l at = sym (paste-zero l at [])
+
+pub put-append : (l : List ℕ) (at : ℕ) (cs bs : List ℕ) → at + length cs + length bs ≤ length l → put (put l at cs) (at + length cs) bs ≡ put l at (cs ++ bs)
+put-append l at cs bs h =
+    let r = at + length cs in
+    let fits : r ≤ length l = omega arith in
+    let e : r + length bs ≡ at + length (cs ++ bs) = rw (length-append cs bs) (omega arith) in
+    let t : take r (put l at cs) ≡ take at l ++ cs = take-paste l at cs (length cs) (omega arith) (le-refl (length cs)) ∙ rw (take-length cs) in
+    let d : drop (r + length bs) (put l at cs) ≡ drop (r + length bs) l = put-drop l at cs fits (r + length bs) (omega arith) in
+    let m : take r (put l at cs) ++ (bs ++ drop (r + length bs) (put l at cs)) ≡ take at l ++ ((cs ++ bs) ++ drop (at + length (cs ++ bs)) l) = rw (t, d, ← e) (simp append-assoc) in
+    split (put l at cs) r bs (rw (put-length l at cs fits) h) ∙ m ∙ sym (split l at (cs ++ bs) (rw (← e) h))
 
 -- ---- bytes put in two places, in either order
 
