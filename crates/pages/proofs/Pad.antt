@@ -4,7 +4,7 @@ use mathlib.Core.List.{List, [], _∷_, _++_}
 use Prim.Native.Nat.{ℕ, zero, suc, _+_, _≤_, _<_}
 use native.Mathlib.Nat.{le-of-suc-le-suc, not-suc-le-zero, zero-add}
 use native.Mathlib.Omega.{arith}
-use lib.ListN.{length, set, drop, replicate}
+use lib.ListN.{length, getD, set, drop, replicate}
 use lib.Seq.{take-length}
 use Rattle.pages.specs.Bytes.{put}
 use Rattle.pages.specs.Pad.{pad}
@@ -28,6 +28,14 @@ unfolding pad
 length-pad zero d xs = refl
 length-pad (suc n) d [] = ap suc (length-pad n d [])
 length-pad (suc n) d (x ∷ xs) = ap suc (length-pad n d xs)
+
+pub getD-pad : {A : Type 0} (n : ℕ) (d : A) (xs : List A) (k : ℕ) → k < n → getD (pad n d xs) k d ≡ getD xs k d
+unfolding pad
+getD-pad zero d xs k h = absurd (not-suc-le-zero h)
+getD-pad (suc n) d [] zero h = refl
+getD-pad (suc n) d [] (suc k) h = getD-pad n d [] k (le-of-suc-le-suc h)
+getD-pad (suc n) d (x ∷ xs) zero h = refl
+getD-pad (suc n) d (x ∷ xs) (suc k) h = getD-pad n d xs k (le-of-suc-le-suc h)
 
 pub pad-none : (n : ℕ) → pad {A = ℕ} n 0 [] ≡ replicate n 0
 unfolding pad

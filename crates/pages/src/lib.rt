@@ -55,7 +55,7 @@ pub fn count(page: &[u8]) -> usize
 }
 
 // The two bytes that say a count.
-pub fn count_bytes(n: usize) -> [u8; 2]
+pub fn count_bytes(n: usize) -> [u8; COUNT_BYTES]
     requires { ⌜ n < 65536 ⌝ }
     ensures { λ r. ⌜ r ≡ bytesOf n ⌝ }
 {

@@ -1,15 +1,17 @@
 -- A sum in its struct, and how it grows by one term. Assumes nothing.
-use mathlib.Core.Path.{_≡_, refl, sym, ap, _∙_}
+use mathlib.Core.Path.{_≡_, refl, sym, ap, ap₂, _∙_}
 use mathlib.Core.Bool.{Bool, true, false, _||_}
 use mathlib.Core.List.{List, [], _∷_, _++_}
 use Prim.Native.Nat.{ℕ, suc, _+_, _≤_, _<_}
-use lib.ListN.{length, set, length-append}
+use native.Mathlib.Nat.{add-zero, zero-add, add-suc, suc-add, suc-le-suc-iff, zero-lt-suc}
+use native.Mathlib.Omega.{arith}
+use lib.ListN.{length, getD, set, length-append}
 use lib.IntN.{ℤ, pos}
 use Rattle.pages.specs.Pad.{pad}
-use Rattle.pages.proofs.Pad.{pad-more, pad-full}
+use Rattle.pages.proofs.Pad.{pad-more, pad-full, getD-pad}
 use Rattle.units.specs.Unit.{placesMax, Term, term, outside}
 use Rattle.units.specs.Product.{anyOutside}
-use Rattle.units.specs.Calls.{syms, exps, sumOf}
+use Rattle.units.specs.Calls.{terms, termsOf, syms, exps, unitOf, sumOf}
 use Rattle.units.specs.declared.Sum.{Sum}
 use Rattle.units.specs.declared.Unit.{Unit}
 use Rattle.units.proofs.Form.{Places}
@@ -88,3 +90,27 @@ module _ (l : List Term) (s : ℕ) (e : ℤ) where
     symbols = symbols-full placesMax l (term s e) h i;
     exponents = exponents-full placesMax l (term s e) h i;
   }
+
+-- ---- a unit in its struct
+
+pub unit-more : (l : List Term) (s : ℕ) (e : ℤ) → length l < placesMax → _≡_ {A = Unit} (record { count = length l + 1; symbols = set (pad placesMax 0 (syms l)) (length l) s; exponents = set (pad placesMax (pos 0) (exps l)) (length l) e }) (unitOf (l ++ (term s e ∷ [])))
+unit-more l s e h = λ i. record {
+  count = count-more l (term s e) i;
+  symbols = symbols-room placesMax l (term s e) h i;
+  exponents = exponents-room placesMax l (term s e) h i;
+}
+
+terms-at : (l : List Term) (i : ℕ) (ss : List ℕ) (es : List ℤ)
+    → ((k : ℕ) → k < length l → getD ss (i + k) 0 ≡ getD (syms l) k 0) → ((k : ℕ) → k < length l → getD es (i + k) (pos 0) ≡ getD (exps l) k (pos 0))
+    → terms (length l) i ss es ≡ l
+terms-at [] i ss es f g = refl
+terms-at (x ∷ l) i ss es f g =
+    ap₂ {C = List Term} (λ (t : Term) (r : List Term). t ∷ r)
+    (λ d. record { sym = (ap (λ (k : ℕ). getD ss k 0) (sym (add-zero i)) ∙ f 0 (zero-lt-suc (length l))) d; exp = (ap (λ (k : ℕ). getD es k (pos 0)) (sym (add-zero i)) ∙ g 0 (zero-lt-suc (length l))) d })
+    (terms-at l (suc i) ss es (λ k h. rw (suc-add i k, ← add-suc i k) (f (suc k) (suc-le-suc-iff .1 h))) (λ k h. rw (suc-add i k, ← add-suc i k) (g (suc k) (suc-le-suc-iff .1 h))))
+
+-- the terms that a unit holds are those that it was made of
+pub terms-unit : (l : List Term) → length l ≤ placesMax → termsOf (unitOf l) ≡ l
+terms-unit l h =
+    terms-at l 0 (pad placesMax 0 (syms l)) (pad placesMax (pos 0) (exps l))
+    (λ k lt. rw zero-add (getD-pad placesMax 0 (syms l) k (omega arith))) (λ k lt. rw zero-add (getD-pad placesMax (pos 0) (exps l) k (omega arith)))

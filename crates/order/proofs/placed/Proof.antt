@@ -1,0 +1,160 @@
+-- `order::placed` meets its contract. The invariant is `Placing`. Assumes nothing.
+use mathlib.Core.Path.{_≡_, ap, _∙_}
+use mathlib.Core.List.{[], _∷_, _++_}
+use Prim.Native.Nat.{_-_}
+use native.Mathlib.Omega.{arith}
+use mir.Syntax.{w16}
+use mir.Val.{toZ, ofZ}
+use mir.Facts.{toZ-ofZ}
+use denote.Ref.{now}
+use borrow.Author.Needs.{needs}
+use Rattle.pages.specs.Bytes.{countOf}
+use Rattle.names.specs.Table.{nameAt}
+use Rattle.units.specs.Unit.{term}
+use Rattle.units.specs.Calls.{termsOf, unitOf}
+use Rattle.units.proofs.Signed.{back}
+use Rattle.units.proofs.Form.{symAt, expAt}
+use Rattle.units.proofs.Held.{placesOf}
+use Rattle.order.specs.Order.{comes, place}
+use Rattle.order.proofs.Order.{in-use-at, Placing, placing-start, placing-count, placing-here, placing-next, placing-end}
+use Rattle.order.proofs.placed.Statement.{statement}
+use Rattle.order.proofs.placed.Tie as tie
+
+abbrev Inv-loop : tie.InvT-loop
+Inv-loop page s e w n name v₀ j₀ v j = Placing page w (term s (toZ w16 e)) v j
+
+abbrev μ-loop : tie.MeasureT-loop
+μ-loop page s e w n name v₀ j₀ v j = n - j
+
+index-requires : tie.Need-index-requires Inv-loop μ-loop
+index-requires c κs = search needs
+
+name-of-requires : tie.Need-name-of-requires Inv-loop μ-loop
+name-of-requires c κs = (c .before .before .pre .0, rw (c .index .ensures .0) (c .before .before .pre .2))
+
+dimensionless-requires : tie.Need-dimensionless-requires Inv-loop μ-loop
+dimensionless-requires c κs = search needs
+
+loop-holds : tie.Need-loop-holds Inv-loop μ-loop
+loop-holds c = placing-start (now (c .before .before .before .before .args .page)) (c .before .before .before .before .args .t2) (term (c .before .before .before .before .args .s) (toZ w16 (ofZ w16 (c .before .before .before .before .args .e)))) (c .dimensionless .result) (c .dimensionless .ensures)
+
+element-copy-out-t : tie.Need-element-copy-out-t Inv-loop μ-loop
+element-copy-out-t c = search needs
+
+index-requires-2 : tie.Need-index-requires-2 Inv-loop μ-loop
+index-requires-2 c κs = search needs
+
+name-of-requires-2 : tie.Need-name-of-requires-2 Inv-loop μ-loop
+name-of-requires-2 c κs =
+    let g = c .before .before .before .before .before .before .before .before .args in
+    (c .before .before .before .before .before .before .before .before .pre .0, rw (c .index2 .ensures .0) (in-use-at (countOf (now (g .page))) (g .t2) (c .before .before .before .before .before .before .before .before .pre .3) (c .before .before .before .loop .j) (c .before .before .loop-test .taken)))
+
+is-before-requires : tie.Need-is-before-requires Inv-loop μ-loop
+is-before-requires c κs = search needs
+
+with-term-requires : tie.Need-with-term-requires Inv-loop μ-loop
+with-term-requires c κs =
+    let g = c .before .before .before .before .before .before .before .before .before .before .before .args in
+    let page = now (g .page) in
+    let x = term (g .s) (toZ w16 (ofZ w16 (g .e))) in
+    let l = c .before .before .before .before .before .before .loop in
+    let z = placing-count page (g .t2) x (l .v) (l .j) (l .inv) in omega (arith, z, c .before .before .before .before .before .loop-test .taken, c .before .before .before .before .before .before .before .before .before .before .before .pre .1)
+
+with-rest-requires : tie.Need-with-rest-requires Inv-loop μ-loop
+with-rest-requires c κs =
+    let g = c .before .before .before .before .before .before .before .before .before .before .before .before .args in
+    let page = now (g .page) in
+    let x = term (g .s) (toZ w16 (ofZ w16 (g .e))) in
+    let l = c .before .before .before .before .before .before .before .loop in
+    let z = placing-count page (g .t2) x (l .v) (l .j) (l .inv) in
+    let n = c .with-term .ensures .0 in
+    let h = c .before .before .before .before .before .before .before .before .before .before .before .before .pre .1 in
+    let t = c .before .before .before .before .before .before .loop-test .taken in
+    omega (arith, z, n, h, t)
+
+returns : tie.Need-returns Inv-loop μ-loop
+returns c =
+    let g = c .before .before .before .before .before .before .before .before .before .before .before .before .before .args in
+    let page = now (g .page) in
+    let x = term (g .s) (toZ w16 (ofZ w16 (g .e))) in
+    let l = c .before .before .before .before .before .before .before .before .loop in
+    let b : comes (nameAt page (x .sym)) (nameAt page (symAt (placesOf (g .t2)) (l .j))) ≡ c .before .before .before .is-before .result =
+    rw (c .before .before .before .is-before .ensures, c .before .before .before .before .before .before .before .before .before .before .name-of .ensures .0, c .before .before .before .before .name-of2 .ensures .0, c .before .before .before .before .before .before .before .before .before .before .before .index .ensures .0, c .before .before .before .before .before .index2 .ensures .0) in
+    placing-here page (g .t2) x (l .v) (l .j) (l .inv) (c .before .before .before .before .before .before .before .loop-test .taken) (b ∙ c .before .before .if1 .taken) (c .before .with-term .result) (c .with-rest .result)
+    (c .before .with-term .ensures .1) (c .with-rest .ensures)
+    ∙ ap (λ z. unitOf (place page (term (g .s) z) (termsOf (g .t2)))) (toZ-ofZ (c .before .before .before .before .before .before .before .before .before .before .before .before .before .fits .e))
+
+mul-with-term : tie.Need-mul-with-term Inv-loop μ-loop
+mul-with-term c = search needs
+
+element-copy-out-with-term : tie.Need-element-copy-out-with-term Inv-loop μ-loop
+element-copy-out-with-term c = search needs
+
+with-term-requires-2 : tie.Need-with-term-requires-2 Inv-loop μ-loop
+with-term-requires-2 c κs =
+    let g = c .before .before .before .before .before .before .before .before .before .before .before .before .args in
+    let page = now (g .page) in
+    let x = term (g .s) (toZ w16 (ofZ w16 (g .e))) in
+    let l = c .before .before .before .before .before .before .before .loop in
+    let z = placing-count page (g .t2) x (l .v) (l .j) (l .inv) in omega (arith, z, c .before .before .before .before .before .before .loop-test .taken, c .before .before .before .before .before .before .before .before .before .before .before .before .pre .1)
+
+add-j : tie.Need-add-j Inv-loop μ-loop
+add-j c = search needs
+
+loop-less : tie.Need-loop-less Inv-loop μ-loop
+loop-less c = search needs
+
+loop-again : tie.Need-loop-again Inv-loop μ-loop
+loop-again c =
+    let g = c .before .before .before .before .before .before .before .before .before .before .before .before .before .args in
+    let page = now (g .page) in
+    let x = term (g .s) (toZ w16 (ofZ w16 (g .e))) in
+    let l = c .before .before .before .before .before .before .before .before .loop in
+    let b : comes (nameAt page (x .sym)) (nameAt page (symAt (placesOf (g .t2)) (l .j))) ≡ c .before .before .before .is-before .result =
+    rw (c .before .before .before .is-before .ensures, c .before .before .before .before .before .before .before .before .before .before .name-of .ensures .0, c .before .before .before .before .name-of2 .ensures .0, c .before .before .before .before .before .before .before .before .before .before .before .index .ensures .0, c .before .before .before .before .before .index2 .ensures .0) in
+    placing-next page (g .t2) x (l .v) (l .j) (l .inv) (c .before .before .before .before .before .before .before .loop-test .taken) (b ∙ c .before .before .if1 .left) (c .with-term2 .result)
+    (λ k q. c .with-term2 .ensures .1 k q ∙ ap (λ z. unitOf (k ++ (term (symAt (placesOf (g .t2)) (l .j)) z ∷ []))) (back (expAt (placesOf (g .t2)) (l .j)) (c .before .with-term-arg .given)))
+
+with-term-requires-3 : tie.Need-with-term-requires-3 Inv-loop μ-loop
+with-term-requires-3 c κs =
+    let g = c .before .before .before .before .before .before .args in
+    let page = now (g .page) in
+    let x = term (g .s) (toZ w16 (ofZ w16 (g .e))) in
+    let l = c .before .loop in
+    let z = placing-count page (g .t2) x (l .v) (l .j) (l .inv) in omega (arith, z, l .inv .j-in, c .before .before .before .before .before .before .pre .1)
+
+returns-2 : tie.Need-returns-2 Inv-loop μ-loop
+returns-2 c =
+    let g = c .before .before .before .before .before .before .before .args in
+    let page = now (g .page) in
+    let x = term (g .s) (toZ w16 (ofZ w16 (g .e))) in
+    let l = c .before .before .loop in
+    placing-end page (g .t2) x (l .v) (l .j) (l .inv) (c .before .loop-test .left) (c .with-term3 .result)
+    (c .with-term3 .ensures .1)
+    ∙ ap (λ z. unitOf (place page (term (g .s) z) (termsOf (g .t2)))) (toZ-ofZ (c .before .before .before .before .before .before .before .fits .e))
+
+pub placed-spec : {M : Type 1} → statement M
+placed-spec =
+    tie.close
+    (tie.spec
+    Inv-loop
+    μ-loop
+    index-requires
+    name-of-requires
+    dimensionless-requires
+    loop-holds
+    element-copy-out-t
+    index-requires-2
+    name-of-requires-2
+    is-before-requires
+    with-term-requires
+    with-rest-requires
+    returns
+    mul-with-term
+    element-copy-out-with-term
+    with-term-requires-2
+    add-j
+    loop-less
+    loop-again
+    with-term-requires-3
+    returns-2)

@@ -1,0 +1,36 @@
+//! Document 01's limits, and its numbers for the refusals used so far.
+
+pub const MAX_NAMES: usize = 256;
+pub const MAX_NAME_BYTES: usize = 31;
+pub const MAX_SYMBOLS: usize = 8;
+pub const MAX_EXPONENT: i32 = 1000;
+
+/// Count byte, then a symbol byte and two exponent bytes for each symbol.
+pub const UNIT_BYTES: usize = 1 + 3 * MAX_SYMBOLS;
+
+/// `1/`, then eight of the longest names, each with `^1000`, and seven `*`.
+pub const TEXT_BYTES: usize = 2 + MAX_SYMBOLS * (MAX_NAME_BYTES + 5) + (MAX_SYMBOLS - 1);
+
+/// The unit bytes that say "no unit".
+pub const NO_UNIT: [u8; 1] = [255];
+
+/// What `find_name` answers where the table has no such name.
+pub const ABSENT: u32 = 65_535;
+
+/// A number of document 01's table of refusals.
+pub type Refusal = u32;
+
+/// A lent table breaks its form.
+pub const BROKEN_TABLE: Refusal = 2;
+/// A name number not in use.
+pub const NOT_IN_USE: Refusal = 3;
+/// A name malformed.
+pub const MALFORMED_NAME: Refusal = 4;
+/// A unit's form broken.
+pub const BROKEN_UNIT: Refusal = 5;
+/// A result exponent outside ±1,000.
+pub const EXPONENT_TOO_LARGE: Refusal = 8;
+/// A result with nine symbols or more.
+pub const TOO_MANY_SYMBOLS: Refusal = 9;
+/// One more name than the limit, or than the lent page holds.
+pub const NO_ROOM: Refusal = 10;

@@ -1,0 +1,118 @@
+//! The stored sample: chosen questions for every rule and refusal, then some
+//! random ones, each with the answer of the oracle or the model.
+
+pub mod names;
+pub mod rows;
+pub mod units;
+
+use crate::call::{Call, Question};
+use crate::expected::expected;
+use crate::inputs;
+use crate::random::Random;
+use rows::Row;
+use std::collections::{BTreeMap, BTreeSet};
+
+/// The most bytes that a stored sample may have.
+pub const MAX_BYTES: usize = 60_000;
+
+/// A random question larger than this is left out, since it would crowd out others.
+const MAX_QUESTION: usize = 60;
+
+/// The rows of the sample.
+pub fn rows(seed: u64) -> Vec<Row> {
+    let mut rows = Rows::default();
+    names::chosen().into_iter().for_each(|question| rows.put(question));
+    units::chosen().into_iter().for_each(|question| rows.put(question));
+
+    let random = &mut Random::new(seed);
+    rows.fill(random, 4, inputs::names::empty_names);
+    rows.fill(random, 24, inputs::names::add_name);
+    rows.fill(random, 24, inputs::names::find_name);
+    rows.fill(random, 16, inputs::names::read_name);
+    rows.fill(random, 40, inputs::units::unit_form);
+    rows.fill(random, 52, inputs::units::product);
+    rows.fill(random, 40, inputs::units::exponent);
+    rows.fill(random, 24, inputs::units::is_dimensionless);
+    rows.fill(random, 3, inputs::units::unit_text);
+    rows.rows
+}
+
+/// The sample as it is stored.
+pub fn bytes(rows: &[Row]) -> Vec<u8> {
+    rows.iter().flat_map(Row::bytes).collect()
+}
+
+/// How many rows there are of each call and refusal (0: none).
+pub fn counts(rows: &[Row]) -> BTreeMap<(Call, u32), usize> {
+    let mut counts = BTreeMap::new();
+    for row in rows {
+        *counts.entry((row.question.call, row.answer.refusal)).or_default() += 1;
+    }
+    counts
+}
+
+/// The rows so far, no question twice.
+#[derive(Default)]
+struct Rows {
+    rows: Vec<Row>,
+    asked: BTreeSet<Question>,
+}
+
+impl Rows {
+    fn put(&mut self, question: Question) {
+        if self.asked.insert(question.clone()) {
+            let answer = expected(&question);
+            self.rows.push(Row { question, answer });
+        }
+    }
+
+    /// Puts `count` more rows of random questions that are small enough.
+    fn fill(&mut self, random: &mut Random, count: usize, question: fn(&mut Random) -> Question) {
+        let wanted = self.rows.len() + count;
+        while self.rows.len() < wanted {
+            let question = question(random);
+            if fits(&question) {
+                self.put(question);
+            }
+        }
+    }
+}
+
+fn fits(question: &Question) -> bool {
+    let size = question.page.len() + question.first.len() + question.second.len();
+    size <= MAX_QUESTION && question.argument <= u16::MAX.into()
+}
+
+#[cfg(test)]
+mod tests {
+    use super::*;
+    use crate::call::all_outcomes;
+
+    fn outcomes(rows: &[Row]) -> BTreeSet<(Call, u32)> {
+        counts(rows).into_keys().collect()
+    }
+
+    #[test]
+    fn a_seed_gives_one_sample_and_it_is_read_back() {
+        for seed in 0..20 {
+            let rows = rows(seed);
+            let bytes = bytes(&rows);
+            assert_eq!(bytes, super::bytes(&super::rows(seed)));
+            assert!(bytes.len() <= MAX_BYTES, "{} bytes", bytes.len());
+            assert!((600..=1_200).contains(&rows.len()), "{} rows", rows.len());
+            assert_eq!(outcomes(&rows), all_outcomes());
+            assert_eq!(rows::read_rows(&bytes), Some(rows));
+            assert_eq!(rows::read_rows(&bytes[..bytes.len() - 1]), None);
+        }
+    }
+
+    #[test]
+    fn every_outcome_has_a_chosen_row() {
+        let mut chosen = Rows::default();
+        names::chosen()
+            .into_iter()
+            .chain(units::chosen())
+            .for_each(|question| chosen.put(question));
+        assert_eq!(outcomes(&chosen.rows), all_outcomes());
+    }
+}

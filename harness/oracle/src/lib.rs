@@ -1,0 +1,5 @@
+//! The oracle: rl-checker's own files, unchanged, as modules of this crate.
+//!
+//! `build.rs` finds them in the folder that `RL_CHECKER_SRC` names.
+
+include!(concat!(env!("OUT_DIR"), "/modules.rs"));
