@@ -1,12 +1,11 @@
 -- A number in decimal, by how many digits it has: one law for each return of `decimal`. Assumes nothing.
-use mathlib.Core.Path.{_≡_, refl, sym, _∙_, ap}
-use mathlib.Core.List.{List, [], _∷_, _++_}
-use Prim.Native.Nat.{ℕ, zero, suc, _+_, _/_, _%_, _<_, _≤_}
+use mathlib.Core.Path.{_≡_, sym, _∙_}
+use mathlib.Core.List.{[], _∷_, _++_}
+use Prim.Native.Nat.{ℕ, suc, _+_, _/_, _%_, _<_, _≤_}
 use native.Mathlib.Decide.{decLt}
 use native.Mathlib.Omega.{arith}
 use lib.ListN.{length}
 use borrow.Author.Tests.{lt-ltb, le-ltb}
-use Rattle.pages.specs.Bytes.{put}
 use Rattle.digits.specs.Decimal.{digitsMax, decimalMax, digitOf, digits, decimalOf}
 
 -- ---- by how many digits there is room for
@@ -81,7 +80,3 @@ module _ (n : ℕ) where
         | yes a ↦ let z = decimal-short a in omega arith
         | no a ↦ rw (← decimal-5 (omega arith) h) (omega arith)
       ]
-
--- what was written is the text meant
-pub spelled : (o : List ℕ) (at : ℕ) (t u : List ℕ) (r : ℕ) (p : List ℕ) → t ≡ u → (r ≡ at + length t) × (p ≡ put o at t) → (r ≡ at + length u) × (p ≡ put o at u)
-spelled o at t u r p e h = (h .0 ∙ rw e, h .1 ∙ rw e)

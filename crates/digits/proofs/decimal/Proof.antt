@@ -5,7 +5,8 @@ use native.Mathlib.Omega.{arith}
 use lib.ListN.{length}
 use borrow.Author.Needs.{needs}
 use Rattle.digits.specs.Decimal.{decimalOf}
-use Rattle.digits.proofs.Digits.{decimal-1, decimal-2, decimal-3, decimal-4, decimal-5, spelled}
+use Rattle.digits.proofs.Digits.{decimal-1, decimal-2, decimal-3, decimal-4, decimal-5}
+use Rattle.digits.proofs.Wrote.{spelled}
 use Rattle.digits.proofs.decimal.Statement.{statement}
 use Rattle.digits.proofs.decimal.Tie as tie
 

@@ -1,0 +1,139 @@
+-- `text::write_side` meets its contract. The invariant is `Writing`. Assumes nothing.
+use mathlib.Core.Path.{_≡_, sym, ap, _∙_}
+use Prim.Native.Nat.{_-_}
+use native.Mathlib.Omega.{arith}
+use denote.Ref.{now}
+use borrow.Author.Needs.{needs}
+use Rattle.units.proofs.Signed.{back}
+use Rattle.units.proofs.Form.{expAt}
+use Rattle.units.proofs.Held.{placesOf}
+use Rattle.text.specs.Text.{stands}
+use Rattle.text.proofs.Power.{separator-short}
+use Rattle.text.proofs.Sides.{Writing, writing-start, writing-length, here-used, here-inside, here-room, writing-on, writing-off, writing-end}
+use Rattle.text.proofs.write_side.Statement.{statement}
+use Rattle.text.proofs.write_side.Tie as tie
+
+abbrev Inv-loop : tie.InvT-loop
+Inv-loop out₀ start page above v n at₀ i₀ out at i = Writing page above (placesOf v) out₀ start out at i
+
+abbrev μ-loop : tie.MeasureT-loop
+μ-loop out₀ start page above v n at₀ i₀ out at i = n - i
+
+-- What the test says, of the number and not of its bits.
+on-is : (c : tie.After-is-on Inv-loop μ-loop) → c .is-on .result ≡ stands (c .before .before .before .before .before .before .args .above) (expAt (placesOf (c .before .before .before .before .before .before .args .t4)) (c .before .before .before .loop .i))
+on-is c =
+    let g = c .before .before .before .before .before .before .args in
+    c .is-on .ensures ∙ ap (stands (g .above)) (back (expAt (placesOf (g .t4)) (c .before .before .before .loop .i)) (c .before .e .given))
+
+loop-holds : tie.Need-loop-holds Inv-loop μ-loop
+loop-holds c =
+    let g = c .before .before in
+    writing-start (now (g .args .page)) (g .args .above) (placesOf (g .args .t4)) (now (g .args .out)) (g .args .start) (g .pre .1) (record { used = g .pre .0 .used; inside = g .pre .0 .inside })
+
+mul-e : tie.Need-mul-e Inv-loop μ-loop
+mul-e c = search needs
+
+element-copy-out-e : tie.Need-element-copy-out-e Inv-loop μ-loop
+element-copy-out-e c = search needs
+
+is-on-requires : tie.Need-is-on-requires Inv-loop μ-loop
+is-on-requires c κs = search needs
+
+write-separator-requires : tie.Need-write-separator-requires Inv-loop μ-loop
+write-separator-requires c κs =
+    let g = c .before .before .before .before .before .before .before .before .args in
+    let l = c .before .before .before .before .before .loop in
+    let w = writing-length (now (g .page)) (g .above) (placesOf (g .t4)) (now (g .out)) (g .start) (l .out) (l .at) (l .i) (l .inv) in
+    let r = here-room (now (g .page)) (g .above) (placesOf (g .t4)) (now (g .out)) (g .start) (l .out) (l .at) (l .i) (l .inv) (c .before .before .before .before .loop-test .taken) (sym (on-is (c .before .before)) ∙ c .before .if1 .taken) in
+    omega (arith, w, r)
+
+element-copy-out-index : tie.Need-element-copy-out-index Inv-loop μ-loop
+element-copy-out-index c = search needs
+
+index-requires : tie.Need-index-requires Inv-loop μ-loop
+index-requires c κs = search needs
+
+name-of-requires : tie.Need-name-of-requires Inv-loop μ-loop
+name-of-requires c κs =
+    let g = c .before .before .before .before .before .before .before .before .before .before .before .before .before .before .args in
+    let l = c .before .before .before .before .before .before .before .before .before .before .before .loop in
+    (c .before .before .before .before .before .before .before .before .before .before .before .before .before .before .pre .0 .form, rw (c .index .ensures .0) (here-used (now (g .page)) (g .above) (placesOf (g .t4)) (now (g .out)) (g .start) (l .out) (l .at) (l .i) (l .inv) (c .before .before .before .before .before .before .before .before .before .before .loop-test .taken)))
+
+size-requires : tie.Need-size-requires Inv-loop μ-loop
+size-requires c κs =
+    let g = c .before .before .before .before .before .before .before .before .before .before .before .before .before .before .before .args in
+    let l = c .before .before .before .before .before .before .before .before .before .before .before .before .loop in
+    rw (back (expAt (placesOf (g .t4)) (l .i)) (c .before .before .before .before .before .before .before .before .before .before .e .given)) (here-inside (now (g .page)) (g .above) (placesOf (g .t4)) (now (g .out)) (g .start) (l .out) (l .at) (l .i) (l .inv) (c .before .before .before .before .before .before .before .before .before .before .before .loop-test .taken))
+
+write-power-requires : tie.Need-write-power-requires Inv-loop μ-loop
+write-power-requires c κs =
+    let g = c .before .before .before .before .before .before .before .before .before .before .before .before .before .before .before .before .args in
+    let l = c .before .before .before .before .before .before .before .before .before .before .before .before .before .loop in
+    let w = writing-length (now (g .page)) (g .above) (placesOf (g .t4)) (now (g .out)) (g .start) (l .out) (l .at) (l .i) (l .inv) in
+    let r = here-room (now (g .page)) (g .above) (placesOf (g .t4)) (now (g .out)) (g .start) (l .out) (l .at) (l .i) (l .inv) (c .before .before .before .before .before .before .before .before .before .before .before .before .loop-test .taken) (sym (on-is (c .before .before .before .before .before .before .before .before .before .before)) ∙ c .before .before .before .before .before .before .before .before .before .if1 .taken) in
+    let z = c .before .before .before .before .before .before .before .write-separator .ensures (l .inv .text) (l .inv .wrote .0) in
+    let y = separator-short (g .above) (l .inv .text) in
+    (c .before .name-of .ensures .2, c .size .ensures .1, omega (arith, w, r, z .0, y, c .before .before .before .before .before .before .before .write-separator .kept .0))
+
+add-i : tie.Need-add-i Inv-loop μ-loop
+add-i c = search needs
+
+loop-less : tie.Need-loop-less Inv-loop μ-loop
+loop-less c = search needs
+
+loop-again : tie.Need-loop-again Inv-loop μ-loop
+loop-again c =
+    let g = c .before .before .before .before .before .before .before .before .before .before .before .before .before .before .before .before .before .before .before .args in
+    let l = c .before .before .before .before .before .before .before .before .before .before .before .before .before .before .before .before .loop in
+    writing-on (now (g .page)) (g .above) (placesOf (g .t4)) (now (g .out)) (g .start) (l .out) (l .at) (l .i) (l .inv) (c .before .before .before .before .before .before .before .before .before .before .before .before .before .before .before .loop-test .taken) (sym (on-is (c .before .before .before .before .before .before .before .before .before .before .before .before .before)) ∙ c .before .before .before .before .before .before .before .before .before .before .before .before .if1 .taken) (c .before .before .before .before .before .before .before .before .before .before .before .before .before .before .before .before .before .before .before .pre .0 .form) _ _ _ _
+    (c .before .before .before .before .before .before .before .before .before .before .write-separator .ensures (l .inv .text) (l .inv .wrote .0))
+    (rw (c .before .before .before .before .name-of .ensures .0, c .before .before .before .before .before .index .ensures .0, c .before .before .before .size .ensures .0, back (expAt (placesOf (g .t4)) (l .i)) (c .before .before .before .before .before .before .before .before .before .before .before .before .before .before .e .given)) at (c .before .before .write-power .ensures))
+
+add-i-2 : tie.Need-add-i-2 Inv-loop μ-loop
+add-i-2 c = search needs
+
+loop-less-2 : tie.Need-loop-less-2 Inv-loop μ-loop
+loop-less-2 c = search needs
+
+loop-again-2 : tie.Need-loop-again-2 Inv-loop μ-loop
+loop-again-2 c =
+    let g = c .before .before .before .before .before .before .before .args in
+    let l = c .before .before .before .before .loop in
+    writing-off (now (g .page)) (g .above) (placesOf (g .t4)) (now (g .out)) (g .start) (l .out) (l .at) (l .i) (l .inv) (c .before .before .before .loop-test .taken) (sym (on-is (c .before)) ∙ c .if1 .left)
+
+same-length : tie.Need-same-length Inv-loop μ-loop
+same-length c =
+    let g = c .before .before .before .before .args in
+    let l = c .before .loop in
+    writing-length (now (g .page)) (g .above) (placesOf (g .t4)) (now (g .out)) (g .start) (l .out) (l .at) (l .i) (l .inv)
+
+returns : tie.Need-returns Inv-loop μ-loop
+returns c =
+    let g = c .before .before .before .before .args in
+    let l = c .before .loop in
+    writing-end (now (g .page)) (g .above) (placesOf (g .t4)) (now (g .out)) (g .start) (l .out) (l .at) (l .i) (l .inv) (c .loop-test .left)
+
+pub write-side-spec : {M : Type 1} → statement M
+write-side-spec =
+    tie.close
+    (tie.spec
+    Inv-loop
+    μ-loop
+    loop-holds
+    mul-e
+    element-copy-out-e
+    is-on-requires
+    write-separator-requires
+    element-copy-out-index
+    index-requires
+    name-of-requires
+    size-requires
+    write-power-requires
+    add-i
+    loop-less
+    loop-again
+    add-i-2
+    loop-less-2
+    loop-again-2
+    same-length
+    returns)
