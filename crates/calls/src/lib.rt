@@ -3,8 +3,8 @@
 use names::Added;
 use names::Found;
 use names::NAME_BYTES;
-use refusals::Refusal;
 use refusals::Verdict;
+use text::TEXT_BYTES;
 use units::PLACES;
 use units::Power;
 use units::Unit;
@@ -15,6 +15,7 @@ ghost use Rattle.pages.specs.Pad.{pad};
 ghost use Rattle.refusals.specs.declared.Verdict.{Verdict};
 ghost use Rattle.names.specs.Calls.{emptyVerdict, emptyPage, addAnswer, pageAfter, findAnswer, readAnswer};
 ghost use Rattle.units.specs.Calls.{termsOf, formVerdict, productAnswer, exponentAnswer};
+ghost use Rattle.text.specs.Calls.{textAnswer};
 ghost use Rattle.values.specs.Value.{unitMax, unitBytes};
 ghost use Rattle.calls.specs.Codes.{packed, addedCode, foundCode, powerCode, unitlessCode, brokenUnit, unitOrBroken, unitlessIn};
 
@@ -147,4 +148,16 @@ pub extern "C" fn riddlepoppy_is_dimensionless(bytes: &[u8]) -> u32
         Unitless::No => packed_as(Verdict::Passed, 0),
         Unitless::Refused(r) => packed_as(Verdict::Refused(r), 0),
     }
+}
+
+// The text of a unit, and its length.
+#[no_mangle]
+pub extern "C" fn riddlepoppy_unit_text(page: &[u8], unit: &[u8], out: &mut [u8; TEXT_BYTES]) -> u32
+    ensures { λ r. ⌜ (r ≡ packed (textAnswer (now (page .entry)) (unitOrBroken (now (unit .entry))) .verdict) (textAnswer (now (page .entry)) (unitOrBroken (now (unit .entry))) .length)) × (now (out .exit) ≡ textAnswer (now (page .entry)) (unitOrBroken (now (unit .entry))) .bytes) ⌝ }
+{
+    let text = text::unit_text(page, unit_or_broken(unit));
+    let bytes = text.bytes;
+    *out = bytes;
+    let verdict = text.verdict;
+    packed_as(verdict, text.length)
 }

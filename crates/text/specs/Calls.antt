@@ -15,7 +15,7 @@ use Rattle.pages.specs.Pad.{pad}
 use Rattle.names.specs.Table as names
 use Rattle.units.specs.Unit as units
 use Rattle.units.specs.Product.{anyOutside}
-use Rattle.units.specs.Calls.{terms, termsOf}
+use Rattle.units.specs.Calls.{termsOf}
 use Rattle.units.specs.declared.Unit.{Unit}
 use Rattle.order.specs.Order.{inUse}
 use Rattle.text.specs.Text.{stands, unitText}
@@ -33,9 +33,9 @@ powerMax = names.nameMax + exponentDigits + 2
 abbrev pub textMax : ℕ
 textMax = 1 + units.placesMax * powerMax
 
--- the terms that are there to look at, also of a unit whose count is past its places
+-- the terms whose symbols are looked up: a unit with more symbols than places says none
 abbrev pub present : Unit → List units.Term
-present u = terms (cond (leb (u .count) units.placesMax) (u .count) units.placesMax) 0 (u .symbols) (u .exponents)
+present u = cond (leb (u .count) units.placesMax) (termsOf u) []
 
 -- how many terms stand on a side
 abbrev pub countOn : Bool → List units.Term → ℕ

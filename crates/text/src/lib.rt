@@ -137,16 +137,16 @@ fn no_text(refusal: Refusal) -> Text
     }
 }
 
-// Whether every symbol that the unit has room for is the number of one of n names.
+// Whether every symbol is the number of one of n names; a unit with more symbols than places says none.
 fn is_used(u: Unit, n: usize) -> bool
     ensures { λ r. ⌜ r ≡ inUse n (present u) ⌝ }
 {
     let k = u.count;
+    if PLACES < k {
+        return true;
+    }
     let mut i: usize = 0;
-    while i < PLACES {
-        if k <= i {
-            return true;
-        }
+    while i < k {
         if n <= index(u.symbols[i]) {
             return false;
         }

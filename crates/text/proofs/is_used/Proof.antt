@@ -1,8 +1,7 @@
 -- `text::is_used` meets its contract. The invariant is `Looking`. Assumes nothing.
 use Prim.Native.Nat.{_-_}
 use borrow.Author.Needs.{needs}
-use Rattle.units.specs.Unit.{placesMax}
-use Rattle.text.proofs.Used.{Looking, looking-start, looked-all, looked-full, looked-unused, looking-next}
+use Rattle.text.proofs.Used.{looked-none, Looking, looking-start, looked-all, looked-unused, looking-next}
 use Rattle.text.proofs.is_used.Statement.{statement}
 use Rattle.text.proofs.is_used.Tie as tie
 
@@ -10,13 +9,13 @@ abbrev Inv-loop : tie.InvT-loop
 Inv-loop n u k i₀ i = Looking n u i
 
 abbrev μ-loop : tie.MeasureT-loop
-μ-loop n u k i₀ i = placesMax - i
-
-loop-holds : tie.Need-loop-holds Inv-loop μ-loop
-loop-holds c = looking-start (c .args .n) (c .args .t1)
+μ-loop n u k i₀ i = k - i
 
 returns : tie.Need-returns Inv-loop μ-loop
-returns c = looked-all (c .before .before .before .args .n) (c .before .before .before .args .t1) (c .before .before .loop .i) (c .before .before .loop .inv) (c .if1 .taken)
+returns c = looked-none (c .before .args .n) (c .before .args .t1) (c .if1 .taken)
+
+loop-holds : tie.Need-loop-holds Inv-loop μ-loop
+loop-holds c = looking-start (c .before .args .n) (c .before .args .t1) (c .if1 .left)
 
 element-copy-out-index : tie.Need-element-copy-out-index Inv-loop μ-loop
 element-copy-out-index c = search needs
@@ -25,7 +24,7 @@ index-requires : tie.Need-index-requires Inv-loop μ-loop
 index-requires c κs = search needs
 
 returns-2 : tie.Need-returns-2 Inv-loop μ-loop
-returns-2 c = looked-unused (c .before .before .before .before .before .before .args .n) (c .before .before .before .before .before .before .args .t1) (c .before .before .before .before .before .loop .i) (c .before .before .before .before .before .loop .inv) (c .before .before .before .if1 .left) (c .before .before .before .before .loop-test .taken) (rw (c .before .index .ensures .0) at (c .if2 .taken))
+returns-2 c = looked-unused (c .before .before .before .before .before .before .args .n) (c .before .before .before .before .before .before .args .t1) (c .before .before .before .before .loop .i) (c .before .before .before .before .loop .inv) (c .before .before .before .loop-test .taken) (rw (c .before .index .ensures .0) at (c .if2 .taken))
 
 add-i : tie.Need-add-i Inv-loop μ-loop
 add-i c = search needs
@@ -34,10 +33,10 @@ loop-less : tie.Need-loop-less Inv-loop μ-loop
 loop-less c = search needs
 
 loop-again : tie.Need-loop-again Inv-loop μ-loop
-loop-again c = looking-next (c .before .before .before .before .before .before .args .n) (c .before .before .before .before .before .before .args .t1) (c .before .before .before .before .before .loop .i) (c .before .before .before .before .before .loop .inv) (c .before .before .before .if1 .left) (c .before .before .before .before .loop-test .taken) (rw (c .before .index .ensures .0) at (c .if2 .left))
+loop-again c = looking-next (c .before .before .before .before .before .before .args .n) (c .before .before .before .before .before .before .args .t1) (c .before .before .before .before .loop .i) (c .before .before .before .before .loop .inv) (c .before .before .before .loop-test .taken) (rw (c .before .index .ensures .0) at (c .if2 .left))
 
 returns-3 : tie.Need-returns-3 Inv-loop μ-loop
-returns-3 c = looked-full (c .before .before .args .n) (c .before .before .args .t1) (c .before .loop .i) (c .before .loop .inv) (c .loop-test .left)
+returns-3 c = looked-all (c .before .before .before .args .n) (c .before .before .before .args .t1) (c .before .loop .i) (c .before .loop .inv) (c .loop-test .left)
 
 pub is-used-spec : {M : Type 1} → statement M
 is-used-spec =
@@ -45,8 +44,8 @@ is-used-spec =
     (tie.spec
     Inv-loop
     μ-loop
-    loop-holds
     returns
+    loop-holds
     element-copy-out-index
     index-requires
     returns-2

@@ -49,11 +49,7 @@ pub fn ask(question: &Question) -> Result<Answer, String> {
         page.unchanged("page", &question.page)?;
         Vec::new()
     };
-    let (refusal, value) = if question.call.returns_refusal_alone() {
-        (returned, 0)
-    } else {
-        (returned >> 16, returned & 0xFFFF)
-    };
+    let (refusal, value) = (returned >> 16, returned & 0xFFFF);
     Ok(Answer { refusal, value, out: out.bytes("out")?, page: page_afterwards })
 }
 
