@@ -76,10 +76,6 @@ impl Call {
         matches!(self, Call::EmptyNames | Call::AddName)
     }
 
-    /// Whether the call returns a refusal alone, and not 65536 * refusal + value.
-    pub fn returns_refusal_alone(self) -> bool {
-        matches!(self, Call::EmptyNames | Call::UnitForm | Call::Product)
-    }
 }
 
 /// All that a call is given. A part that the call does not have is empty or 0.
