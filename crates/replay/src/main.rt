@@ -1,0 +1,193 @@
+// Replays the stored sample of the oracle's answers (harness/README.md has its format): each row is asked of the entry calls,
+// and what they answer is compared with what the oracle answered.
+use pages::index;
+use pages::same;
+ghost use Prim.Native.Nat.{_+_, _≤_, _<_};
+ghost use lib.ListN.{length};
+
+// How many bytes a row's page has at most.
+const PAGE_BYTES: usize = 8192;
+
+// A part of a row.
+struct Span {
+    start: usize,
+    end: usize,
+}
+
+// How many rows there were, and how many were answered otherwise.
+struct Tally {
+    rows: usize,
+    differ: usize,
+}
+
+// The two bytes at an index, as a number.
+fn word(s: &[u8], at: usize) -> usize
+    requires { ⌜ at + 2 ≤ length (now s) ⌝ }
+    ensures { λ r. ⌜ r < 65536 ⌝ }
+{
+    index(s[at]) * 256 + index(s[at + 1])
+}
+
+// The bytes of the field at an index, which follow its length; what is cut ends with the slice.
+fn field(s: &[u8], at: usize) -> Span
+    requires { ⌜ at ≤ length (now s) ⌝ }
+    ensures { λ r. ⌜ (r .start ≤ r .end) × (r .end ≤ length (now (s .entry))) × (at < length (now (s .entry)) → at < r .end) ⌝ }
+{
+    let n = s.len();
+    if n - at < 2 {
+        return Span { start: n, end: n };
+    }
+    let start = at + 2;
+    let size = word(s, at);
+    if n - start < size {
+        return Span { start, end: n };
+    }
+    Span {
+        start,
+        end: start + size,
+    }
+}
+
+// A call that writes the page that it is lent: empty_names or, with a name, add_name.
+fn is_page_same(call: u8, page: &mut [u8], name: &[u8], code: usize, after: &[u8]) -> bool {
+    if call == 1 {
+        if calls::riddlepoppy_empty_names(page) as usize != code {
+            return false;
+        }
+        return same(page, after);
+    }
+    if calls::riddlepoppy_add_name(page, name) as usize != code {
+        return false;
+    }
+    same(page, after)
+}
+
+// The same on a copy of the row's page.
+fn is_copy_same(call: u8, page: &[u8], name: &[u8], code: usize, after: &[u8]) -> bool {
+    let n = page.len();
+    if PAGE_BYTES < n {
+        return false;
+    }
+    let mut copy = [0u8; PAGE_BYTES];
+    pages::put_bytes(&mut copy, 0, page);
+    is_page_same(call, &mut copy[..n], name, code, after)
+}
+
+fn is_name(name: &[u8; names::NAME_BYTES], out: &[u8]) -> bool {
+    same(name, out)
+}
+
+fn is_name_same(page: &[u8], k: usize, code: usize, out: &[u8]) -> bool
+    requires { ⌜ k < 65536 ⌝ }
+{
+    let mut name = [0u8; names::NAME_BYTES];
+    if calls::riddlepoppy_read_name(page, k as u32, &mut name) as usize != code {
+        return false;
+    }
+    is_name(&name, out)
+}
+
+fn is_unit(unit: &[u8; values::UNIT_BYTES], out: &[u8]) -> bool {
+    same(unit, out)
+}
+
+fn is_product_same(a: &[u8], b: &[u8], quotient: bool, code: usize, out: &[u8]) -> bool {
+    let mut unit = [0u8; values::UNIT_BYTES];
+    if calls::riddlepoppy_product(a, b, quotient, &mut unit) as usize != code {
+        return false;
+    }
+    is_unit(&unit, out)
+}
+
+fn is_text(text: &[u8; text::TEXT_BYTES], out: &[u8]) -> bool {
+    same(text, out)
+}
+
+fn is_text_same(page: &[u8], unit: &[u8], code: usize, out: &[u8]) -> bool {
+    let mut text = [0u8; text::TEXT_BYTES];
+    if calls::riddlepoppy_unit_text(page, unit, &mut text) as usize != code {
+        return false;
+    }
+    is_text(&text, out)
+}
+
+// A call that answers a number and writes nothing.
+fn is_number_same(call: u8, page: &[u8], first: &[u8], argument: usize, code: usize) -> bool {
+    let got = match call {
+        3 => calls::riddlepoppy_find_name(page, first),
+        5 => calls::riddlepoppy_unit_form(first),
+        7 => calls::riddlepoppy_exponent(first, (argument % 256) as u8),
+        _ => calls::riddlepoppy_is_dimensionless(first),
+    };
+    got as usize == code
+}
+
+// Whether a call answers what the end of its row says: the refusal, the value, what it wrote, and the page afterwards.
+fn is_answered(call: u8, argument: usize, page: &[u8], first: &[u8], second: &[u8], answer: &[u8]) -> bool
+    requires { ⌜ argument < 65536 ⌝ }
+{
+    if answer.len() < 3 {
+        return false;
+    }
+    let code = index(answer[0]) * 65536 + word(answer, 1);
+    let out = field(answer, 3);
+    let start = out.start;
+    let end = out.end;
+    let after = field(answer, end);
+    let from = after.start;
+    let to = after.end;
+    match call {
+        1 | 2 => is_copy_same(call, page, first, code, &answer[from..to]),
+        4 => is_name_same(page, argument, code, &answer[start..end]),
+        6 => is_product_same(first, second, argument == 1, code, &answer[start..end]),
+        9 => is_text_same(page, first, code, &answer[start..end]),
+        _ => is_number_same(call, page, first, argument, code),
+    }
+}
+
+// Whether a row's call answers what the row says: the call, its argument, a page and two more inputs, and the answer.
+fn is_same(row: &[u8]) -> bool {
+    if row.len() < 3 {
+        return false;
+    }
+    let call = row[0];
+    let argument = word(row, 1);
+    let page = field(row, 3);
+    let p = page.start;
+    let q = page.end;
+    let first = field(row, q);
+    let a = first.start;
+    let b = first.end;
+    let second = field(row, b);
+    let c = second.start;
+    let d = second.end;
+    is_answered(call, argument, &row[p..q], &row[a..b], &row[c..d], &row[d..])
+}
+
+// Replays every row.
+fn replayed(sample: &[u8]) -> Tally {
+    let mut rows: usize = 0;
+    let mut differ: usize = 0;
+    let mut at: usize = 0;
+    while at < sample.len() {
+        let row = field(sample, at);
+        let start = row.start;
+        let end = row.end;
+        rows += 1;
+        at = end;
+        if !is_same(&sample[start..end]) {
+            differ += 1;
+        }
+    }
+    Tally { rows, differ }
+}
+
+fn main() {
+    let mut sample = io::large_buffer();
+    let n = io::read_full(libc::STDIN_FILENO, &mut sample);
+    let tally = replayed(&sample[..n]);
+    io::print_decimal(libc::STDOUT_FILENO, tally.rows as u64);
+    io::write_all(libc::STDOUT_FILENO, b" rows, ");
+    io::print_decimal(libc::STDOUT_FILENO, tally.differ as u64);
+    io::write_all(libc::STDOUT_FILENO, b" differ\n");
+}
