@@ -1,6 +1,6 @@
 -- The answers of the entry calls as numbers, for callers in other languages: the refusal's number (0 for none) in the upper
 -- half, the value's sixteen bits in the lower.
-use mathlib.Core.Bool.{cond}
+use mathlib.Core.Bool.{Bool, cond}
 use mathlib.Core.List.{List, []}
 use Prim.Native.Nat.{ℕ, _+_, _*_, _%_}
 use lib.IntN.{pos}
@@ -12,15 +12,17 @@ use Rattle.names.specs.declared.Added.{Added}
 use Rattle.names.specs.declared.Added.the-variants as added
 use Rattle.names.specs.declared.Found.{Found}
 use Rattle.names.specs.declared.Found.the-variants as found
-use Rattle.names.specs.declared.Name.{Name}
 use Rattle.units.specs.Unit.{placesMax}
-use Rattle.units.specs.Calls.{unitlessAnswer}
+use Rattle.units.specs.Calls.{termsOf, productAnswer, unitlessAnswer}
 use Rattle.units.specs.declared.Unit.{Unit}
 use Rattle.units.specs.declared.Power.{Power}
 use Rattle.units.specs.declared.Power.the-variants as power
 use Rattle.units.specs.declared.Unitless.{Unitless}
 use Rattle.units.specs.declared.Unitless.the-variants as unitless
-use Rattle.values.specs.Value.{rawOf, valueVerdict, unitIn}
+use Rattle.units.specs.declared.UnitResult.{UnitResult}
+use Rattle.text.specs.Calls.{textAnswer}
+use Rattle.text.specs.declared.Text.{Text}
+use Rattle.values.specs.Value.{rawOf, unitMax, unitBytes, valueVerdict, unitIn}
 
 abbrev pub packed : Verdict → ℕ → ℕ
 packed v n = codeOf v * 65536 + n % 65536
@@ -53,14 +55,26 @@ unitlessCode (unitless.Refused r) = packed (Refused r) 0
 abbrev pub brokenUnit : Unit
 brokenUnit = record { count = placesMax + 1; symbols = pad placesMax 0 []; exponents = pad placesMax (pos 0) [] }
 
--- the unit that the bytes say; bytes that say none break a unit's form
+-- the unit that the bytes say; where they say "no unit", or nothing that can be read, one that breaks its form
 unfoldable pub unitOrBroken : List ℕ → Unit
 unitOrBroken bytes = cond (unitIn bytes .some) (unitIn bytes .unit) brokenUnit
 
--- unitless or not, of bytes that say a unit or none
-abbrev pub unlessRefused : Verdict → Unitless → Unitless
-unlessRefused Passed answer = answer
-unlessRefused (Refused r) answer = Unitless.Refused r
+abbrev pub answeredOr : Verdict → Unitless → Unitless
+answeredOr Passed answer = answer
+answeredOr (Refused r) answer = Unitless.Refused r
 
+-- unitless or not, of bytes that say a unit or none
 unfoldable pub unitlessIn : List ℕ → Unitless
-unitlessIn bytes = unlessRefused (valueVerdict bytes) (unitlessAnswer (unitIn bytes))
+unitlessIn bytes = answeredOr (valueVerdict bytes) (unitlessAnswer (unitIn bytes))
+
+-- the product or quotient of the units that two slices say
+abbrev pub productIn : Bool → List ℕ → List ℕ → UnitResult
+productIn quotient a b = productAnswer quotient (unitOrBroken a) (unitOrBroken b)
+
+-- the text of the unit that a slice says
+abbrev pub textIn : List ℕ → List ℕ → Text
+textIn page bytes = textAnswer page (unitOrBroken bytes)
+
+-- a unit's bytes, and zeros after them
+abbrev pub bytesOfUnit : Unit → List ℕ
+bytesOfUnit u = pad unitMax 0 (unitBytes (termsOf u))

@@ -11,13 +11,13 @@ use units::Unit;
 use units::Unitless;
 use values::UNIT_BYTES;
 ghost use mathlib.Core.Path.{_≡_};
-ghost use Rattle.pages.specs.Pad.{pad};
-ghost use Rattle.refusals.specs.declared.Verdict.{Verdict};
+ghost use Rattle.refusals.specs.Lowest.{unlessRefused};
 ghost use Rattle.names.specs.Calls.{emptyVerdict, emptyPage, addAnswer, pageAfter, findAnswer, readAnswer};
-ghost use Rattle.units.specs.Calls.{termsOf, formVerdict, productAnswer, exponentAnswer};
-ghost use Rattle.text.specs.Calls.{textAnswer};
-ghost use Rattle.values.specs.Value.{unitMax, unitBytes};
-ghost use Rattle.calls.specs.Codes.{packed, addedCode, foundCode, powerCode, unitlessCode, brokenUnit, unitOrBroken, unitlessIn};
+ghost use Rattle.units.specs.Calls.{formVerdict, exponentAnswer};
+ghost use Rattle.calls.specs.Codes.{packed, addedCode, foundCode, powerCode, unitlessCode, brokenUnit, unitOrBroken, unitlessIn, productIn, textIn, bytesOfUnit};
+
+// What a name that the table does not have is answered with, which is no name's number.
+pub const ABSENT: usize = 65535;
 
 // A verdict and a value as one number.
 fn packed_as(verdict: Verdict, value: usize) -> u32
@@ -55,7 +55,7 @@ pub extern "C" fn riddlepoppy_find_name(page: &[u8], name: &[u8]) -> u32
     let found = names::find_name(page, name);
     match found {
         Found::At(n) => packed_as(Verdict::Passed, n),
-        Found::Absent => packed_as(Verdict::Passed, 65535),
+        Found::Absent => packed_as(Verdict::Passed, ABSENT),
         Found::Refused(r) => packed_as(Verdict::Refused(r), 0),
     }
 }
@@ -63,12 +63,15 @@ pub extern "C" fn riddlepoppy_find_name(page: &[u8], name: &[u8]) -> u32
 // The name with number k, and its length.
 #[no_mangle]
 pub extern "C" fn riddlepoppy_read_name(page: &[u8], k: u32, out: &mut [u8; NAME_BYTES]) -> u32
-    ensures { λ r. ⌜ (r ≡ packed (readAnswer (now (page .entry)) k .verdict) (readAnswer (now (page .entry)) k .length)) × (now (out .exit) ≡ readAnswer (now (page .entry)) k .bytes) ⌝ }
+    ensures { λ r. ⌜ (r ≡ packed (readAnswer (now (page .entry)) k .verdict) (readAnswer (now (page .entry)) k .length)) × (now (out .exit) ≡ unlessRefused (readAnswer (now (page .entry)) k .verdict) (readAnswer (now (page .entry)) k .bytes) (now (out .entry))) ⌝ }
 {
     let name = names::read_name(page, k as usize);
+    let verdict = name.verdict;
+    if refusals::is_refused(verdict) {
+        return packed_as(verdict, name.length);
+    }
     let bytes = name.bytes;
     *out = bytes;
-    let verdict = name.verdict;
     packed_as(verdict, name.length)
 }
 
@@ -110,12 +113,15 @@ pub extern "C" fn riddlepoppy_product(
     quotient: bool,
     out: &mut [u8; UNIT_BYTES],
 ) -> u32
-    ensures { λ r. ⌜ (r ≡ packed (productAnswer quotient (unitOrBroken (now (a .entry))) (unitOrBroken (now (b .entry))) .verdict) 0) × (now (out .exit) ≡ pad unitMax 0 (unitBytes (termsOf (productAnswer quotient (unitOrBroken (now (a .entry))) (unitOrBroken (now (b .entry))) .unit)))) ⌝ }
+    ensures { λ r. ⌜ (r ≡ packed (productIn quotient (now (a .entry)) (now (b .entry)) .verdict) 0) × (now (out .exit) ≡ unlessRefused (productIn quotient (now (a .entry)) (now (b .entry)) .verdict) (bytesOfUnit (productIn quotient (now (a .entry)) (now (b .entry)) .unit)) (now (out .entry))) ⌝ }
 {
     let result = units::product(unit_or_broken(a), unit_or_broken(b), quotient);
+    let verdict = result.verdict;
+    if refusals::is_refused(verdict) {
+        return packed_as(verdict, 0);
+    }
     let unit = result.unit;
     *out = values::value_bytes(unit);
-    let verdict = result.verdict;
     packed_as(verdict, 0)
 }
 
@@ -153,11 +159,14 @@ pub extern "C" fn riddlepoppy_is_dimensionless(bytes: &[u8]) -> u32
 // The text of a unit, and its length.
 #[no_mangle]
 pub extern "C" fn riddlepoppy_unit_text(page: &[u8], unit: &[u8], out: &mut [u8; TEXT_BYTES]) -> u32
-    ensures { λ r. ⌜ (r ≡ packed (textAnswer (now (page .entry)) (unitOrBroken (now (unit .entry))) .verdict) (textAnswer (now (page .entry)) (unitOrBroken (now (unit .entry))) .length)) × (now (out .exit) ≡ textAnswer (now (page .entry)) (unitOrBroken (now (unit .entry))) .bytes) ⌝ }
+    ensures { λ r. ⌜ (r ≡ packed (textIn (now (page .entry)) (now (unit .entry)) .verdict) (textIn (now (page .entry)) (now (unit .entry)) .length)) × (now (out .exit) ≡ unlessRefused (textIn (now (page .entry)) (now (unit .entry)) .verdict) (textIn (now (page .entry)) (now (unit .entry)) .bytes) (now (out .entry))) ⌝ }
 {
     let text = text::unit_text(page, unit_or_broken(unit));
+    let verdict = text.verdict;
+    if refusals::is_refused(verdict) {
+        return packed_as(verdict, text.length);
+    }
     let bytes = text.bytes;
     *out = bytes;
-    let verdict = text.verdict;
     packed_as(verdict, text.length)
 }

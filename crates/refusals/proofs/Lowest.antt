@@ -6,8 +6,8 @@ use mathlib.Core.List.{List, [], _∷_}
 use Prim.Native.Nat.{ℕ}
 use native.Mathlib.Omega.{arith}
 use lib.Dec.{leb}
-use Rattle.refusals.specs.Numbers.{numberOf}
-use Rattle.refusals.specs.Lowest.{Condition, _when_, lower, lowest}
+use Rattle.refusals.specs.Numbers.{numberOf, isRefused}
+use Rattle.refusals.specs.Lowest.{Condition, _when_, lower, lowest, unlessRefused}
 use Rattle.refusals.specs.declared.Refusal.{Refusal}
 use Rattle.refusals.specs.declared.Verdict.{Verdict}
 use Rattle.refusals.specs.declared.Verdict.the-variants.{Passed, Refused}
@@ -48,3 +48,13 @@ passed-parts r true cs h = absurd (never (lowest cs) h)
     never Passed e = let z : _≡_ {A = ℕ} 0 1 = cc in omega arith
     never (Refused s) e = let z : _≡_ {A = ℕ} 0 1 = cc in omega arith
 passed-parts r false cs h = (refl, h)
+
+-- ---- a value that only a call that passes changes
+
+pub kept : {A : Type 0} (v : Verdict) (new old : A) → isRefused v ≡ true → old ≡ unlessRefused v new old
+kept Passed new old h = let z : _≡_ {A = ℕ} 0 1 = cc in absurd (omega arith)
+kept (Refused r) new old h = refl
+
+pub changed : {A : Type 0} (v : Verdict) (new old : A) → isRefused v ≡ false → new ≡ unlessRefused v new old
+changed Passed new old h = refl
+changed (Refused r) new old h = let z : _≡_ {A = ℕ} 0 1 = cc in absurd (omega arith)

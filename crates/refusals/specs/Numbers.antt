@@ -1,4 +1,5 @@
 -- Document 01's numbers for the refusals ("Formulas and sheets", the table).
+use mathlib.Core.Bool.{Bool, true, false}
 use Prim.Native.Nat.{ℕ}
 use Rattle.refusals.specs.declared.Refusal.{Refusal}
 use Rattle.refusals.specs.declared.Refusal.the-variants.{Undefined, Broken, Unused, Malformed, BadUnit, Width, Depth, Exponent, Symbols, Full, Sheet}
@@ -23,3 +24,8 @@ numberOf Sheet = 11
 abbrev pub codeOf : Verdict → ℕ
 codeOf Passed = 0
 codeOf (Refused r) = numberOf r
+
+-- is it a refusal
+abbrev pub isRefused : Verdict → Bool
+isRefused Passed = false
+isRefused (Refused r) = true

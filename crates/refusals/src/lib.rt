@@ -1,6 +1,6 @@
 // The refusals of document 01 ("Formulas and sheets", the table): one list for every call.
 ghost use mathlib.Core.Path.{_≡_};
-ghost use Rattle.refusals.specs.Numbers.{numberOf, codeOf};
+ghost use Rattle.refusals.specs.Numbers.{numberOf, codeOf, isRefused};
 
 // Why a call gives no result.
 pub enum Refusal {
@@ -60,5 +60,15 @@ pub fn code(v: Verdict) -> u8
     match v {
         Verdict::Passed => 0,
         Verdict::Refused(r) => number(r),
+    }
+}
+
+// Whether a call was refused.
+pub fn is_refused(v: Verdict) -> bool
+    ensures { λ r. ⌜ r ≡ isRefused v ⌝ }
+{
+    match v {
+        Verdict::Passed => false,
+        Verdict::Refused(_) => true,
     }
 }

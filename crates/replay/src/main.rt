@@ -123,7 +123,14 @@ fn is_number_same(call: u8, page: &[u8], first: &[u8], argument: usize, code: us
 }
 
 // Whether a call answers what the end of its row says: the refusal, the value, what it wrote, and the page afterwards.
-fn is_answered(call: u8, argument: usize, page: &[u8], first: &[u8], second: &[u8], answer: &[u8]) -> bool
+fn is_answered(
+    call: u8,
+    argument: usize,
+    page: &[u8],
+    first: &[u8],
+    second: &[u8],
+    answer: &[u8],
+) -> bool
     requires { ⌜ argument < 65536 ⌝ }
 {
     if answer.len() < 3 {
@@ -161,7 +168,14 @@ fn is_same(row: &[u8]) -> bool {
     let second = field(row, b);
     let c = second.start;
     let d = second.end;
-    is_answered(call, argument, &row[p..q], &row[a..b], &row[c..d], &row[d..])
+    is_answered(
+        call,
+        argument,
+        &row[p..q],
+        &row[a..b],
+        &row[c..d],
+        &row[d..],
+    )
 }
 
 // Replays every row.

@@ -5,13 +5,15 @@ use mathlib.Core.List.{List, [], _∷_, _++_}
 use Prim.Native.Nat.{ℕ, suc, _+_, _≤_, _<_}
 use native.Mathlib.Nat.{add-zero, zero-add, add-suc, suc-add, suc-le-suc-iff, zero-lt-suc}
 use native.Mathlib.Omega.{arith}
+use native.Mathlib.Decide.{decLt}
 use lib.ListN.{length, getD, set, length-append}
+use lib.Seq.{set-out}
 use lib.IntN.{ℤ, pos}
 use Rattle.pages.specs.Pad.{pad}
-use Rattle.pages.proofs.Pad.{pad-more, pad-full, getD-pad}
+use Rattle.pages.proofs.Pad.{pad-more, pad-full, length-pad, getD-pad}
 use Rattle.units.specs.Unit.{placesMax, Term, term, outside}
 use Rattle.units.specs.Product.{anyOutside}
-use Rattle.units.specs.Calls.{terms, termsOf, syms, exps, unitOf, sumOf}
+use Rattle.units.specs.Calls.{terms, termsOf, syms, exps, unitOf, withTerm, sumOf}
 use Rattle.units.specs.declared.Sum.{Sum}
 use Rattle.units.specs.declared.Unit.{Unit}
 use Rattle.units.proofs.Form.{Places}
@@ -93,12 +95,25 @@ module _ (l : List Term) (s : ℕ) (e : ℤ) where
 
 -- ---- a unit in its struct
 
-pub unit-more : (l : List Term) (s : ℕ) (e : ℤ) → length l < placesMax → _≡_ {A = Unit} (record { count = length l + 1; symbols = set (pad placesMax 0 (syms l)) (length l) s; exponents = set (pad placesMax (pos 0) (exps l)) (length l) e }) (unitOf (l ++ (term s e ∷ [])))
-unit-more l s e h = λ i. record {
-  count = count-more l (term s e) i;
-  symbols = symbols-room placesMax l (term s e) h i;
-  exponents = exponents-room placesMax l (term s e) h i;
-}
+-- a unit that holds a list holds one term more, as far as there are places
+pub grown : (u : Unit) (s : ℕ) (e : ℤ) (l : List Term) → u ≡ unitOf l → withTerm u s e ≡ unitOf (l ++ (term s e ∷ []))
+grown u s e l h =
+    ap (λ (v : Unit). withTerm v s e) h
+    ∙ elim (decLt (length l) placesMax) [
+      | yes k ↦ (λ i. record {
+        count = count-more l (term s e) i;
+        symbols = symbols-room placesMax l (term s e) k i;
+        exponents = exponents-room placesMax l (term s e) k i;
+      })
+      | no k ↦ (λ i. record {
+        count = count-more l (term s e) i;
+        symbols = (set-out (pad placesMax 0 (syms l)) (length l) s (past placesMax 0 (syms l) (omega arith)) ∙ symbols-full placesMax l (term s e) (omega arith)) i;
+        exponents = (set-out (pad placesMax (pos 0) (exps l)) (length l) e (past placesMax (pos 0) (exps l) (omega arith)) ∙ exponents-full placesMax l (term s e) (omega arith)) i;
+      })
+    ]
+  where
+    past : {A : Type 0} (n : ℕ) (d : A) (xs : List A) → n ≤ length l → length (pad n d xs) ≤ length l
+    past n d xs g = rw (length-pad n d xs) g
 
 terms-at : (l : List Term) (i : ℕ) (ss : List ℕ) (es : List ℤ)
     → ((k : ℕ) → k < length l → getD ss (i + k) 0 ≡ getD (syms l) k 0) → ((k : ℕ) → k < length l → getD es (i + k) (pos 0) ≡ getD (exps l) k (pos 0))

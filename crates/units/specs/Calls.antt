@@ -1,9 +1,9 @@
 -- How the structs of src/ hold a unit, and what the calls on units answer (document 01, "Units and pairs").
 use mathlib.Core.Bool.{Bool, true, false, _&&_, _||_, not, cond}
 use mathlib.Core.List.{List, [], _∷_}
-use Prim.Native.Nat.{ℕ, zero, suc, _-_}
+use Prim.Native.Nat.{ℕ, zero, suc, _+_, _-_}
 use lib.Dec.{eqb}
-use lib.ListN.{length, getD}
+use lib.ListN.{length, getD, set}
 use lib.IntN.{ℤ, pos}
 use Rattle.refusals.specs.Lowest.{_when_, lowest}
 use Rattle.refusals.specs.declared.Refusal.{Refusal}
@@ -47,6 +47,10 @@ exps (x ∷ xs) = x .exp ∷ exps xs
 -- the unit that holds these terms, with zeros behind them
 abbrev pub unitOf : List Term → Unit
 unitOf l = record { count = length l; symbols = pad placesMax 0 (syms l); exponents = pad placesMax (pos 0) (exps l) }
+
+-- the unit with one term more, at the place after the last
+abbrev pub withTerm : Unit → ℕ → ℤ → Unit
+withTerm u s e = record { count = u .count + 1; symbols = set (u .symbols) (u .count) s; exponents = set (u .exponents) (u .count) e }
 
 -- the terms gathered so far, as `Sum` holds them: also more than there are places
 abbrev pub sumOf : List Term → Sum

@@ -5,13 +5,13 @@ use refusals::Verdict;
 ghost use mathlib.Core.Path.{_≡_};
 ghost use mathlib.Core.Bool.{true, false};
 ghost use mathlib.Core.List.{List, [], _∷_, _++_};
-ghost use Prim.Native.Nat.{_+_, _<_};
+ghost use Prim.Native.Nat.{_<_};
 ghost use Rattle.refusals.specs.declared.Verdict.{Verdict};
 ghost use Rattle.names.specs.Table.{namesMax};
 ghost use Rattle.units.specs.Unit.{placesMax, Term, term, isZero, outside, formed};
 ghost use Rattle.units.specs.Product.{combine};
 ghost use Rattle.units.specs.Merge.{turn, turned, merge};
-ghost use Rattle.units.specs.Calls.{termsOf, unitOf, sumOf, formVerdict, given, productAnswer, exponentAnswer, unitlessAnswer};
+ghost use Rattle.units.specs.Calls.{termsOf, unitOf, withTerm, sumOf, formVerdict, given, productAnswer, exponentAnswer, unitlessAnswer};
 
 // How many symbols a unit has at most.
 pub const PLACES: usize = 8;
@@ -129,7 +129,7 @@ fn pushed(w: Sum, s: Symbol, e: i16) -> Sum
 // The unit with one term more at its end, in order or not, for crates above.
 pub fn with_term(u: Unit, s: Symbol, e: i16) -> Unit
     requires { ⌜ u .count < placesMax ⌝ }
-    ensures { λ r. ⌜ (r .count ≡ u .count + 1) × ((l : List Term) → u ≡ unitOf l → r ≡ unitOf (l ++ (term s e ∷ []))) ⌝ }
+    ensures { λ r. ⌜ r ≡ withTerm u s e ⌝ }
 {
     let mut v = u;
     let k = u.count;

@@ -1,14 +1,14 @@
 -- `calls::riddlepoppy_product` meets its contract. Assumes nothing.
-use mathlib.Core.Path.{_≡_, refl, sym, ap, _∙_}
-use Rattle.calls.specs.Codes.{packed, addedCode, foundCode, powerCode, unitlessCode}
+use mathlib.Core.Path.{_≡_, sym, ap, ap₂, _∙_}
+use mathlib.Core.Bool.{true, false}
 use denote.Ref.{now}
-use Rattle.pages.specs.Pad.{pad}
-use Rattle.units.specs.Calls.{termsOf, productAnswer}
+use borrow.Author.Needs.{needs}
+use Rattle.refusals.specs.Numbers.{isRefused}
+use Rattle.refusals.proofs.Lowest.{kept, changed}
+use Rattle.units.specs.Calls.{productAnswer}
 use Rattle.units.specs.declared.UnitResult.{UnitResult}
 use Rattle.units.proofs.Calls.{result-few}
-use Rattle.values.specs.Value.{unitMax, unitBytes}
-use Rattle.calls.specs.Codes.{unitOrBroken}
-use borrow.Author.Needs.{needs}
+use Rattle.calls.specs.Codes.{packed, unitOrBroken, productIn, bytesOfUnit}
 use Rattle.calls.proofs.riddlepoppy_product.Statement.{statement}
 use Rattle.calls.proofs.riddlepoppy_product.Tie as tie
 
@@ -21,18 +21,33 @@ unit-or-broken-requires-2 c κs = search needs
 product-requires : tie.Need-product-requires
 product-requires c κs = search needs
 
-value-bytes-requires : tie.Need-value-bytes-requires
-value-bytes-requires c κs =
-    let e : c .before .product .result ≡ productAnswer (c .before .before .before .before .before .before .args .quotient) (unitOrBroken (now (c .before .before .before .before .before .before .args .a))) (unitOrBroken (now (c .before .before .before .before .before .before .args .b))) = c .before .product .ensures ∙ rw (c .before .before .before .unit-or-broken .ensures, c .before .before .unit-or-broken2 .ensures) in
-    rw e (result-few (c .before .before .before .before .before .before .args .quotient) (unitOrBroken (now (c .before .before .before .before .before .before .args .a))) (unitOrBroken (now (c .before .before .before .before .before .before .args .b))))
+is-refused-requires : tie.Need-is-refused-requires
+is-refused-requires c κs = search needs
 
 packed-as-requires : tie.Need-packed-as-requires
 packed-as-requires c κs = search needs
 
 returns : tie.Need-returns
 returns c =
-    let e : c .before .before .before .product .result ≡ productAnswer (c .before .before .before .before .before .before .before .before .args .quotient) (unitOrBroken (now (c .before .before .before .before .before .before .before .before .args .a))) (unitOrBroken (now (c .before .before .before .before .before .before .before .before .args .b))) = c .before .before .before .product .ensures ∙ rw (c .before .before .before .before .before .unit-or-broken .ensures, c .before .before .before .before .unit-or-broken2 .ensures) in
-    (c .packed-as .ensures ∙ ap (λ (r : UnitResult). packed (r .verdict) 0) e, c .before .value-bytes .ensures ∙ ap (λ (r : UnitResult). pad unitMax 0 (unitBytes (termsOf (r .unit)))) e)
+    let a = productIn (c .before .before .before .before .before .before .before .before .args .quotient) (now (c .before .before .before .before .before .before .before .before .args .a)) (now (c .before .before .before .before .before .before .before .before .args .b)) in
+    let e : c .before .before .before .product .result ≡ a = c .before .before .before .product .ensures ∙ ap₂ (productAnswer (c .before .before .before .before .before .before .before .before .args .quotient)) (c .before .before .before .before .before .unit-or-broken .ensures) (c .before .before .before .before .unit-or-broken2 .ensures) in
+    let h : isRefused (a .verdict) ≡ true = ap (λ (r : UnitResult). isRefused (r .verdict)) (sym e) ∙ sym (c .before .before .is-refused .ensures) ∙ c .before .if1 .taken in
+    (c .packed-as .ensures ∙ ap (λ (r : UnitResult). packed (r .verdict) 0) e, kept (a .verdict) (bytesOfUnit (a .unit)) (now (c .before .before .before .before .before .before .before .before .args .out)) h)
+
+value-bytes-requires : tie.Need-value-bytes-requires
+value-bytes-requires c κs =
+    let e : c .before .before .before .product .result ≡ productIn (c .before .before .before .before .before .before .before .before .args .quotient) (now (c .before .before .before .before .before .before .before .before .args .a)) (now (c .before .before .before .before .before .before .before .before .args .b)) = c .before .before .before .product .ensures ∙ ap₂ (productAnswer (c .before .before .before .before .before .before .before .before .args .quotient)) (c .before .before .before .before .before .unit-or-broken .ensures) (c .before .before .before .before .unit-or-broken2 .ensures) in
+    rw e (result-few (c .before .before .before .before .before .before .before .before .args .quotient) (unitOrBroken (now (c .before .before .before .before .before .before .before .before .args .a))) (unitOrBroken (now (c .before .before .before .before .before .before .before .before .args .b))))
+
+packed-as-requires-2 : tie.Need-packed-as-requires-2
+packed-as-requires-2 c κs = search needs
+
+returns-2 : tie.Need-returns-2
+returns-2 c =
+    let a = productIn (c .before .before .before .before .before .before .before .before .before .before .args .quotient) (now (c .before .before .before .before .before .before .before .before .before .before .args .a)) (now (c .before .before .before .before .before .before .before .before .before .before .args .b)) in
+    let e : c .before .before .before .before .before .product .result ≡ a = c .before .before .before .before .before .product .ensures ∙ ap₂ (productAnswer (c .before .before .before .before .before .before .before .before .before .before .args .quotient)) (c .before .before .before .before .before .before .before .unit-or-broken .ensures) (c .before .before .before .before .before .before .unit-or-broken2 .ensures) in
+    let h : isRefused (a .verdict) ≡ false = ap (λ (r : UnitResult). isRefused (r .verdict)) (sym e) ∙ sym (c .before .before .before .before .is-refused .ensures) ∙ c .before .before .before .if1 .left in
+    (c .packed-as2 .ensures ∙ ap (λ (r : UnitResult). packed (r .verdict) 0) e, c .before .value-bytes .ensures ∙ ap (λ (r : UnitResult). bytesOfUnit (r .unit)) e ∙ changed (a .verdict) (bytesOfUnit (a .unit)) (now (c .before .before .before .before .before .before .before .before .before .before .args .out)) h)
 
 pub riddlepoppy-product-spec : {M : Type 1} → statement M
 riddlepoppy-product-spec =
@@ -41,6 +56,9 @@ riddlepoppy-product-spec =
     unit-or-broken-requires
     unit-or-broken-requires-2
     product-requires
-    value-bytes-requires
+    is-refused-requires
     packed-as-requires
-    returns)
+    returns
+    value-bytes-requires
+    packed-as-requires-2
+    returns-2)

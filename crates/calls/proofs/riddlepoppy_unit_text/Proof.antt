@@ -1,10 +1,13 @@
 -- `calls::riddlepoppy_unit_text` meets its contract. Assumes nothing.
-use mathlib.Core.Path.{_≡_, ap, _∙_}
+use mathlib.Core.Path.{_≡_, sym, ap, _∙_}
+use mathlib.Core.Bool.{true, false}
 use denote.Ref.{now}
 use borrow.Author.Needs.{needs}
+use Rattle.refusals.specs.Numbers.{isRefused}
+use Rattle.refusals.proofs.Lowest.{kept, changed}
 use Rattle.text.specs.Calls.{textAnswer}
 use Rattle.text.specs.declared.Text.{Text}
-use Rattle.calls.specs.Codes.{packed, unitOrBroken}
+use Rattle.calls.specs.Codes.{packed, textIn}
 use Rattle.calls.proofs.riddlepoppy_unit_text.Statement.{statement}
 use Rattle.calls.proofs.riddlepoppy_unit_text.Tie as tie
 
@@ -14,13 +17,37 @@ unit-or-broken-requires c κs = search needs
 unit-text-requires : tie.Need-unit-text-requires
 unit-text-requires c κs = search needs
 
+is-refused-requires : tie.Need-is-refused-requires
+is-refused-requires c κs = search needs
+
 packed-as-requires : tie.Need-packed-as-requires
 packed-as-requires c κs = search needs
 
 returns : tie.Need-returns
 returns c =
-    let e : c .before .before .unit-text .result ≡ textAnswer (now (c .before .before .before .before .before .before .args .page)) (unitOrBroken (now (c .before .before .before .before .before .before .args .unit))) = c .before .before .unit-text .ensures ∙ rw (c .before .before .before .unit-or-broken .ensures) in
-    (c .packed-as .ensures ∙ ap (λ (t : Text). packed (t .verdict) (t .length)) e, ap (λ (t : Text). t .bytes) e)
+    let a = textIn (now (c .before .before .before .before .before .before .before .args .page)) (now (c .before .before .before .before .before .before .before .args .unit)) in
+    let e : c .before .before .before .unit-text .result ≡ a = c .before .before .before .unit-text .ensures ∙ ap (textAnswer (now (c .before .before .before .before .before .before .before .args .page))) (c .before .before .before .before .unit-or-broken .ensures) in
+    let h : isRefused (a .verdict) ≡ true = ap (λ (r : Text). isRefused (r .verdict)) (sym e) ∙ sym (c .before .before .is-refused .ensures) ∙ c .before .if1 .taken in
+    (c .packed-as .ensures ∙ ap (λ (r : Text). packed (r .verdict) (r .length)) e, kept (a .verdict) (a .bytes) (now (c .before .before .before .before .before .before .before .args .out)) h)
+
+packed-as-requires-2 : tie.Need-packed-as-requires-2
+packed-as-requires-2 c κs = search needs
+
+returns-2 : tie.Need-returns-2
+returns-2 c =
+    let a = textIn (now (c .before .before .before .before .before .before .before .before .args .page)) (now (c .before .before .before .before .before .before .before .before .args .unit)) in
+    let e : c .before .before .before .before .unit-text .result ≡ a = c .before .before .before .before .unit-text .ensures ∙ ap (textAnswer (now (c .before .before .before .before .before .before .before .before .args .page))) (c .before .before .before .before .before .unit-or-broken .ensures) in
+    let h : isRefused (a .verdict) ≡ false = ap (λ (r : Text). isRefused (r .verdict)) (sym e) ∙ sym (c .before .before .before .is-refused .ensures) ∙ c .before .before .if1 .left in
+    (c .packed-as2 .ensures ∙ ap (λ (r : Text). packed (r .verdict) (r .length)) e, ap (λ (r : Text). r .bytes) e ∙ changed (a .verdict) (a .bytes) (now (c .before .before .before .before .before .before .before .before .args .out)) h)
 
 pub riddlepoppy-unit-text-spec : {M : Type 1} → statement M
-riddlepoppy-unit-text-spec = tie.close (tie.spec unit-or-broken-requires unit-text-requires packed-as-requires returns)
+riddlepoppy-unit-text-spec =
+    tie.close
+    (tie.spec
+    unit-or-broken-requires
+    unit-text-requires
+    is-refused-requires
+    packed-as-requires
+    returns
+    packed-as-requires-2
+    returns-2)

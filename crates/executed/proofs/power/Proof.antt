@@ -5,6 +5,7 @@ use native.Mathlib.Omega.{arith}
 use mir.Facts.{toZ-ofZ}
 use borrow.Author.Needs.{needs}
 use Rattle.units.specs.declared.Unit.{Unit}
+use Rattle.units.proofs.Held.{grown}
 use Rattle.executed.proofs.power.Statement.{statement}
 use Rattle.executed.proofs.power.Tie as tie
 
@@ -15,7 +16,7 @@ with-term-requires : tie.Need-with-term-requires
 with-term-requires c κs = let n = ap (λ (u : Unit). u .count) (c .dimensionless .ensures) in omega arith
 
 returns : tie.Need-returns
-returns c = c .with-term .ensures .1 [] (c .before .dimensionless .ensures) ∙ rw (toZ-ofZ (c .before .before .fits .exponent))
+returns c = c .with-term .ensures ∙ grown _ _ _ [] (c .before .dimensionless .ensures) ∙ rw (toZ-ofZ (c .before .before .fits .exponent))
 
 pub power-spec : {M : Type 1} → statement M
 power-spec =

@@ -11,10 +11,11 @@ use borrow.Author.Needs.{needs}
 use Rattle.pages.specs.Bytes.{countOf}
 use Rattle.names.specs.Table.{nameAt}
 use Rattle.units.specs.Unit.{term}
+use Rattle.units.specs.declared.Unit.{Unit}
 use Rattle.units.specs.Calls.{termsOf, unitOf}
 use Rattle.units.proofs.Signed.{back}
 use Rattle.units.proofs.Form.{symAt, expAt}
-use Rattle.units.proofs.Held.{placesOf}
+use Rattle.units.proofs.Held.{placesOf, grown}
 use Rattle.order.specs.Order.{comes, place}
 use Rattle.order.proofs.Order.{in-use-at, Placing, placing-start, placing-count, placing-here, placing-next, placing-end}
 use Rattle.order.proofs.placed.Statement.{statement}
@@ -67,7 +68,7 @@ with-rest-requires c κs =
     let x = term (g .s) (toZ w16 (ofZ w16 (g .e))) in
     let l = c .before .before .before .before .before .before .before .loop in
     let z = placing-count page (g .t2) x (l .v) (l .j) (l .inv) in
-    let n = c .with-term .ensures .0 in
+    let n = ap (λ (u : Unit). u .count) (c .with-term .ensures) in
     let h = c .before .before .before .before .before .before .before .before .before .before .before .before .pre .1 in
     let t = c .before .before .before .before .before .before .loop-test .taken in
     omega (arith, z, n, h, t)
@@ -81,7 +82,7 @@ returns c =
     let b : comes (nameAt page (x .sym)) (nameAt page (symAt (placesOf (g .t2)) (l .j))) ≡ c .before .before .before .is-before .result =
     rw (c .before .before .before .is-before .ensures, c .before .before .before .before .before .before .before .before .before .before .name-of .ensures .0, c .before .before .before .before .name-of2 .ensures .0, c .before .before .before .before .before .before .before .before .before .before .before .index .ensures .0, c .before .before .before .before .before .index2 .ensures .0) in
     placing-here page (g .t2) x (l .v) (l .j) (l .inv) (c .before .before .before .before .before .before .before .loop-test .taken) (b ∙ c .before .before .if1 .taken) (c .before .with-term .result) (c .with-rest .result)
-    (c .before .with-term .ensures .1) (c .with-rest .ensures)
+    (λ k q. c .before .with-term .ensures ∙ grown _ _ _ k q) (c .with-rest .ensures)
     ∙ ap (λ z. unitOf (place page (term (g .s) z) (termsOf (g .t2)))) (toZ-ofZ (c .before .before .before .before .before .before .before .before .before .before .before .before .before .fits .e))
 
 mul-with-term : tie.Need-mul-with-term Inv-loop μ-loop
@@ -113,7 +114,7 @@ loop-again c =
     let b : comes (nameAt page (x .sym)) (nameAt page (symAt (placesOf (g .t2)) (l .j))) ≡ c .before .before .before .is-before .result =
     rw (c .before .before .before .is-before .ensures, c .before .before .before .before .before .before .before .before .before .before .name-of .ensures .0, c .before .before .before .before .name-of2 .ensures .0, c .before .before .before .before .before .before .before .before .before .before .before .index .ensures .0, c .before .before .before .before .before .index2 .ensures .0) in
     placing-next page (g .t2) x (l .v) (l .j) (l .inv) (c .before .before .before .before .before .before .before .loop-test .taken) (b ∙ c .before .before .if1 .left) (c .with-term2 .result)
-    (λ k q. c .with-term2 .ensures .1 k q ∙ ap (λ z. unitOf (k ++ (term (symAt (placesOf (g .t2)) (l .j)) z ∷ []))) (back (expAt (placesOf (g .t2)) (l .j)) (c .before .with-term-arg .given)))
+    (λ k q. c .with-term2 .ensures ∙ grown _ _ _ k q ∙ ap (λ z. unitOf (k ++ (term (symAt (placesOf (g .t2)) (l .j)) z ∷ []))) (back (expAt (placesOf (g .t2)) (l .j)) (c .before .with-term-arg .given)))
 
 with-term-requires-3 : tie.Need-with-term-requires-3 Inv-loop μ-loop
 with-term-requires-3 c κs =
@@ -130,7 +131,7 @@ returns-2 c =
     let x = term (g .s) (toZ w16 (ofZ w16 (g .e))) in
     let l = c .before .before .loop in
     placing-end page (g .t2) x (l .v) (l .j) (l .inv) (c .before .loop-test .left) (c .with-term3 .result)
-    (c .with-term3 .ensures .1)
+    (λ k q. c .with-term3 .ensures ∙ grown _ _ _ k q)
     ∙ ap (λ z. unitOf (place page (term (g .s) z) (termsOf (g .t2)))) (toZ-ofZ (c .before .before .before .before .before .before .before .fits .e))
 
 pub placed-spec : {M : Type 1} → statement M

@@ -5,10 +5,11 @@ use Prim.Native.Nat.{_-_}
 use native.Mathlib.Omega.{arith}
 use borrow.Author.Needs.{needs}
 use Rattle.units.specs.Unit.{term}
+use Rattle.units.specs.declared.Unit.{Unit}
 use Rattle.units.specs.Calls.{unitOf}
 use Rattle.units.proofs.Signed.{back}
 use Rattle.units.proofs.Form.{symAt, expAt}
-use Rattle.units.proofs.Held.{placesOf}
+use Rattle.units.proofs.Held.{placesOf, grown}
 use Rattle.order.proofs.Order.{Resting, resting-start, resting-next, resting-end}
 use Rattle.order.proofs.with_rest.Statement.{statement}
 use Rattle.order.proofs.with_rest.Tie as tie
@@ -44,8 +45,8 @@ loop-again : tie.Need-loop-again Inv-loop μ-loop
 loop-again c =
     let g = c .before .before .before .before .before .args in
     let l = c .before .before .before .before .loop in
-    resting-next (g .v) (g .t2) (g .j) (l .out) (l .i) (l .inv) (c .before .before .before .loop-test .taken) (c .with-term .result) (c .with-term .ensures .0)
-    (λ k e. c .with-term .ensures .1 k e ∙ ap (λ z. unitOf (k ++ (term (symAt (placesOf (g .t2)) (l .i)) z ∷ []))) (back (expAt (placesOf (g .t2)) (l .i)) (c .before .with-term-arg2 .given)))
+    resting-next (g .v) (g .t2) (g .j) (l .out) (l .i) (l .inv) (c .before .before .before .loop-test .taken) (c .with-term .result) (ap (λ (u : Unit). u .count) (c .with-term .ensures))
+    (λ k e. c .with-term .ensures ∙ grown _ _ _ k e ∙ ap (λ z. unitOf (k ++ (term (symAt (placesOf (g .t2)) (l .i)) z ∷ []))) (back (expAt (placesOf (g .t2)) (l .i)) (c .before .with-term-arg2 .given)))
 
 returns : tie.Need-returns Inv-loop μ-loop
 returns c =

@@ -1,8 +1,6 @@
 -- `units::with_term` meets its contract. Assumes nothing.
-use mathlib.Core.Path.{refl}
 use mir.Facts.{toZ-ofZ}
 use borrow.Author.Needs.{needs}
-use Rattle.units.proofs.Held.{unit-more}
 use Rattle.units.proofs.with_term.Statement.{statement}
 use Rattle.units.proofs.with_term.Tie as tie
 
@@ -19,9 +17,7 @@ add-v : tie.Need-add-v
 add-v c = search needs
 
 returns : tie.Need-returns
-returns c =
-    let a = c .args in
-    (refl, λ l p. rw (p, toZ-ofZ (c .fits .e)) (unit-more l (a .s) (a .e) (rw p at (c .pre))))
+returns c = rw (toZ-ofZ (c .fits .e))
 
 pub with-term-spec : {M : Type 1} → statement M
 with-term-spec =

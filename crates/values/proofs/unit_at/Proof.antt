@@ -9,6 +9,7 @@ use borrow.Author.Needs.{needs}
 use Rattle.units.specs.Unit.{term}
 use Rattle.units.specs.Calls.{unitOf}
 use Rattle.units.proofs.Signed.{back}
+use Rattle.units.proofs.Held.{grown}
 use Rattle.values.specs.Value.{signedOf, wordAt}
 use Rattle.values.proofs.Terms.{Reading, reading-start, reading-count, reading-next, reading-end}
 use Rattle.values.proofs.unit_at.Statement.{statement}
@@ -63,7 +64,7 @@ loop-again c =
     let e : signedOf (getD bytes (l .at + 1) 0 * 256 + getD bytes (l .at + 2) 0) ≡ signedOf (wordAt bytes (l .at + 1)) =
     let z : l .at + 2 ≡ l .at + 1 + 1 = omega arith in ap (λ k. signedOf (getD bytes (l .at + 1) 0 * 256 + getD bytes k 0)) z in
     reading-next bytes (c .before .before .before .before .before .before .before .before .before .args .n) (l .u) (l .at) (l .i) (l .inv) (c .before .before .before .before .before .loop-test .taken) (c .with-term .result)
-    (λ k q. c .with-term .ensures .1 k q ∙ ap (λ z. unitOf (k ++ (term (getD bytes (l .at) 0) z ∷ []))) (back (c .before .signed .result) (c .before .signed .ok) ∙ c .before .signed .ensures ∙ e))
+    (λ k q. c .with-term .ensures ∙ grown _ _ _ k q ∙ ap (λ z. unitOf (k ++ (term (getD bytes (l .at) 0) z ∷ []))) (back (c .before .signed .result) (c .before .signed .ok) ∙ c .before .signed .ensures ∙ e))
 
 returns : tie.Need-returns Inv-loop μ-loop
 returns c = let l = c .before .loop in reading-end (now (c .before .before .before .before .args .bytes)) (c .before .before .before .before .args .n) (l .u) (l .at) (l .i) (l .inv) (c .loop-test .left)

@@ -29,7 +29,7 @@ extern "C" {
     ) -> u32;
 }
 
-/// What fills `out` before a call, so that a byte left unwritten shows.
+/// What fills `out` before a call, so that a byte left unwritten shows, and one that a refused call wrote.
 const RUBBISH: u8 = 0xA5;
 
 /// The library's answer, or what it did that no call may do.
@@ -37,7 +37,8 @@ pub fn ask(question: &Question) -> Result<Answer, String> {
     let mut page = Lent::new(&question.page);
     let mut first = Lent::new(&question.first);
     let mut second = Lent::new(&question.second);
-    let mut out = Lent::new(&vec![RUBBISH; question.call.out_length()]);
+    let rubbish = vec![RUBBISH; question.call.out_length()];
+    let mut out = Lent::new(&rubbish);
 
     let returned = call(question, &mut page, &mut first, &mut second, &mut out);
 
@@ -50,7 +51,13 @@ pub fn ask(question: &Question) -> Result<Answer, String> {
         Vec::new()
     };
     let (refusal, value) = (returned >> 16, returned & 0xFFFF);
-    Ok(Answer { refusal, value, out: out.bytes("out")?, page: page_afterwards })
+    let written = if refusal == 0 {
+        out.bytes("out")?
+    } else {
+        out.unchanged("out", &rubbish)?;
+        vec![0; rubbish.len()]
+    };
+    Ok(Answer { refusal, value, out: written, page: page_afterwards })
 }
 
 fn call(
@@ -115,7 +122,7 @@ impl Lent {
         if self.bytes(name)? == bytes {
             Ok(())
         } else {
-            Err(format!("a write into {name}, lent for reading"))
+            Err(format!("a write into {name}, which the call must leave as it was"))
         }
     }
 }
