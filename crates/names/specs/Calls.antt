@@ -4,7 +4,7 @@ use mathlib.Core.List.{List, [], _∷_}
 use Prim.Native.Nat.{ℕ, _+_}
 use lib.ListN.{length, replicate}
 use lib.Dec.{ltb, leb}
-use Rattle.refusals.specs.Lowest.{Condition, _when_, lowest, unlessRefused}
+use Rattle.refusals.specs.Lowest.{_when_, lowest, unlessRefused}
 use Rattle.refusals.specs.declared.Refusal.{Refusal}
 use Rattle.refusals.specs.declared.Refusal.the-variants.{Broken, Unused, Malformed, Full}
 use Rattle.refusals.specs.declared.Verdict.{Verdict}

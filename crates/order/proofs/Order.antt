@@ -1,6 +1,6 @@
 -- Terms placed one after another: what is out, with what is left, comes to the whole. Assumes nothing.
-use mathlib.Core.Path.{_≡_, refl, sym, ap, subst, _∙_}
-use mathlib.Core.Bool.{Bool, true, false, cond, _&&_}
+use mathlib.Core.Path.{_≡_, refl, sym, ap, _∙_}
+use mathlib.Core.Bool.{Bool, true, false, cond}
 use mathlib.Core.List.{List, [], _∷_, _++_, append-assoc, append-nil}
 use Prim.Native.Nat.{ℕ, zero, suc, _+_, _≤_, _<_}
 use native.Mathlib.Nat.{zero-add, add-zero, add-suc, suc-add, not-suc-le-zero, le-of-suc-le-suc}
@@ -12,7 +12,7 @@ use lib.IntN.{pos}
 use borrow.Author.Tests.{ltb-true, lt-ltb}
 use Rattle.pages.proofs.Quant.{and-true}
 use Rattle.names.specs.Table.{nameAt}
-use Rattle.units.specs.Unit.{placesMax, Term, term}
+use Rattle.units.specs.Unit.{Term, term}
 use Rattle.units.specs.Calls.{terms, termsOf, termsFrom, unitOf}
 use Rattle.units.specs.declared.Unit.{Unit}
 use Rattle.units.proofs.Form.{symAt, expAt, from-start, from-step, from-end}

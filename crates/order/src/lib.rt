@@ -6,7 +6,7 @@ use units::Unit;
 use units::with_term;
 ghost use mathlib.Core.Path.{_≡_};
 ghost use mathlib.Core.Bool.{true};
-ghost use mathlib.Core.List.{List, [], _∷_, _++_};
+ghost use mathlib.Core.List.{List, _++_};
 ghost use Prim.Native.Nat.{_+_, _≤_, _<_};
 ghost use Rattle.pages.specs.Bytes.{countOf};
 ghost use Rattle.names.specs.Table.{formed};

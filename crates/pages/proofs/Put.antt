@@ -1,14 +1,14 @@
 -- Bytes put into a page: what stands there then, and that every other byte is as before.
 -- Assumes nothing.
-use mathlib.Core.Path.{_≡_, refl, sym, _∙_, ap}
+use mathlib.Core.Path.{_≡_, sym, _∙_, ap}
 use mathlib.Core.List.{List, [], _∷_, _++_, append-assoc}
-use Prim.Native.Nat.{ℕ, zero, suc, _+_, _-_, _<_, _≤_}
+use Prim.Native.Nat.{ℕ, _+_, _-_, _<_, _≤_}
 use native.Mathlib.Omega.{arith}
 use native.Mathlib.Nat.{le-refl, le-of-eq, zero-add, suc-add}
 use native.Mathlib.Numerals.{add-one}
 use native.Mathlib.Decide.{decLt}
 use lib.ListN.{length, getD, take, drop, set, length-set, length-take, length-drop, length-append, List·getD-append, drop-of-length-le}
-use lib.Seq.{take-length, length-take-le, length-paste, take-paste, drop-paste, drop-drop, drop-at, take-at, getD-take, getD-drop, getD-append-add, take-suc, append-snoc, set-at, set-append-left, ext-getD, drop-cons, paste-zero}
+use lib.Seq.{take-length, length-take-le, length-paste, take-paste, drop-paste, drop-drop, drop-at, take-at, getD-take, getD-drop, take-suc, append-snoc, set-at, set-append-left, ext-getD, drop-cons, paste-zero}
 use Rattle.pages.specs.Bytes.{put}
 
 module _ (l : List ℕ) (at : ℕ) (bs : List ℕ) (fits : at + length bs ≤ length l) where

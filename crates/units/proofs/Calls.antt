@@ -1,11 +1,11 @@
 -- What the calls on units come to, one law for each return. Assumes nothing.
-use mathlib.Core.Path.{_≡_, refl, sym, ap, ap₂, subst, _∙_}
+use mathlib.Core.Path.{_≡_, refl, sym, ap, subst, _∙_}
 use mathlib.Core.Bool.{Bool, true, false, not}
 use mathlib.Core.List.{List, [], _∷_}
-use Prim.Native.Nat.{ℕ, zero, suc, _+_, _≤_, _<_}
+use Prim.Native.Nat.{ℕ, suc, _+_, _≤_, _<_}
 use native.Mathlib.Omega.{arith}
 use lib.Dec.{ltb}
-use lib.ListN.{length, getD}
+use lib.ListN.{length}
 use lib.IntN.{ℤ, pos, _+ℤ_, +ℤ-idl}
 use borrow.Author.Tests.{lt-ltb, le-ltb, ltb-false, eq-eqb, ne-eqb}
 use Rattle.refusals.specs.Lowest.{_when_}
@@ -18,16 +18,14 @@ use Rattle.names.specs.Table.{namesMax}
 use Rattle.units.specs.Unit.{placesMax, Term, term, formed, exponent}
 use Rattle.units.specs.Product.{anyOutside, productOf, productVerdict}
 use Rattle.units.specs.Merge.{turned, merge}
-use Rattle.units.specs.Calls.{terms, termsOf, unitOf, given, formVerdict, productAnswer, exponentAnswer, unitless, maybeVerdict, unitlessAnswer}
+use Rattle.units.specs.Calls.{termsOf, given, formVerdict, productAnswer, exponentAnswer, unitless, maybeVerdict, unitlessAnswer}
 use Rattle.units.specs.declared.Unit.{Unit}
 use Rattle.units.specs.declared.MaybeUnit.{MaybeUnit}
-use Rattle.units.specs.declared.UnitResult.{UnitResult}
 use Rattle.units.specs.declared.Power.{Power}
 use Rattle.units.specs.declared.Unitless.{Unitless}
 use Rattle.units.proofs.Form.{Places, symAt, expAt, termsFrom, termsIn, length-terms, from-start, from-step, from-end, formed-count, formed-ordered}
 use Rattle.units.proofs.Order.{Asc, turned-none, ordered-asc, tail-of, first, part-other}
 use Rattle.units.proofs.Si.{merge-product}
-use Rattle.units.proofs.Held.{placesOf}
 
 -- ---- the verdict on a product, for any number of places p and of symbols n
 

@@ -10,7 +10,7 @@ use lib.IntN.{ℤ, pos, _+ℤ_, _-ℤ_, +ℤ-idr, +ℤ-comm, +ℤ-negℤ-cancel}
 use borrow.Author.Tests.{ltb-true, ltb-false, lt-ltb, eq-eqb, ne-eqb, le-leb}
 use Rattle.units.specs.Unit.{Term, term, isZero, outside, ordered, part, exponent}
 use Rattle.units.specs.Product.{anyOutside, power, written}
-use Rattle.units.specs.Merge.{turn, turned, joined, weave, merge}
+use Rattle.units.specs.Merge.{turned, joined, weave, merge}
 use Rattle.units.proofs.Form.{ordered-parts}
 use Rattle.units.proofs.Signed.{abs-turn}
 

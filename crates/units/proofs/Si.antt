@@ -9,7 +9,7 @@ use Prim.Native.Nat.{ℕ, zero, suc, _≤_, _<_}
 use native.Mathlib.Decide.{decLt}
 use native.Mathlib.Nat.{not-suc-le-zero, le-of-suc-le-suc, eq-or-lt-of-le}
 use native.Mathlib.Omega.{arith}
-use lib.Dec.{ltb, leb, eqb}
+use lib.Dec.{ltb, eqb}
 use lib.ListN.{length}
 use lib.IntN.{ℤ, pos, negℤ, _+ℤ_, +ℤ-idl, +ℤ-idr, +ℤ-assoc, +ℤ-comm, negℤ-+ℤ}
 use borrow.Author.Tests.{ltb-false, le-leb}
@@ -17,7 +17,6 @@ use Rattle.units.specs.Unit.{Term, term, isZero, formed, ordered, part, 
 use Rattle.units.specs.Product.{combine, exponents, power, written, anyOutside, productOf}
 use Rattle.units.specs.Merge.{turn, turned, joined, weave, merge}
 use Rattle.units.proofs.Signed.{zero-is}
-use Rattle.units.proofs.Form.{formed-ordered}
 use Rattle.units.proofs.Order.{Asc, asc-none, asc-more, head-low, head-nonzero, tail-of, joined-asc, merge-asc, turned-none, ordered-asc, asc-ordered, unique, part-same, part-other, Within, within-more, written-within, ordered-within}
 
 -- ---- sums of integers

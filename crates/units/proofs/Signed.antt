@@ -9,7 +9,7 @@ use lib.Signed.{mag, ltZ}
 use mir.Syntax.{w16}
 use mir.Val.{SFits, toZ, ofZ}
 use mir.Facts.{toZ-ofZ}
-use borrow.Author.Tests.{le-ltb, ltb-false, ne-eqb, eqb-true}
+use borrow.Author.Tests.{ltb-false, ne-eqb, eqb-true}
 use Rattle.units.specs.Unit.{exponentMax, isZero, outside}
 use Rattle.units.specs.Merge.{turn}
 

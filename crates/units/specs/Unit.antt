@@ -1,11 +1,11 @@
 -- A unit: "at most eight symbols, each once, ascending by number, with a nonzero exponent from −1,000 to 1,000"
 -- (document 01, "Units and pairs").
-use mathlib.Core.Bool.{Bool, true, false, _&&_, _||_, not, cond}
+use mathlib.Core.Bool.{Bool, true, _&&_, not, cond}
 use mathlib.Core.List.{List, [], _∷_}
-use Prim.Native.Nat.{ℕ, zero, suc}
+use Prim.Native.Nat.{ℕ, suc}
 use lib.Dec.{ltb, leb, eqb}
-use lib.ListN.{length, getD}
-use lib.IntN.{ℤ, pos, negsuc, natAbs, _+ℤ_}
+use lib.ListN.{length}
+use lib.IntN.{ℤ, pos, natAbs, _+ℤ_}
 
 -- how many symbols a unit has at most
 abbrev pub placesMax : ℕ

@@ -1,6 +1,6 @@
 -- The unit of a value node, in bytes: "symbol count (255 for no unit), then symbol (1 byte) and signed exponent (2) each"
 -- (document 01, "Formulas and sheets").
-use mathlib.Core.Bool.{Bool, true, false, _&&_, _||_, not, cond}
+use mathlib.Core.Bool.{Bool, _&&_, _||_, not, cond}
 use mathlib.Core.List.{List, [], _∷_}
 use Prim.Native.Nat.{ℕ, zero, suc, _+_, _-_, _*_, _/_, _%_}
 use lib.Dec.{ltb, leb, eqb}

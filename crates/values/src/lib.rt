@@ -10,12 +10,12 @@ ghost use mathlib.Core.Path.{_≡_};
 ghost use mathlib.Core.Bool.{true, false};
 ghost use mathlib.Core.List.{[]};
 ghost use Prim.Native.Nat.{_+_, _*_, _≤_, _<_};
-ghost use lib.ListN.{length, getD};
+ghost use lib.ListN.{length};
 ghost use Rattle.pages.specs.Bytes.{put};
 ghost use Rattle.pages.specs.Pad.{pad};
 ghost use Rattle.units.specs.Unit.{placesMax};
 ghost use Rattle.units.specs.Calls.{termsOf, unitOf};
-ghost use Rattle.values.specs.Value.{noneCount, termBytes, unitMax, signedOf, termsAt, isSome, valueIn, rawOf, bytesIn, unitBytes};
+ghost use Rattle.values.specs.Value.{termBytes, unitMax, signedOf, termsAt, valueIn, rawOf, bytesIn, unitBytes};
 
 // The count that says that there is no unit.
 pub const NONE_COUNT: usize = 255;

@@ -1,6 +1,6 @@
 -- `calls::riddlepoppy_exponent` meets its contract. Assumes nothing.
-use mathlib.Core.Path.{_≡_, refl, sym, ap, _∙_}
-use Rattle.calls.specs.Codes.{packed, addedCode, foundCode, powerCode, unitlessCode}
+use mathlib.Core.Path.{sym, ap, _∙_}
+use Rattle.calls.specs.Codes.{packed, powerCode}
 use Rattle.units.proofs.Signed.{back}
 use Rattle.refusals.specs.declared.Verdict.the-variants.{Passed}
 use Rattle.units.specs.Calls.{exponentAnswer}

@@ -1,6 +1,6 @@
 -- `calls::riddlepoppy_find_name` meets its contract. Assumes nothing.
-use mathlib.Core.Path.{_≡_, refl, sym, ap, _∙_}
-use Rattle.calls.specs.Codes.{packed, addedCode, foundCode, powerCode, unitlessCode}
+use mathlib.Core.Path.{sym, ap, _∙_}
+use Rattle.calls.specs.Codes.{foundCode}
 use borrow.Author.Needs.{needs}
 use Rattle.calls.proofs.riddlepoppy_find_name.Statement.{statement}
 use Rattle.calls.proofs.riddlepoppy_find_name.Tie as tie

@@ -1,6 +1,6 @@
 -- `calls::riddlepoppy_is_dimensionless` meets its contract. Assumes nothing.
-use mathlib.Core.Path.{_≡_, refl, sym, ap, _∙_}
-use Rattle.calls.specs.Codes.{packed, addedCode, foundCode, powerCode, unitlessCode}
+use mathlib.Core.Path.{_≡_, sym, ap, _∙_}
+use Rattle.calls.specs.Codes.{unitlessCode}
 use denote.Ref.{now}
 use Rattle.values.specs.Value.{valueVerdict, unitIn}
 use Rattle.values.specs.declared.Value.{Value}

@@ -1,6 +1,6 @@
 -- `calls::riddlepoppy_unit_form` meets its contract. Assumes nothing.
-use mathlib.Core.Path.{_≡_, refl, sym, ap, _∙_}
-use Rattle.calls.specs.Codes.{packed, addedCode, foundCode, powerCode, unitlessCode}
+use mathlib.Core.Path.{ap, _∙_}
+use Rattle.calls.specs.Codes.{packed}
 use Rattle.units.specs.Calls.{formVerdict}
 use borrow.Author.Needs.{needs}
 use Rattle.calls.proofs.riddlepoppy_unit_form.Statement.{statement}

@@ -1,5 +1,5 @@
 -- `calls::unit_or_broken` meets its contract. Assumes nothing.
-use mathlib.Core.Path.{_≡_, refl, sym, ap, _∙_}
+use mathlib.Core.Path.{_≡_, ap, _∙_}
 use denote.Ref.{now}
 use Rattle.values.specs.Value.{unitIn}
 use Rattle.values.specs.declared.Value.{Value}

@@ -1,5 +1,4 @@
 -- `names::copied` meets its contract. Assumes nothing.
-use mathlib.Core.Path.{_≡_, ap, _∙_}
 use denote.Ref.{now}
 use borrow.Author.Needs.{needs}
 use Rattle.pages.proofs.Pad.{put-pad}

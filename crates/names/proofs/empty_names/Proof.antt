@@ -1,5 +1,5 @@
 -- `names::empty_names` meets its contract. Assumes nothing.
-use mathlib.Core.Path.{_≡_, _∙_}
+use mathlib.Core.Path.{_∙_}
 use denote.Ref.{now}
 use borrow.Author.Needs.{needs}
 use Rattle.names.proofs.Calls.{empty-short, empty-made}

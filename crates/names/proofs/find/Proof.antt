@@ -1,17 +1,15 @@
-use Prim.Native.Nat.{ℕ, _+_, _*_, _-_, _/_, _%_, _<_, _≤_}
-use mathlib.Core.Path.{_≡_, refl, sym, _∙_, ap}
-use mathlib.Core.List.{List, [], _∷_, _++_}
-use mathlib.Core.Bool.{Bool, true, false}
-use mathlib.Core.Logic.{⊎-elim}
+use Prim.Native.Nat.{_-_, _≤_}
+use mathlib.Core.Path.{_≡_, refl, sym, _∙_}
+use mathlib.Core.Bool.{false}
 use native.Mathlib.Omega.{arith}
 use denote.Ref.{now}
-use lib.ListN.{length, getD, take, drop}
+use lib.ListN.{length}
 use borrow.Author.Needs.{needs}
-use Rattle.names.proofs.Table.{offset-ge, step-in, step-at, name-there, found-at}
-use Rattle.names.specs.Table.{offset, named, numberOf}
+use Rattle.names.proofs.Table.{offset-ge, step-in, step-at, found-at}
+use Rattle.names.specs.Table.{offset, named}
 use Rattle.pages.specs.Quant.{anyTo}
 use Rattle.pages.proofs.Quant.{any-none, any-more, first-none, first-at}
-use Prim.Native.Nat.{ℕ, _+_, _*_, _-_, _<_, _≤_}
+use Prim.Native.Nat.{_-_, _≤_}
 use Rattle.names.proofs.find.Statement.{statement}
 use Rattle.names.proofs.find.Tie as tie
 

@@ -1,5 +1,5 @@
 -- `names::find_name` meets its contract. Assumes nothing.
-use mathlib.Core.Path.{_≡_, sym, _∙_}
+use mathlib.Core.Path.{sym, _∙_}
 use native.Mathlib.Nat.{le-of-eq}
 use denote.Ref.{now}
 use borrow.Author.Tests.{not-true, not-false}

@@ -1,14 +1,6 @@
-use Prim.Native.Nat.{ℕ, _+_, _*_, _-_, _/_, _%_, _<_, _≤_}
-use mathlib.Core.Path.{_≡_, refl, sym, _∙_, ap}
-use mathlib.Core.List.{List, [], _∷_, _++_}
-use mathlib.Core.Bool.{Bool, true, false}
-use mathlib.Core.Logic.{⊎-elim}
-use native.Mathlib.Omega.{arith}
-use denote.Ref.{now}
-use lib.ListN.{length, getD, take, drop}
-use borrow.Author.Needs.{needs}
+use Prim.Native.Nat.{_-_}
 use Rattle.names.proofs.Table.{digit-low, digit-high}
-use Prim.Native.Nat.{ℕ, _+_, _*_, _-_, _<_, _≤_}
+use Prim.Native.Nat.{_-_}
 use Rattle.names.proofs.is_digit.Statement.{statement}
 use Rattle.names.proofs.is_digit.Tie as tie
 

@@ -1,13 +1,11 @@
-use Prim.Native.Nat.{ℕ, _+_, _*_, _-_, _/_, _%_, _<_, _≤_}
-use mathlib.Core.Path.{_≡_, refl, sym, _∙_, ap}
-use mathlib.Core.List.{List, [], _∷_, _++_}
-use mathlib.Core.Bool.{Bool, true, false}
-use mathlib.Core.Logic.{⊎-elim}
+use Prim.Native.Nat.{_-_, _≤_}
+use mathlib.Core.Path.{_≡_, refl, sym, _∙_}
+use mathlib.Core.Bool.{true}
 use native.Mathlib.Omega.{arith}
 use denote.Ref.{now}
-use lib.ListN.{length, getD, take, drop}
+use lib.ListN.{length}
 use borrow.Author.Needs.{needs}
-use Rattle.names.proofs.Table.{bad-past, bad-long, bad-name, good-name, unformed-short, unformed-many, unformed-at, formed-when, step-at, offset-suc}
+use Rattle.names.proofs.Table.{bad-past, bad-long, bad-name, good-name, unformed-short, unformed-many, unformed-at, formed-when, offset-suc}
 use Rattle.names.specs.Table.{offset, goodAt}
 use Rattle.pages.specs.Quant.{allTo}
 use Rattle.pages.proofs.Quant.{all-none, all-more}

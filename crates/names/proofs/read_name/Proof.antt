@@ -1,5 +1,5 @@
 -- `names::read_name` meets its contract. Assumes nothing.
-use mathlib.Core.Path.{_≡_, sym, ap, _∙_}
+use mathlib.Core.Path.{sym, ap, _∙_}
 use denote.Ref.{now}
 use borrow.Author.Tests.{not-true, not-false}
 use borrow.Author.Needs.{needs}

@@ -1,5 +1,5 @@
 -- `order::with_rest` meets its contract. The invariant is `Resting`. Assumes nothing.
-use mathlib.Core.Path.{_≡_, ap, _∙_}
+use mathlib.Core.Path.{ap, _∙_}
 use mathlib.Core.List.{[], _∷_, _++_}
 use Prim.Native.Nat.{_-_}
 use native.Mathlib.Omega.{arith}

@@ -1,5 +1,5 @@
 -- `pages::clear` meets its contract. The invariant: the first i bytes are 0, and the others as they came. Assumes nothing.
-use mathlib.Core.Path.{_≡_, refl, sym, ap, _∙_}
+use mathlib.Core.Path.{_≡_, refl, _∙_}
 use mathlib.Core.List.{[], _++_, append-nil}
 use Prim.Native.Nat.{_-_, _≤_}
 use native.Mathlib.Omega.{arith}

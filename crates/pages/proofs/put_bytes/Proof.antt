@@ -1,16 +1,13 @@
-use Prim.Native.Nat.{ℕ, _+_, _*_, _-_, _<_, _≤_}
-use mathlib.Core.Path.{_≡_, refl, sym, _∙_, ap}
-use mathlib.Core.List.{List}
+use Prim.Native.Nat.{_+_, _-_, _≤_}
+use mathlib.Core.Path.{_≡_, refl, _∙_}
 use native.Mathlib.Omega.{arith}
 use native.Mathlib.Numerals.{add-one}
-use lib.ListN.{length, getD, set, length-set}
+use lib.ListN.{length, getD, length-set}
 use lib.Seq.{paste, paste-zero, paste-suc}
 use denote.Ref.{now}
 use borrow.Author.Needs.{needs}
 use Rattle.pages.proofs.put_bytes.Statement.{statement}
 use Rattle.pages.proofs.put_bytes.Tie as tie
-use Rattle.pages.proofs.put_bytes.Reads as reads
-use Rattle.pages.proofs.put_bytes.Lts as lts
 
 abbrev Inv-loop : tie.InvT-loop
 Inv-loop page₀ at bytes i₀ page i = (i ≤ length bytes) × (page ≡ paste page₀ at bytes i) × (length page ≡ length page₀)

@@ -1,21 +1,16 @@
-use Prim.Native.Nat.{ℕ, _+_, _*_, _-_, _/_, _%_, _<_, _≤_}
-use mathlib.Core.Path.{_≡_, refl, sym, _∙_, ap}
-use mathlib.Core.List.{List, [], _∷_, _++_}
-use mathlib.Core.Bool.{Bool, true, false}
-use mathlib.Core.Logic.{⊎-elim}
+use Prim.Native.Nat.{_-_, _≤_}
+use mathlib.Core.Path.{_≡_, refl, sym, _∙_}
 use native.Mathlib.Omega.{arith}
 use denote.Ref.{now}
-use lib.ListN.{length, getD, take, drop}
+use lib.ListN.{length, drop}
 use borrow.Author.Needs.{needs}
 use Rattle.pages.proofs.Bytes.{eqs-on, eqs-off, eqs-end, eqs-length}
 use Rattle.pages.specs.Bytes.{eqs}
-use Prim.Native.Nat.{ℕ, _+_, _*_, _-_, _<_, _≤_}
+use Prim.Native.Nat.{_-_, _≤_}
 use Rattle.pages.proofs.Bytes.{eqs-on, eqs-off, eqs-end, eqs-length}
 use Rattle.pages.specs.Bytes.{eqs}
 use Rattle.pages.proofs.same.Statement.{statement}
 use Rattle.pages.proofs.same.Tie as tie
-use Rattle.pages.proofs.same.Reads as reads
-use Rattle.pages.proofs.same.Lts as lts
 
 abbrev Inv-loop : tie.InvT-loop
 Inv-loop a b i₀ i = (i ≤ length a) × (eqs a b ≡ eqs (drop i a) (drop i b))

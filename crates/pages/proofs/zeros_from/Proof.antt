@@ -1,5 +1,5 @@
-use Prim.Native.Nat.{ℕ, _+_, _*_, _-_, _<_, _≤_}
-use mathlib.Core.Path.{_≡_, refl, sym, _∙_, ap}
+use Prim.Native.Nat.{_-_, _≤_}
+use mathlib.Core.Path.{_≡_, refl, sym, _∙_}
 use native.Mathlib.Omega.{arith}
 use lib.ListN.{length, drop}
 use denote.Ref.{now}
@@ -8,8 +8,6 @@ use Rattle.pages.specs.Bytes.{zeros}
 use Rattle.pages.proofs.Bytes.{zeros-on, zeros-off, zeros-end}
 use Rattle.pages.proofs.zeros_from.Statement.{statement}
 use Rattle.pages.proofs.zeros_from.Tie as tie
-use Rattle.pages.proofs.zeros_from.Reads as reads
-use Rattle.pages.proofs.zeros_from.Lts as lts
 
 abbrev Inv-loop : tie.InvT-loop
 Inv-loop page at i₀ i = (i ≤ length page) × (zeros (drop at page) ≡ zeros (drop i page))

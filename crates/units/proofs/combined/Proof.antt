@@ -1,7 +1,6 @@
 -- `units::combined` meets its contract: exponents within their limits add and subtract within an `i16`. Assumes nothing.
 use mathlib.Core.Bool.{Bool, true, false}
 use Prim.Native.Nat.{_≤_}
-use native.Mathlib.Omega.{arith}
 use lib.IntN.{natAbs, _+ℤ_}
 use mir.Syntax.{w16}
 use mir.Val.{SFits}

@@ -1,5 +1,5 @@
 -- `units::is_dimensionless` meets its contract. Assumes nothing.
-use mathlib.Core.Path.{_≡_, sym, _∙_}
+use mathlib.Core.Path.{sym, _∙_}
 use borrow.Author.Tests.{not-true, not-false}
 use borrow.Author.Needs.{needs}
 use Rattle.units.proofs.Calls.{none-unitless, broken-refused, empty-unitless, some-unit}

@@ -1,5 +1,5 @@
 -- `units::product` meets its contract: each return is one of the five ways of `Calls`. Assumes nothing.
-use mathlib.Core.Path.{_≡_, sym, ap, _∙_}
+use mathlib.Core.Path.{sym, ap, _∙_}
 use borrow.Author.Tests.{not-true, not-false}
 use borrow.Author.Needs.{needs}
 use Rattle.refusals.specs.declared.Verdict.the-variants.{Passed}

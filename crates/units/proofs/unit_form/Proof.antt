@@ -1,5 +1,5 @@
 -- `units::unit_form` meets its contract. Assumes nothing.
-use mathlib.Core.Path.{_≡_, sym, _∙_}
+use mathlib.Core.Path.{sym, _∙_}
 use borrow.Author.Needs.{needs}
 use Rattle.units.proofs.Calls.{form-passed, form-refused}
 use Rattle.units.proofs.unit_form.Statement.{statement}
