@@ -63,16 +63,16 @@ pub extern "C" fn riddlepoppy_find_name(page: &[u8], name: &[u8]) -> u32
 // The name with number k, and its length.
 #[no_mangle]
 pub extern "C" fn riddlepoppy_read_name(page: &[u8], k: u32, out: &mut [u8; NAME_BYTES]) -> u32
-    ensures { λ r. ⌜ (r ≡ packed (readAnswer (now (page .entry)) k .verdict) (readAnswer (now (page .entry)) k .length)) × (now (out .exit) ≡ unlessRefused (readAnswer (now (page .entry)) k .verdict) (readAnswer (now (page .entry)) k .bytes) (now (out .entry))) ⌝ }
+    ensures { λ r. ⌜ (r ≡ packed (readAnswer (now (page .entry)) k .verdict) (readAnswer (now (page .entry)) k .size)) × (now (out .exit) ≡ unlessRefused (readAnswer (now (page .entry)) k .verdict) (readAnswer (now (page .entry)) k .bytes) (now (out .entry))) ⌝ }
 {
     let name = names::read_name(page, k as usize);
     let verdict = name.verdict;
     if refusals::is_refused(verdict) {
-        return packed_as(verdict, name.length);
+        return packed_as(verdict, name.size);
     }
     let bytes = name.bytes;
     *out = bytes;
-    packed_as(verdict, name.length)
+    packed_as(verdict, name.size)
 }
 
 fn broken_unit() -> Unit
@@ -159,14 +159,14 @@ pub extern "C" fn riddlepoppy_is_dimensionless(bytes: &[u8]) -> u32
 // The text of a unit, and its length.
 #[no_mangle]
 pub extern "C" fn riddlepoppy_unit_text(page: &[u8], unit: &[u8], out: &mut [u8; TEXT_BYTES]) -> u32
-    ensures { λ r. ⌜ (r ≡ packed (textIn (now (page .entry)) (now (unit .entry)) .verdict) (textIn (now (page .entry)) (now (unit .entry)) .length)) × (now (out .exit) ≡ unlessRefused (textIn (now (page .entry)) (now (unit .entry)) .verdict) (textIn (now (page .entry)) (now (unit .entry)) .bytes) (now (out .entry))) ⌝ }
+    ensures { λ r. ⌜ (r ≡ packed (textIn (now (page .entry)) (now (unit .entry)) .verdict) (textIn (now (page .entry)) (now (unit .entry)) .size)) × (now (out .exit) ≡ unlessRefused (textIn (now (page .entry)) (now (unit .entry)) .verdict) (textIn (now (page .entry)) (now (unit .entry)) .bytes) (now (out .entry))) ⌝ }
 {
     let text = text::unit_text(page, unit_or_broken(unit));
     let verdict = text.verdict;
     if refusals::is_refused(verdict) {
-        return packed_as(verdict, text.length);
+        return packed_as(verdict, text.size);
     }
     let bytes = text.bytes;
     *out = bytes;
-    packed_as(verdict, text.length)
+    packed_as(verdict, text.size)
 }

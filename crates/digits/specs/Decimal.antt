@@ -4,11 +4,11 @@ use mathlib.Core.List.{List, [], _∷_, _++_}
 use Prim.Native.Nat.{ℕ, zero, suc, _+_, _/_, _%_}
 use lib.Dec.{ltb}
 
--- how many digits a number has at most
+-- how many digits are written at most
 abbrev pub digitsMax : ℕ
 digitsMax = 5
 
--- the numbers below this have so many
+-- the numbers below this have no more
 abbrev pub decimalMax : ℕ
 decimalMax = 100000
 
@@ -16,7 +16,7 @@ decimalMax = 100000
 abbrev pub digitOf : ℕ → ℕ
 digitOf n = 48 + n
 
--- the last k digits of n at most, without leading zeros: those of n / 10, and n % 10
+-- the digits of n, the last k of them at most: those of n / 10, and n % 10
 unfoldable pub digits : ℕ → ℕ → List ℕ
 digits zero n = []
 digits (suc k) n = cond (ltb n 10) (digitOf n ∷ []) (digits k (n / 10) ++ (digitOf (n % 10) ∷ []))

@@ -5,9 +5,6 @@ ghost use lib.ListN.{length};
 ghost use Rattle.pages.specs.Bytes.{put};
 ghost use Rattle.digits.specs.Decimal.{decimalMax, digitOf, decimalOf};
 
-// How many digits a number has at most.
-pub const DIGITS: usize = 5;
-
 // Writes bytes from index at on, and answers where they end.
 pub fn push(out: &mut [u8], at: usize, bytes: &[u8]) -> usize
     requires { ⌜ at + length (now bytes) ≤ length (now out) ⌝ }

@@ -165,10 +165,6 @@ module _ (page name : List ℕ) (f : Form page) (w : wellNamed name ≡ true) (n
   unfolding withName full
   with-formed = full-formed
 
-  pub with-count : countOf (withName page name) ≡ countOf page + 1
-  unfolding withName full
-  with-count = full-count
-
   -- the new name is read under its number
   pub with-name : nameAt (withName page name) (countOf page) ≡ name
   unfolding withName full

@@ -118,9 +118,6 @@ found-at page i at r name e k b h =
 -- ---- the form, test by test
 
 module _ (page : List ℕ) (i at r : ℕ) (e : at ≡ offset page i) (k : r ≡ getD page at 0) where
-  part : List ℕ
-  part = take (at + 1 + r - (at + 1)) (drop (at + 1) page)
-
   pub part-is : take (at + 1 + r - (at + 1)) (drop (at + 1) page) ≡ nameAt page i
   part-is = let s : at + 1 + r - (at + 1) ≡ r = omega arith in rw s (name-there page i at r e k)
 

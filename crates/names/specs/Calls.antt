@@ -79,10 +79,10 @@ readVerdict page k = lowest ((Broken when not (formed page)) ∷ (Unused when le
 
 -- a name by value
 abbrev pub nameOf : List ℕ → Name
-nameOf name = record { verdict = Passed; length = length name; bytes = pad nameMax 0 name }
+nameOf name = record { verdict = Passed; size = length name; bytes = pad nameMax 0 name }
 
 abbrev pub noName : Refusal → Name
-noName r = record { verdict = Refused r; length = 0; bytes = pad nameMax 0 [] }
+noName r = record { verdict = Refused r; size = 0; bytes = pad nameMax 0 [] }
 
 abbrev pub named : Verdict → List ℕ → Name
 named Passed name = nameOf name

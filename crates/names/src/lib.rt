@@ -35,7 +35,7 @@ pub enum Found {
 // A name by value: its bytes from place 0 on, and zeros after them.
 pub struct Name {
     pub verdict: Verdict,
-    pub length: usize,
+    pub size: usize,
     pub bytes: [u8; NAME_BYTES],
 }
 
@@ -249,7 +249,7 @@ fn no_name(refusal: Refusal) -> Name
 {
     Name {
         verdict: Verdict::Refused(refusal),
-        length: 0,
+        size: 0,
         bytes: [0; NAME_BYTES],
     }
 }
@@ -263,7 +263,7 @@ fn copied(name: &[u8]) -> Name
     pages::put_bytes(&mut bytes, 0, name);
     Name {
         verdict: Verdict::Passed,
-        length: name.len(),
+        size: name.len(),
         bytes,
     }
 }

@@ -94,7 +94,7 @@ module _ (page : List ℕ) (w : Unit) (x : Term) where
 
     module _ (h : j < w .count) where
       -- before the first whose name comes after its own
-      pub placing-here : comes (nameAt page (x .sym)) (nameAt page (termAt w j .sym)) ≡ true
+      pub placing-here : comes (nameAt page (x .symbol)) (nameAt page (termAt w j .symbol)) ≡ true
           → (m r : Unit) → ((l : List Term) → v ≡ unitOf l → m ≡ unitOf (l ++ (x ∷ []))) → ((l : List Term) → m ≡ unitOf l → r ≡ unitOf (l ++ termsFrom w j)) → r ≡ unitOf (place page x (termsOf w))
       unfolding place
       placing-here b m r f g =
@@ -104,7 +104,7 @@ module _ (page : List ℕ) (w : Unit) (x : Term) where
           here : place page x (termsFrom w j) ≡ x ∷ termsFrom w j
           here = rw (from-step (placesOf w) j h, b)
 
-      pub placing-next : comes (nameAt page (x .sym)) (nameAt page (termAt w j .sym)) ≡ false
+      pub placing-next : comes (nameAt page (x .symbol)) (nameAt page (termAt w j .symbol)) ≡ false
           → (r : Unit) → ((l : List Term) → v ≡ unitOf l → r ≡ unitOf (l ++ (termAt w j ∷ []))) → Placing page w x r (j + 1)
       unfolding place
       placing-next b r f = record {
@@ -123,19 +123,19 @@ module _ (page : List ℕ) (w : Unit) (x : Term) where
 pub place-length : (page : List ℕ) (x : Term) (ys : List Term) → length (place page x ys) ≡ suc (length ys)
 unfolding place
 place-length page x [] = refl
-place-length page x (y ∷ ys) = go (comes (nameAt page (x .sym)) (nameAt page (y .sym))) (place-length page x ys)
+place-length page x (y ∷ ys) = go (comes (nameAt page (x .symbol)) (nameAt page (y .symbol))) (place-length page x ys)
   where
     go : (b : Bool) → length (place page x ys) ≡ suc (length ys) → length (cond b (x ∷ y ∷ ys) (y ∷ place page x ys)) ≡ suc (suc (length ys))
     go true h = refl
     go false h = ap suc h
 
-pub in-use-head : (n : ℕ) (x : Term) (xs : List Term) → inUse n (x ∷ xs) ≡ true → x .sym < n
+pub in-use-head : (n : ℕ) (x : Term) (xs : List Term) → inUse n (x ∷ xs) ≡ true → x .symbol < n
 unfolding inUse
-in-use-head n x xs h = ltb-true (x .sym) n (and-true (ltb (x .sym) n) (inUse n xs) h .0)
+in-use-head n x xs h = ltb-true (x .symbol) n (and-true (ltb (x .symbol) n) (inUse n xs) h .0)
 
 pub in-use-tail : (n : ℕ) (x : Term) (xs : List Term) → inUse n (x ∷ xs) ≡ true → inUse n xs ≡ true
 unfolding inUse
-in-use-tail n x xs h = and-true (ltb (x .sym) n) (inUse n xs) h .1
+in-use-tail n x xs h = and-true (ltb (x .symbol) n) (inUse n xs) h .1
 
 -- each symbol of a unit whose symbols are in use
 pub in-use-at : (n : ℕ) (u : Unit) → inUse n (termsOf u) ≡ true → (i : ℕ) → i < u .count → symAt (placesOf u) i < n
@@ -148,14 +148,14 @@ in-use-at n u h i l = rw (← zero-add i) (go (u .count) 0 h i l)
         rw (add-suc j i, ← suc-add j i)
         (go k (suc j) (in-use-tail n (term (getD (u .symbols) j 0) (getD (u .exponents) j (pos 0))) (terms k (suc j) (u .symbols) (u .exponents)) p) i (le-of-suc-le-suc l))
 
-in-use-more : (n : ℕ) (x : Term) (xs : List Term) → x .sym < n → inUse n xs ≡ true → inUse n (x ∷ xs) ≡ true
+in-use-more : (n : ℕ) (x : Term) (xs : List Term) → x .symbol < n → inUse n xs ≡ true → inUse n (x ∷ xs) ≡ true
 unfolding inUse
-in-use-more n x xs l h = rw (lt-ltb (x .sym) n l) h
+in-use-more n x xs l h = rw (lt-ltb (x .symbol) n l) h
 
-pub place-in-use : (n : ℕ) (page : List ℕ) (x : Term) (ys : List Term) → x .sym < n → inUse n ys ≡ true → inUse n (place page x ys) ≡ true
+pub place-in-use : (n : ℕ) (page : List ℕ) (x : Term) (ys : List Term) → x .symbol < n → inUse n ys ≡ true → inUse n (place page x ys) ≡ true
 unfolding place
 place-in-use n page x [] l h = in-use-more n x [] l h
-place-in-use n page x (y ∷ ys) l h = go (comes (nameAt page (x .sym)) (nameAt page (y .sym))) (place-in-use n page x ys l (in-use-tail n y ys h))
+place-in-use n page x (y ∷ ys) l h = go (comes (nameAt page (x .symbol)) (nameAt page (y .symbol))) (place-in-use n page x ys l (in-use-tail n y ys h))
   where
     go : (b : Bool) → inUse n (place page x ys) ≡ true → inUse n (cond b (x ∷ y ∷ ys) (y ∷ place page x ys)) ≡ true
     go true ih = in-use-more n x (y ∷ ys) l h

@@ -16,7 +16,7 @@ comes (x ∷ xs) (y ∷ ys) = cond (ltb x y) true (cond (eqb x y) (comes xs ys) 
 -- a term at its place among terms in order: before the first whose name comes after its own
 unfoldable pub place : List ℕ → Term → List Term → List Term
 place names x [] = x ∷ []
-place names x (y ∷ ys) = cond (comes (nameAt names (x .sym)) (nameAt names (y .sym))) (x ∷ y ∷ ys) (y ∷ place names x ys)
+place names x (y ∷ ys) = cond (comes (nameAt names (x .symbol)) (nameAt names (y .symbol))) (x ∷ y ∷ ys) (y ∷ place names x ys)
 
 -- terms placed one after another among those in order
 unfoldable pub placed : List ℕ → List Term → List Term → List Term
@@ -29,4 +29,4 @@ byName names xs = placed names [] xs
 -- is every symbol the number of one of n names
 unfoldable pub inUse : ℕ → List Term → Bool
 inUse n [] = true
-inUse n (x ∷ xs) = ltb (x .sym) n && inUse n xs
+inUse n (x ∷ xs) = ltb (x .symbol) n && inUse n xs

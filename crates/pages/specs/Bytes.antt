@@ -26,11 +26,15 @@ within a b x = leb a x && leb x b
 abbrev pub countBytes : ℕ
 countBytes = 2
 
+-- the number at index i, two bytes big-endian
+abbrev pub wordAt : List ℕ → ℕ → ℕ
+wordAt bytes i = getD bytes i 0 * 256 + getD bytes (i + 1) 0
+
 -- the count that a page begins with
 abbrev pub countOf : List ℕ → ℕ
-countOf page = getD page 0 0 * 256 + getD page 1 0
+countOf page = wordAt page 0
 
--- the bytes that say a count
+-- the two bytes that say a number
 abbrev pub bytesOf : ℕ → List ℕ
 bytesOf n = n / 256 ∷ n % 256 ∷ []
 

@@ -37,7 +37,7 @@ module _ (page : List ℕ) where
   place-inside x [] l h = rw l
   place-inside x (y ∷ ys) l h =
       let z = or-false (outside (y .exp)) (anyOutside ys) h in
-      go (comes (nameAt page (x .sym)) (nameAt page (y .sym))) (z .0) (place-inside x ys l (z .1))
+      go (comes (nameAt page (x .symbol)) (nameAt page (y .symbol))) (z .0) (place-inside x ys l (z .1))
     where
       go : (b : Bool) → outside (y .exp) ≡ false → anyOutside (place page x ys) ≡ false → anyOutside (cond b (x ∷ y ∷ ys) (y ∷ place page x ys)) ≡ false
       go true k ih = rw l h
@@ -58,4 +58,4 @@ pub ordered-inside : (n lo : ℕ) (xs : List Term) → ordered n lo xs ≡ true 
 ordered-inside n lo [] h = refl
 ordered-inside n lo (x ∷ xs) h =
     let p = ordered-parts n lo x xs h in
-    rw (p .inside) (ordered-inside n (suc (x .sym)) xs (p .rest))
+    rw (p .inside) (ordered-inside n (suc (x .symbol)) xs (p .rest))

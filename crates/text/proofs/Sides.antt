@@ -33,7 +33,7 @@ pub record Sound (page : List ℕ) (xs : List Term) : Type 0 where
   pub inside : anyOutside xs ≡ false
 
 module _ (page : List ℕ) (x : Term) (xs : List Term) (s : Sound page (x ∷ xs)) where
-  pub first-used : x .sym < countOf page
+  pub first-used : x .symbol < countOf page
   first-used = in-use-head (countOf page) x xs (s .used)
 
   pub first-inside : outside (x .exp) ≡ false
@@ -46,7 +46,7 @@ module _ (page : List ℕ) (x : Term) (xs : List Term) (s : Sound page (x ∷ xs
 
 -- a side's text with one more power
 abbrev pub grown : List ℕ → Bool → List ℕ → Term → List ℕ
-grown page above text x = text ++ (separator above text ++ power (nameAt page (x .sym)) (natAbs (x .exp)))
+grown page above text x = text ++ (separator above text ++ power (nameAt page (x .symbol)) (natAbs (x .exp)))
 
 module _ (page : List ℕ) (above : Bool) where
   pub side-on : (text : List ℕ) (x : Term) (xs : List Term) → stands above (x .exp) ≡ true → sideFrom page above text (x ∷ xs) ≡ sideFrom page above (grown page above text x) xs
@@ -63,12 +63,12 @@ module _ (page : List ℕ) (above : Bool) where
 
   module _ (f : formed page ≡ true) where
     -- a power with what stands before it
-    pub piece-short : (text : List ℕ) (x : Term) → x .sym < countOf page → outside (x .exp) ≡ false → length (separator above text ++ power (nameAt page (x .sym)) (natAbs (x .exp))) ≤ powerMax
+    pub piece-short : (text : List ℕ) (x : Term) → x .symbol < countOf page → outside (x .exp) ≡ false → length (separator above text ++ power (nameAt page (x .symbol)) (natAbs (x .exp))) ≤ powerMax
     piece-short text x u i =
-        let n = name-small (nameAt page (x .sym)) (in-use-named page (form page f) (x .sym) u) in
-        let p = power-short (nameAt page (x .sym)) (natAbs (x .exp)) (n .1) (small (x .exp) i) in
+        let n = name-small (nameAt page (x .symbol)) (in-use-named page (form page f) (x .symbol) u) in
+        let p = power-short (nameAt page (x .symbol)) (natAbs (x .exp)) (n .1) (small (x .exp) i) in
         let s = separator-short above text in
-        omega (arith, length-append (separator above text) (power (nameAt page (x .sym)) (natAbs (x .exp))))
+        omega (arith, length-append (separator above text) (power (nameAt page (x .symbol)) (natAbs (x .exp))))
 
     side-from-short : (text : List ℕ) (xs : List Term) → Sound page xs → length (sideFrom page above text xs) ≤ length text + powerMax * countOn above xs
     side-from-short text [] s = rw (side-end text) (omega arith)
@@ -81,7 +81,7 @@ module _ (page : List ℕ) (above : Bool) where
             → length (sideFrom page above text (x ∷ xs)) ≤ length text + powerMax * (cond (stands above (x .exp)) 1 0 + countOn above xs)
         go true e z n =
             let y = piece-short text x (first-used page x xs s) (first-inside page x xs s) in
-            let l = length-append text (separator above text ++ power (nameAt page (x .sym)) (natAbs (x .exp))) in
+            let l = length-append text (separator above text ++ power (nameAt page (x .symbol)) (natAbs (x .exp))) in
             rw (side-on text x xs e, e) (omega arith)
         go false e z n = rw (side-off text x xs e, e) (omega arith)
 

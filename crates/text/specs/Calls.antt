@@ -59,10 +59,10 @@ textVerdict page u =
 
 -- a text by value: its bytes from place 0 on, and zeros after them
 abbrev pub textOf : List ℕ → Text
-textOf bytes = record { verdict = Passed; length = length bytes; bytes = pad textMax 0 bytes }
+textOf bytes = record { verdict = Passed; size = length bytes; bytes = pad textMax 0 bytes }
 
 abbrev pub noText : Refusal → Text
-noText r = record { verdict = Refused r; length = 0; bytes = pad textMax 0 [] }
+noText r = record { verdict = Refused r; size = 0; bytes = pad textMax 0 [] }
 
 abbrev pub told : Verdict → List ℕ → Text
 told Passed bytes = textOf bytes

@@ -34,7 +34,7 @@ separator above (x ∷ text) = 42 ∷ []
 unfoldable pub sideFrom : List ℕ → Bool → List ℕ → List Term → List ℕ
 sideFrom names above text [] = text
 sideFrom names above text (x ∷ xs) =
-    sideFrom names above (cond (stands above (x .exp)) (text ++ (separator above text ++ power (nameAt names (x .sym)) (natAbs (x .exp)))) text) xs
+    sideFrom names above (cond (stands above (x .exp)) (text ++ (separator above text ++ power (nameAt names (x .symbol)) (natAbs (x .exp)))) text) xs
 
 abbrev pub side : List ℕ → Bool → List Term → List ℕ
 side names above xs = sideFrom names above [] xs

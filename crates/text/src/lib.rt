@@ -21,12 +21,15 @@ ghost use Rattle.text.specs.Text.{power, stands, separator, side, lineOf
 ghost use Rattle.text.specs.Calls.{exponentDigits, powerMax, textMax, present, countOn, Writable, textOf, noText, textAnswer};
 
 // How many bytes a text has at most: `1`, and every symbol below the line with `/` or `*`, its name, `^` and four digits.
-pub const TEXT_BYTES: usize = 1 + PLACES * (names::NAME_BYTES + 6);
+pub const TEXT_BYTES: usize = 1 + PLACES * (names::NAME_BYTES + EXPONENT_DIGITS + 2);
+
+// How many digits an exponent has at most.
+pub const EXPONENT_DIGITS: usize = 4;
 
 // A text by value: its bytes from place 0 on, and zeros after them.
 pub struct Text {
     pub verdict: Verdict,
-    pub length: usize,
+    pub size: usize,
     pub bytes: [u8; TEXT_BYTES],
 }
 
@@ -99,7 +102,7 @@ fn write_side(out: &mut [u8], start: usize, page: &[u8], v: Unit, above: bool) -
     at
 }
 
-// Writes both sides at the front of the page, and answers how many bytes they have.
+// Writes both sides at the front of `out`, and answers how many bytes they have.
 fn write_line(out: &mut [u8], page: &[u8], v: Unit) -> usize
     requires { ⌜ Writable (now page) v × (textMax ≤ length (now out)) ⌝ }
     ensures { λ r. ⌜ (r ≡ length (lineOf (now (page .entry)) (termsOf v))) × (now (out .exit) ≡ put (now (out .entry)) 0 (lineOf (now (page .entry)) (termsOf v))) ⌝ }
@@ -118,10 +121,10 @@ fn written(page: &[u8], v: Unit) -> Text
     ensures { λ r. ⌜ r ≡ textOf (lineOf (now (page .entry)) (termsOf v)) ⌝ }
 {
     let mut bytes = [0u8; TEXT_BYTES];
-    let length = write_line(&mut bytes, page, v);
+    let size = write_line(&mut bytes, page, v);
     Text {
         verdict: Verdict::Passed,
-        length,
+        size,
         bytes,
     }
 }
@@ -132,7 +135,7 @@ fn no_text(refusal: Refusal) -> Text
 {
     Text {
         verdict: Verdict::Refused(refusal),
-        length: 0,
+        size: 0,
         bytes: [0; TEXT_BYTES],
     }
 }

@@ -39,21 +39,21 @@ length-terms (suc n) i ss es = ap suc (length-terms n (suc i) ss es)
 -- ---- an ordered list, taken apart
 
 pub record Ordered (n lo : ℕ) (x : Term) (xs : List Term) : Type 0 where
-  pub low : lo ≤ x .sym
-  pub used : x .sym < n
+  pub low : lo ≤ x .symbol
+  pub used : x .symbol < n
   pub nonzero : isZero (x .exp) ≡ false
   pub inside : outside (x .exp) ≡ false
-  pub rest : ordered n (suc (x .sym)) xs ≡ true
+  pub rest : ordered n (suc (x .symbol)) xs ≡ true
 
 pub ordered-parts : (n lo : ℕ) (x : Term) (xs : List Term) → ordered n lo (x ∷ xs) ≡ true → Ordered n lo x xs
 ordered-parts n lo x xs h =
-    let a = and-true (leb lo (x .sym)) (ltb (x .sym) n && (not (isZero (x .exp)) && (not (outside (x .exp)) && ordered n (suc (x .sym)) xs))) h in
-    let e = and-true (ltb (x .sym) n) (not (isZero (x .exp)) && (not (outside (x .exp)) && ordered n (suc (x .sym)) xs)) (a .1) in
-    let b = and-true (not (isZero (x .exp))) (not (outside (x .exp)) && ordered n (suc (x .sym)) xs) (e .1) in
-    let d = and-true (not (outside (x .exp))) (ordered n (suc (x .sym)) xs) (b .1) in
+    let a = and-true (leb lo (x .symbol)) (ltb (x .symbol) n && (not (isZero (x .exp)) && (not (outside (x .exp)) && ordered n (suc (x .symbol)) xs))) h in
+    let e = and-true (ltb (x .symbol) n) (not (isZero (x .exp)) && (not (outside (x .exp)) && ordered n (suc (x .symbol)) xs)) (a .1) in
+    let b = and-true (not (isZero (x .exp))) (not (outside (x .exp)) && ordered n (suc (x .symbol)) xs) (e .1) in
+    let d = and-true (not (outside (x .exp))) (ordered n (suc (x .symbol)) xs) (b .1) in
     record {
-      low = leb-true lo (x .sym) (a .0);
-      used = ltb-true (x .sym) n (e .0);
+      low = leb-true lo (x .symbol) (a .0);
+      used = ltb-true (x .symbol) n (e .0);
       nonzero = not-true (isZero (x .exp)) (b .0);
       inside = not-true (outside (x .exp)) (d .0);
       rest = d .1;

@@ -25,9 +25,9 @@ placesOf u = record { count = u .count; symbols = u .symbols; exponents = u .exp
 abbrev pub kind : Kind Sum
 kind = record { Held = λ w l. w ≡ sumOf l; count = λ w. w .count; counts = λ w l e. ap (λ (v : Sum). v .count) e }
 
-syms-more : (l : List Term) (x : Term) → syms (l ++ (x ∷ [])) ≡ syms l ++ (x .sym ∷ [])
+syms-more : (l : List Term) (x : Term) → syms (l ++ (x ∷ [])) ≡ syms l ++ (x .symbol ∷ [])
 syms-more [] x = refl
-syms-more (y ∷ l) x = ap (λ t. y .sym ∷ t) (syms-more l x)
+syms-more (y ∷ l) x = ap (λ t. y .symbol ∷ t) (syms-more l x)
 
 exps-more : (l : List Term) (x : Term) → exps (l ++ (x ∷ [])) ≡ exps l ++ (x .exp ∷ [])
 exps-more [] x = refl
@@ -58,10 +58,10 @@ count-more l x = sym (length-append l (x ∷ []))
 
 -- over the number of places
 module _ (n : ℕ) (l : List Term) (x : Term) where
-  symbols-room : length l < n → set (pad n 0 (syms l)) (length l) (x .sym) ≡ pad n 0 (syms (l ++ (x ∷ [])))
+  symbols-room : length l < n → set (pad n 0 (syms l)) (length l) (x .symbol) ≡ pad n 0 (syms (l ++ (x ∷ [])))
   symbols-room h =
-      ap (λ k. set (pad n 0 (syms l)) k (x .sym)) (sym (length-syms l))
-      ∙ pad-more n 0 (syms l) (x .sym) (rw (length-syms l) h)
+      ap (λ k. set (pad n 0 (syms l)) k (x .symbol)) (sym (length-syms l))
+      ∙ pad-more n 0 (syms l) (x .symbol) (rw (length-syms l) h)
       ∙ ap (pad n 0) (sym (syms-more l x))
 
   exponents-room : length l < n → set (pad n (pos 0) (exps l)) (length l) (x .exp) ≡ pad n (pos 0) (exps (l ++ (x ∷ [])))
@@ -71,7 +71,7 @@ module _ (n : ℕ) (l : List Term) (x : Term) where
       ∙ ap (pad n (pos 0)) (sym (exps-more l x))
 
   symbols-full : n ≤ length l → pad n 0 (syms l) ≡ pad n 0 (syms (l ++ (x ∷ [])))
-  symbols-full h = pad-full n 0 (syms l) (x .sym ∷ []) (rw (length-syms l) h) ∙ ap (pad n 0) (sym (syms-more l x))
+  symbols-full h = pad-full n 0 (syms l) (x .symbol ∷ []) (rw (length-syms l) h) ∙ ap (pad n 0) (sym (syms-more l x))
 
   exponents-full : n ≤ length l → pad n (pos 0) (exps l) ≡ pad n (pos 0) (exps (l ++ (x ∷ [])))
   exponents-full h = pad-full n (pos 0) (exps l) (x .exp ∷ []) (rw (length-exps l) h) ∙ ap (pad n (pos 0)) (sym (exps-more l x))
@@ -121,7 +121,7 @@ terms-at : (l : List Term) (i : ℕ) (ss : List ℕ) (es : List ℤ)
 terms-at [] i ss es f g = refl
 terms-at (x ∷ l) i ss es f g =
     ap₂ {C = List Term} (λ (t : Term) (r : List Term). t ∷ r)
-    (λ d. record { sym = (ap (λ (k : ℕ). getD ss k 0) (sym (add-zero i)) ∙ f 0 (zero-lt-suc (length l))) d; exp = (ap (λ (k : ℕ). getD es k (pos 0)) (sym (add-zero i)) ∙ g 0 (zero-lt-suc (length l))) d })
+    (λ d. record { symbol = (ap (λ (k : ℕ). getD ss k 0) (sym (add-zero i)) ∙ f 0 (zero-lt-suc (length l))) d; exp = (ap (λ (k : ℕ). getD es k (pos 0)) (sym (add-zero i)) ∙ g 0 (zero-lt-suc (length l))) d })
     (terms-at l (suc i) ss es (λ k h. rw (suc-add i k, ← add-suc i k) (f (suc k) (suc-le-suc-iff .1 h))) (λ k h. rw (suc-add i k, ← add-suc i k) (g (suc k) (suc-le-suc-iff .1 h))))
 
 -- the terms that a unit holds are those that it was made of

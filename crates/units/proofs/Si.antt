@@ -53,16 +53,16 @@ joined-exponent s t e l = go (isZero e) refl
 module _ (s : ℕ) (x : Term) (rest : List Term → List Term) (R : ℤ) (known : (zs : List Term) → exponent s (rest zs) ≡ R +ℤ exponent s zs) where
   weave-exponent : (ys : List Term) → exponent s (weave x rest ys) ≡ (part s x +ℤ R) +ℤ exponent s ys
   weave-exponent [] = ap (λ z. part s x +ℤ z) (known []) ∙ sym (+ℤ-assoc (part s x) R (pos 0))
-  weave-exponent (y ∷ ys) = go (ltb (x .sym) (y .sym)) (ltb (y .sym) (x .sym)) refl refl (weave-exponent ys)
+  weave-exponent (y ∷ ys) = go (ltb (x .symbol) (y .symbol)) (ltb (y .symbol) (x .symbol)) refl refl (weave-exponent ys)
     where
-      go : (b c : Bool) → ltb (x .sym) (y .sym) ≡ b → ltb (y .sym) (x .sym) ≡ c → exponent s (weave x rest ys) ≡ (part s x +ℤ R) +ℤ exponent s ys
-          → exponent s (cond b (x ∷ rest (y ∷ ys)) (cond c (y ∷ weave x rest ys) (joined (x .sym) (x .exp +ℤ y .exp) (rest ys)))) ≡ (part s x +ℤ R) +ℤ (part s y +ℤ exponent s ys)
+      go : (b c : Bool) → ltb (x .symbol) (y .symbol) ≡ b → ltb (y .symbol) (x .symbol) ≡ c → exponent s (weave x rest ys) ≡ (part s x +ℤ R) +ℤ exponent s ys
+          → exponent s (cond b (x ∷ rest (y ∷ ys)) (cond c (y ∷ weave x rest ys) (joined (x .symbol) (x .exp +ℤ y .exp) (rest ys)))) ≡ (part s x +ℤ R) +ℤ (part s y +ℤ exponent s ys)
       go true c p q ih = ap (λ z. part s x +ℤ z) (known (y ∷ ys)) ∙ sym (+ℤ-assoc (part s x) R (part s y +ℤ exponent s ys))
       go false true p q ih = ap (λ z. part s y +ℤ z) ih ∙ swap (part s y) (part s x +ℤ R) (exponent s ys)
       go false false p q ih =
-          let e : y .sym ≡ x .sym = omega (arith, ltb-false (x .sym) (y .sym) p, ltb-false (y .sym) (x .sym) q) in
-          joined-exponent s (x .sym) (x .exp +ℤ y .exp) (rest ys)
-          ∙ ap₂ _+ℤ_ (part-sum s (x .sym) (x .exp) (y .exp) ∙ ap (λ t. part s x +ℤ part s (term t (y .exp))) (sym e)) (known ys)
+          let e : y .symbol ≡ x .symbol = omega (arith, ltb-false (x .symbol) (y .symbol) p, ltb-false (y .symbol) (x .symbol) q) in
+          joined-exponent s (x .symbol) (x .exp +ℤ y .exp) (rest ys)
+          ∙ ap₂ _+ℤ_ (part-sum s (x .symbol) (x .exp) (y .exp) ∙ ap (λ t. part s x +ℤ part s (term t (y .exp))) (sym e)) (known ys)
           ∙ four (part s x) (part s y) R (exponent s ys)
 
 merge-exponent : (s : ℕ) (xs ys : List Term) → exponent s (merge xs ys) ≡ exponent s xs +ℤ exponent s ys
@@ -79,7 +79,7 @@ part-neg s t e = go (eqb s t)
 turned-exponent : (d : Bool) (s : ℕ) (ys : List Term) → exponent s (turned d ys) ≡ turn d (exponent s ys)
 turned-exponent true s [] = refl
 turned-exponent true s (y ∷ ys) =
-    ap₂ _+ℤ_ (part-neg s (y .sym) (y .exp)) (turned-exponent true s ys) ∙ sym (negℤ-+ℤ (part s y) (exponent s ys))
+    ap₂ _+ℤ_ (part-neg s (y .symbol) (y .exp)) (turned-exponent true s ys) ∙ sym (negℤ-+ℤ (part s y) (exponent s ys))
 turned-exponent false s [] = refl
 turned-exponent false s (y ∷ ys) = ap (λ z. part s y +ℤ z) (turned-exponent false s ys)
 
@@ -122,7 +122,7 @@ written-exponent s (suc n) f h =
 append-asc : (lo n : ℕ) (e : ℤ) (xs : List Term) → Asc lo xs → Within n xs → lo ≤ n → Asc lo (xs ++ power n e)
 append-asc lo n e [] a b h = joined-asc lo n e [] h asc-none
 append-asc lo n e (x ∷ xs) a (within-more l b) h =
-    asc-more (head-low a) (head-nonzero a) (append-asc (suc (x .sym)) n e xs (tail-of a) b l)
+    asc-more (head-low a) (head-nonzero a) (append-asc (suc (x .symbol)) n e xs (tail-of a) b l)
 
 written-asc : (n : ℕ) (f : ℕ → ℤ) → Asc 0 (written n f)
 written-asc zero f = asc-none

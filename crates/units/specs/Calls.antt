@@ -37,7 +37,7 @@ termsFrom u i = terms (u .count - i) i (u .symbols) (u .exponents)
 
 abbrev pub syms : List Term → List ℕ
 syms [] = []
-syms (x ∷ xs) = x .sym ∷ syms xs
+syms (x ∷ xs) = x .symbol ∷ syms xs
 
 abbrev pub exps : List Term → List ℤ
 exps [] = []

@@ -14,7 +14,7 @@ turn true e = negℤ e
 
 abbrev pub turned : Bool → List Term → List Term
 turned quotient [] = []
-turned quotient (y ∷ ys) = term (y .sym) (turn quotient (y .exp)) ∷ turned quotient ys
+turned quotient (y ∷ ys) = term (y .symbol) (turn quotient (y .exp)) ∷ turned quotient ys
 
 -- a term before the rest: zero removes the symbol
 abbrev pub joined : ℕ → ℤ → List Term → List Term
@@ -24,8 +24,8 @@ joined s e rest = cond (isZero e) rest (term s e ∷ rest)
 abbrev pub weave : Term → (List Term → List Term) → List Term → List Term
 weave x rest [] = x ∷ rest []
 weave x rest (y ∷ ys) =
-    cond (ltb (x .sym) (y .sym)) (x ∷ rest (y ∷ ys))
-    (cond (ltb (y .sym) (x .sym)) (y ∷ weave x rest ys) (joined (x .sym) (x .exp +ℤ y .exp) (rest ys)))
+    cond (ltb (x .symbol) (y .symbol)) (x ∷ rest (y ∷ ys))
+    (cond (ltb (y .symbol) (x .symbol)) (y ∷ weave x rest ys) (joined (x .symbol) (x .exp +ℤ y .exp) (rest ys)))
 
 abbrev pub merge : List Term → List Term → List Term
 merge [] ys = ys

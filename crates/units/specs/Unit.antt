@@ -17,11 +17,11 @@ exponentMax = 1000
 
 -- a symbol's number and its exponent
 pub record Term : Type 0 where
-  pub sym : ℕ
+  pub symbol : ℕ
   pub exp : ℤ
 
 abbrev pub term : ℕ → ℤ → Term
-term s e = record { sym = s; exp = e }
+term s e = record { symbol = s; exp = e }
 
 abbrev pub isZero : ℤ → Bool
 isZero e = eqb (natAbs e) 0
@@ -34,7 +34,7 @@ outside e = ltb exponentMax (natAbs e)
 abbrev pub ordered : ℕ → ℕ → List Term → Bool
 ordered n lo [] = true
 ordered n lo (x ∷ xs) =
-    leb lo (x .sym) && (ltb (x .sym) n && (not (isZero (x .exp)) && (not (outside (x .exp)) && ordered n (suc (x .sym)) xs)))
+    leb lo (x .symbol) && (ltb (x .symbol) n && (not (isZero (x .exp)) && (not (outside (x .exp)) && ordered n (suc (x .symbol)) xs)))
 
 -- a unit in form: at most p symbols, each one of n numbers of names
 unfoldable pub formed : ℕ → ℕ → List Term → Bool
@@ -42,7 +42,7 @@ formed p n xs = leb (length xs) p && ordered n 0 xs
 
 -- what a term adds to the exponent of s
 abbrev pub part : ℕ → Term → ℤ
-part s x = cond (eqb s (x .sym)) (x .exp) (pos 0)
+part s x = cond (eqb s (x .symbol)) (x .exp) (pos 0)
 
 -- the exponent of s: the sum over the terms that have it, so 0 where none does
 abbrev pub exponent : ℕ → List Term → ℤ

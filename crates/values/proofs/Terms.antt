@@ -4,7 +4,7 @@ use mathlib.Core.List.{List, [], _∷_, _++_, append-assoc, append-nil}
 use Prim.Native.Nat.{ℕ, suc, _+_, _-_, _*_, _≤_, _<_}
 use native.Mathlib.Omega.{arith}
 use lib.ListN.{length, getD, replicate, length-append, length-replicate}
-use Rattle.pages.specs.Bytes.{bytesOf, put}
+use Rattle.pages.specs.Bytes.{wordAt, bytesOf, put}
 use Rattle.pages.specs.Pad.{pad}
 use Rattle.pages.proofs.Put.{put-none, put-append, put-length}
 use Rattle.pages.proofs.Pad.{put-pad}
@@ -13,7 +13,7 @@ use Rattle.units.specs.Calls.{termsOf, termsFrom, unitOf}
 use Rattle.units.specs.declared.Unit.{Unit}
 use Rattle.units.proofs.Form.{symAt, expAt, length-terms, from-start, from-step, from-end}
 use Rattle.units.proofs.Held.{placesOf}
-use Rattle.values.specs.Value.{termBytes, unitMax, signedOf, wordAt, termsAt, rawOf, bytesIn, unitBytes}
+use Rattle.values.specs.Value.{termBytes, unitMax, signedOf, termsAt, rawOf, bytesIn, unitBytes}
 
 -- ---- reading: the terms that are out, with those still in the bytes, are all
 

@@ -1,14 +1,16 @@
 -- The unit of a value node, in bytes: "symbol count (255 for no unit), then symbol (1 byte) and signed exponent (2) each"
--- (document 01, "Formulas and sheets").
+-- (document 01, "Formulas and sheets"). Here bytes of another length break a unit's form; in a sheet the record's reader
+-- judges the length of its body, and comes here with one that is right.
 use mathlib.Core.Bool.{Bool, _&&_, _||_, not, cond}
-use mathlib.Core.List.{List, [], _∷_}
-use Prim.Native.Nat.{ℕ, zero, suc, _+_, _-_, _*_, _/_, _%_}
+use mathlib.Core.List.{List, [], _∷_, _++_}
+use Prim.Native.Nat.{ℕ, zero, suc, _+_, _-_, _*_}
 use lib.Dec.{ltb, leb, eqb}
 use lib.ListN.{length, getD}
 use lib.IntN.{ℤ, pos, negsuc}
 use Rattle.refusals.specs.Lowest.{_when_, lowest}
 use Rattle.refusals.specs.declared.Refusal.the-variants.{BadUnit}
 use Rattle.refusals.specs.declared.Verdict.{Verdict}
+use Rattle.pages.specs.Bytes.{wordAt, bytesOf}
 use Rattle.units.specs.Unit.{placesMax, Term, term}
 use Rattle.units.specs.Calls.{unitOf}
 use Rattle.units.specs.declared.MaybeUnit.{MaybeUnit}
@@ -31,10 +33,6 @@ unitMax = 1 + placesMax * termBytes
 -- sixteen bits as a signed number
 abbrev pub signedOf : ℕ → ℤ
 signedOf raw = cond (ltb raw 32768) (pos raw) (negsuc (65535 - raw))
-
--- the number at index i, two bytes big-endian
-abbrev pub wordAt : List ℕ → ℕ → ℕ
-wordAt bytes i = getD bytes i 0 * 256 + getD bytes (i + 1) 0
 
 -- n terms, from index at on
 abbrev pub termsAt : List ℕ → ℕ → ℕ → List Term
@@ -68,7 +66,7 @@ rawOf (negsuc n) = 65535 - n
 
 abbrev pub bytesIn : List Term → List ℕ
 bytesIn [] = []
-bytesIn (x ∷ xs) = x .sym ∷ rawOf (x .exp) / 256 ∷ rawOf (x .exp) % 256 ∷ bytesIn xs
+bytesIn (x ∷ xs) = x .symbol ∷ (bytesOf (rawOf (x .exp)) ++ bytesIn xs)
 
 -- the bytes of a unit
 abbrev pub unitBytes : List Term → List ℕ

@@ -25,7 +25,7 @@ returns c =
     let a = readAnswer (now (c .before .before .before .before .before .args .page)) (c .before .before .before .before .before .args .k) in
     let e : c .before .before .before .read-name .result ≡ a = c .before .before .before .read-name .ensures in
     let h : isRefused (a .verdict) ≡ true = ap (λ (r : Name). isRefused (r .verdict)) (sym e) ∙ sym (c .before .before .is-refused .ensures) ∙ c .before .if1 .taken in
-    (c .packed-as .ensures ∙ ap (λ (r : Name). packed (r .verdict) (r .length)) e, kept (a .verdict) (a .bytes) (now (c .before .before .before .before .before .args .out)) h)
+    (c .packed-as .ensures ∙ ap (λ (r : Name). packed (r .verdict) (r .size)) e, kept (a .verdict) (a .bytes) (now (c .before .before .before .before .before .args .out)) h)
 
 packed-as-requires-2 : tie.Need-packed-as-requires-2
 packed-as-requires-2 c κs = search needs
@@ -35,7 +35,7 @@ returns-2 c =
     let a = readAnswer (now (c .before .before .before .before .before .before .args .page)) (c .before .before .before .before .before .before .args .k) in
     let e : c .before .before .before .before .read-name .result ≡ a = c .before .before .before .before .read-name .ensures in
     let h : isRefused (a .verdict) ≡ false = ap (λ (r : Name). isRefused (r .verdict)) (sym e) ∙ sym (c .before .before .before .is-refused .ensures) ∙ c .before .before .if1 .left in
-    (c .packed-as2 .ensures ∙ ap (λ (r : Name). packed (r .verdict) (r .length)) e, ap (λ (r : Name). r .bytes) e ∙ changed (a .verdict) (a .bytes) (now (c .before .before .before .before .before .before .args .out)) h)
+    (c .packed-as2 .ensures ∙ ap (λ (r : Name). packed (r .verdict) (r .size)) e, ap (λ (r : Name). r .bytes) e ∙ changed (a .verdict) (a .bytes) (now (c .before .before .before .before .before .before .args .out)) h)
 
 pub riddlepoppy-read-name-spec : {M : Type 1} → statement M
 riddlepoppy-read-name-spec =

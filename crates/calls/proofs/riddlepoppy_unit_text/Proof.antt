@@ -28,7 +28,7 @@ returns c =
     let a = textIn (now (c .before .before .before .before .before .before .before .args .page)) (now (c .before .before .before .before .before .before .before .args .unit)) in
     let e : c .before .before .before .unit-text .result ≡ a = c .before .before .before .unit-text .ensures ∙ ap (textAnswer (now (c .before .before .before .before .before .before .before .args .page))) (c .before .before .before .before .unit-or-broken .ensures) in
     let h : isRefused (a .verdict) ≡ true = ap (λ (r : Text). isRefused (r .verdict)) (sym e) ∙ sym (c .before .before .is-refused .ensures) ∙ c .before .if1 .taken in
-    (c .packed-as .ensures ∙ ap (λ (r : Text). packed (r .verdict) (r .length)) e, kept (a .verdict) (a .bytes) (now (c .before .before .before .before .before .before .before .args .out)) h)
+    (c .packed-as .ensures ∙ ap (λ (r : Text). packed (r .verdict) (r .size)) e, kept (a .verdict) (a .bytes) (now (c .before .before .before .before .before .before .before .args .out)) h)
 
 packed-as-requires-2 : tie.Need-packed-as-requires-2
 packed-as-requires-2 c κs = search needs
@@ -38,7 +38,7 @@ returns-2 c =
     let a = textIn (now (c .before .before .before .before .before .before .before .before .args .page)) (now (c .before .before .before .before .before .before .before .before .args .unit)) in
     let e : c .before .before .before .before .unit-text .result ≡ a = c .before .before .before .before .unit-text .ensures ∙ ap (textAnswer (now (c .before .before .before .before .before .before .before .before .args .page))) (c .before .before .before .before .before .unit-or-broken .ensures) in
     let h : isRefused (a .verdict) ≡ false = ap (λ (r : Text). isRefused (r .verdict)) (sym e) ∙ sym (c .before .before .before .is-refused .ensures) ∙ c .before .before .if1 .left in
-    (c .packed-as2 .ensures ∙ ap (λ (r : Text). packed (r .verdict) (r .length)) e, ap (λ (r : Text). r .bytes) e ∙ changed (a .verdict) (a .bytes) (now (c .before .before .before .before .before .before .before .before .args .out)) h)
+    (c .packed-as2 .ensures ∙ ap (λ (r : Text). packed (r .verdict) (r .size)) e, ap (λ (r : Text). r .bytes) e ∙ changed (a .verdict) (a .bytes) (now (c .before .before .before .before .before .before .before .before .args .out)) h)
 
 pub riddlepoppy-unit-text-spec : {M : Type 1} → statement M
 riddlepoppy-unit-text-spec =

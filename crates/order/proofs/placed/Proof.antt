@@ -79,7 +79,7 @@ returns c =
     let page = now (g .page) in
     let x = term (g .s) (toZ w16 (ofZ w16 (g .e))) in
     let l = c .before .before .before .before .before .before .before .before .loop in
-    let b : comes (nameAt page (x .sym)) (nameAt page (symAt (placesOf (g .t2)) (l .j))) ≡ c .before .before .before .is-before .result =
+    let b : comes (nameAt page (x .symbol)) (nameAt page (symAt (placesOf (g .t2)) (l .j))) ≡ c .before .before .before .is-before .result =
     rw (c .before .before .before .is-before .ensures, c .before .before .before .before .before .before .before .before .before .before .name-of .ensures .0, c .before .before .before .before .name-of2 .ensures .0, c .before .before .before .before .before .before .before .before .before .before .before .index .ensures .0, c .before .before .before .before .before .index2 .ensures .0) in
     placing-here page (g .t2) x (l .v) (l .j) (l .inv) (c .before .before .before .before .before .before .before .loop-test .taken) (b ∙ c .before .before .if1 .taken) (c .before .with-term .result) (c .with-rest .result)
     (λ k q. c .before .with-term .ensures ∙ grown _ _ _ k q) (c .with-rest .ensures)
@@ -111,7 +111,7 @@ loop-again c =
     let page = now (g .page) in
     let x = term (g .s) (toZ w16 (ofZ w16 (g .e))) in
     let l = c .before .before .before .before .before .before .before .before .loop in
-    let b : comes (nameAt page (x .sym)) (nameAt page (symAt (placesOf (g .t2)) (l .j))) ≡ c .before .before .before .is-before .result =
+    let b : comes (nameAt page (x .symbol)) (nameAt page (symAt (placesOf (g .t2)) (l .j))) ≡ c .before .before .before .is-before .result =
     rw (c .before .before .before .is-before .ensures, c .before .before .before .before .before .before .before .before .before .before .name-of .ensures .0, c .before .before .before .before .name-of2 .ensures .0, c .before .before .before .before .before .before .before .before .before .before .before .index .ensures .0, c .before .before .before .before .before .index2 .ensures .0) in
     placing-next page (g .t2) x (l .v) (l .j) (l .inv) (c .before .before .before .before .before .before .before .loop-test .taken) (b ∙ c .before .before .if1 .left) (c .with-term2 .result)
     (λ k q. c .with-term2 .ensures ∙ grown _ _ _ k q ∙ ap (λ z. unitOf (k ++ (term (symAt (placesOf (g .t2)) (l .j)) z ∷ []))) (back (expAt (placesOf (g .t2)) (l .j)) (c .before .with-term-arg .given)))

@@ -6,11 +6,12 @@ use native.Mathlib.Omega.{arith}
 use lib.ListN.{getD}
 use denote.Ref.{now}
 use borrow.Author.Needs.{needs}
+use Rattle.pages.specs.Bytes.{wordAt}
 use Rattle.units.specs.Unit.{term}
 use Rattle.units.specs.Calls.{unitOf}
 use Rattle.units.proofs.Signed.{back}
 use Rattle.units.proofs.Held.{grown}
-use Rattle.values.specs.Value.{signedOf, wordAt}
+use Rattle.values.specs.Value.{signedOf}
 use Rattle.values.proofs.Terms.{Reading, reading-start, reading-count, reading-next, reading-end}
 use Rattle.values.proofs.unit_at.Statement.{statement}
 use Rattle.values.proofs.unit_at.Tie as tie
