@@ -1,6 +1,6 @@
 -- The merge of two units, turn by turn, for every number of places. Assumes nothing.
-use mathlib.Core.Path.{_≡_, sym, ap, subst, _∙_}
-use mathlib.Core.Bool.{Bool, true, false}
+use mathlib.Core.Path.{_≡_, refl, sym, ap, subst, _∙_}
+use mathlib.Core.Bool.{Bool, true, false, cond}
 use mathlib.Core.List.{List, [], _∷_, _++_, append-assoc, append-nil}
 use Prim.Native.Nat.{ℕ, _+_, _-_, _≤_, _<_}
 use native.Mathlib.Omega.{arith}
@@ -20,6 +20,24 @@ pub record Kind (W : Type 0) : Type 1 where
 -- what `pushed` ensures
 abbrev pub Pushed : {W : Type 0} → Kind W → W → W → ℕ → ℤ → Type 0
 Pushed K w r s e = (l : List Term) → K .Held w l → K .Held r (l ++ (term s e ∷ []))
+
+-- what `joined_to` ensures
+abbrev pub Joined : {W : Type 0} → Kind W → W → W → ℕ → ℤ → Type 0
+Joined K w r s e = (l : List Term) → K .Held w l → K .Held r (l ++ joined s e [])
+
+joined-before : (s : ℕ) (e : ℤ) (rest : List Term) → joined s e [] ++ rest ≡ joined s e rest
+joined-before s e rest = go (isZero e)
+  where
+    go : (b : Bool) → cond b [] (term s e ∷ []) ++ rest ≡ cond b rest (term s e ∷ rest)
+    go true = refl
+    go false = refl
+
+joined-short : (s : ℕ) (e : ℤ) → length (joined s e []) ≤ 1
+joined-short s e = go (isZero e)
+  where
+    go : (b : Bool) → length (cond b [] (term s e ∷ [])) ≤ 1
+    go true = omega arith
+    go false = omega arith
 
 abbrev pub left : Bool → Places → Places → ℕ → ℕ → List Term
 left d a b i j = merge (termsFrom a i) (turned d (termsFrom b j))
@@ -106,31 +124,22 @@ module _ {W : Type 0} (K : Kind W) (n : ℕ) (d : Bool) (a b : Places) where
       pub right-last : a .count ≤ i → Stand K n d a b r i (j + 1)
       right-last k = by-right (rw (from-end a i k, from-step b j h))
 
-    -- a term of each: their sum goes out, unless it is zero
+    -- a term of each: what they come to goes out, unless it is zero
     module _ (h : i < a .count) (k : j < b .count) (le : symAt a i ≤ symAt b j) (ge : symAt b j ≤ symAt a i) where
       both : left d a b i j ≡ joined (symAt a i) (expAt a i +ℤ turn d (expAt b j)) (left d a b (i + 1) (j + 1))
       both = rw (from-step a i h, from-step b j k, le-ltb (symAt a i) (symAt b j) ge, le-ltb (symAt b j) (symAt a i) le)
 
-      pub both-stay : isZero (expAt a i +ℤ turn d (expAt b j)) ≡ false → Pushed K w r (symAt a i) (expAt a i +ℤ turn d (expAt b j)) → Stand K n d a b r (i + 1) (j + 1)
-      both-stay z f =
-          let c = pushed-count (symAt a i) (expAt a i +ℤ turn d (expAt b j)) f in
+      pub both-next : Joined K w r (symAt a i) (expAt a i +ℤ turn d (expAt b j)) → Stand K n d a b r (i + 1) (j + 1)
+      both-next f =
+          let x = joined (symAt a i) (expAt a i +ℤ turn d (expAt b j)) [] in
+          let z = joined-short (symAt a i) (expAt a i +ℤ turn d (expAt b j)) in
+          let h1 : K .count r ≡ length (st .out ++ x) = K .counts r (st .out ++ x) (f (st .out) (st .held)) in
+          let h2 : length (st .out ++ x) ≡ length (st .out) + length x = length-append (st .out) x in
+          let h3 : K .count w ≡ length (st .out) = K .counts w (st .out) (st .held) in
           record {
-            out = st .out ++ (term (symAt a i) (expAt a i +ℤ turn d (expAt b j)) ∷ []);
+            out = st .out ++ x;
             held = f (st .out) (st .held);
-            whole = out-more (symAt a i) (expAt a i +ℤ turn d (expAt b j)) (left d a b (i + 1) (j + 1)) (both ∙ rw z);
-            i-in = omega arith;
-            j-in = omega arith;
-            a-in = st .a-in;
-            b-in = st .b-in;
-            short = omega arith;
-          }
-
-      pub both-gone : isZero (expAt a i +ℤ turn d (expAt b j)) ≡ true → Stand K n d a b w (i + 1) (j + 1)
-      both-gone z =
-          record {
-            out = st .out;
-            held = st .held;
-            whole = ap (λ t. st .out ++ t) (sym (both ∙ rw z)) ∙ st .whole;
+            whole = append-assoc (st .out) x (left d a b (i + 1) (j + 1)) ∙ ap (λ t. st .out ++ t) (joined-before (symAt a i) (expAt a i +ℤ turn d (expAt b j)) (left d a b (i + 1) (j + 1)) ∙ sym both) ∙ st .whole;
             i-in = omega arith;
             j-in = omega arith;
             a-in = st .a-in;

@@ -10,7 +10,7 @@ ghost use Rattle.refusals.specs.declared.Verdict.{Verdict};
 ghost use Rattle.names.specs.Table.{namesMax};
 ghost use Rattle.units.specs.Unit.{placesMax, Term, term, isZero, outside, formed};
 ghost use Rattle.units.specs.Product.{combine};
-ghost use Rattle.units.specs.Merge.{turn, turned, merge};
+ghost use Rattle.units.specs.Merge.{turn, turned, joined, merge};
 ghost use Rattle.units.specs.Calls.{termsOf, unitOf, withTerm, sumOf, formVerdict, given, productAnswer, exponentAnswer, unitlessAnswer};
 
 // How many symbols a unit has at most.
@@ -126,6 +126,17 @@ fn pushed(w: Sum, s: Symbol, e: i16) -> Sum
     v
 }
 
+// One term more, unless its exponent is zero: zero removes the symbol.
+fn joined_to(w: Sum, s: Symbol, g: i16) -> Sum
+    requires { ⌜ w .count < 65536 ⌝ }
+    ensures { λ r. ⌜ ((l : List Term) → w ≡ sumOf l → r ≡ sumOf (l ++ joined s g [])) ⌝ }
+{
+    if is_zero(g) {
+        return w;
+    }
+    pushed(w, s, g)
+}
+
 // The unit with one term more at its end, in order or not, for crates above.
 pub fn with_term(u: Unit, s: Symbol, e: i16) -> Unit
     requires { ⌜ u .count < placesMax ⌝ }
@@ -191,12 +202,9 @@ fn merged(a: Unit, b: Unit, quotient: bool) -> Sum
                     w = pushed(w, t, turned_by(f, quotient));
                     j += 1;
                 } else {
-                    let g = combined(e, f, quotient);
+                    w = joined_to(w, s, combined(e, f, quotient));
                     i += 1;
                     j += 1;
-                    if !is_zero(g) {
-                        w = pushed(w, s, g);
-                    }
                 }
             } else {
                 w = pushed(w, s, e);

@@ -10,7 +10,7 @@ use Rattle.units.specs.Product.{combine}
 use Rattle.units.specs.Merge.{turn}
 use Rattle.units.proofs.Signed.{back}
 use Rattle.units.proofs.Form.{symAt, expAt, formed-inside}
-use Rattle.units.proofs.Merge.{Stand, Pushed, stand-start, left-last, left-low, right-last, right-low, both-stay, both-gone, stand-end}
+use Rattle.units.proofs.Merge.{Stand, Pushed, Joined, stand-start, left-last, left-low, right-last, right-low, both-next, stand-end}
 use Rattle.units.proofs.Held.{placesOf, kind}
 use Rattle.units.proofs.Si.{combine-turn}
 use Rattle.units.proofs.merged.Statement.{statement}
@@ -110,56 +110,39 @@ add-i-2 c = search needs
 add-j-2 : tie.Need-add-j-2 Inv-loop μ-loop
 add-j-2 c = search needs
 
-is-zero-requires : tie.Need-is-zero-requires Inv-loop μ-loop
-is-zero-requires c κs = search needs
-
-pushed-requires-3 : tie.Need-pushed-requires-3 Inv-loop μ-loop
-pushed-requires-3 c κs = search needs
+joined-to-requires : tie.Need-joined-to-requires Inv-loop μ-loop
+joined-to-requires c κs = search needs
 
 loop-less-3 : tie.Need-loop-less-3 Inv-loop μ-loop
 loop-less-3 c = search needs
 
 loop-again-3 : tie.Need-loop-again-3 Inv-loop μ-loop
 loop-again-3 c =
-    let g = c .before .before .before .before .before .before .before .before .before .before .before .before .before .before .args in
+    let g = c .before .before .before .before .before .before .before .before .before .before .before .before .args in
     let a = placesOf (g .t1) in
     let b = placesOf (g .t2) in
-    let l = c .before .before .before .before .before .before .before .before .before .before .before .before .loop in
-    let h = back (c .before .before .before .combined .result) (c .before .before .before .combined .ok) ∙ c .before .before .before .combined .ensures ∙ ap₂ (combine (g .quotient)) (back (expAt a (l .i)) (c .before .before .before .before .before .before .before .before .before .e .given)) (back (expAt b (l .j)) (c .before .before .before .before .before .before .f .given)) ∙ (combine-turn (g .quotient) (expAt a (l .i)) (expAt b (l .j))) in
-    both-stay kind placesMax (g .quotient) a b (l .w) (c .pushed3 .result) (l .i) (l .j) (l .inv) (c .before .before .before .before .before .before .before .before .before .before .before .if1 .taken) (c .before .before .before .before .before .before .before .before .if2 .taken) (c .before .before .before .before .if4 .left) (c .before .before .before .before .before .if3 .left)
-    (ap isZero (sym h) ∙ sym (c .before .before .is-zero .ensures) ∙ not-true (c .before .before .is-zero .result) (c .before .if5 .taken))
-    (subst (λ z. Pushed kind (l .w) (c .pushed3 .result) (symAt a (l .i)) z) h (c .pushed3 .ensures))
+    let l = c .before .before .before .before .before .before .before .before .before .before .loop in
+    let h = back (c .before .combined .result) (c .before .combined .ok) ∙ c .before .combined .ensures ∙ ap₂ (combine (g .quotient)) (back (expAt a (l .i)) (c .before .before .before .before .before .before .before .e .given)) (back (expAt b (l .j)) (c .before .before .before .before .f .given)) ∙ combine-turn (g .quotient) (expAt a (l .i)) (expAt b (l .j)) in
+    both-next kind placesMax (g .quotient) a b (l .w) (c .joined-to .result) (l .i) (l .j) (l .inv) (c .before .before .before .before .before .before .before .before .before .if1 .taken) (c .before .before .before .before .before .before .if2 .taken) (c .before .before .if4 .left) (c .before .before .before .if3 .left)
+    (subst (λ z. Joined kind (l .w) (c .joined-to .result) (symAt a (l .i)) z) h (c .joined-to .ensures))
+
+pushed-requires-3 : tie.Need-pushed-requires-3 Inv-loop μ-loop
+pushed-requires-3 c κs = search needs
+
+add-i-3 : tie.Need-add-i-3 Inv-loop μ-loop
+add-i-3 c = search needs
 
 loop-less-4 : tie.Need-loop-less-4 Inv-loop μ-loop
 loop-less-4 c = search needs
 
 loop-again-4 : tie.Need-loop-again-4 Inv-loop μ-loop
 loop-again-4 c =
-    let g = c .before .before .before .before .before .before .before .before .before .before .before .before .before .args in
-    let a = placesOf (g .t1) in
-    let b = placesOf (g .t2) in
-    let l = c .before .before .before .before .before .before .before .before .before .before .before .loop in
-    let h = back (c .before .before .combined .result) (c .before .before .combined .ok) ∙ c .before .before .combined .ensures ∙ ap₂ (combine (g .quotient)) (back (expAt a (l .i)) (c .before .before .before .before .before .before .before .before .e .given)) (back (expAt b (l .j)) (c .before .before .before .before .before .f .given)) ∙ (combine-turn (g .quotient) (expAt a (l .i)) (expAt b (l .j))) in
-    both-gone kind placesMax (g .quotient) a b (l .w) (l .w) (l .i) (l .j) (l .inv) (c .before .before .before .before .before .before .before .before .before .before .if1 .taken) (c .before .before .before .before .before .before .before .if2 .taken) (c .before .before .before .if4 .left) (c .before .before .before .before .if3 .left)
-    (ap isZero (sym h) ∙ sym (c .before .is-zero .ensures) ∙ not-false (c .before .is-zero .result) (c .if5 .left))
-
-pushed-requires-4 : tie.Need-pushed-requires-4 Inv-loop μ-loop
-pushed-requires-4 c κs = search needs
-
-add-i-3 : tie.Need-add-i-3 Inv-loop μ-loop
-add-i-3 c = search needs
-
-loop-less-5 : tie.Need-loop-less-5 Inv-loop μ-loop
-loop-less-5 c = search needs
-
-loop-again-5 : tie.Need-loop-again-5 Inv-loop μ-loop
-loop-again-5 c =
     let g = c .before .before .before .before .before .before .before .args in
     let a = placesOf (g .t1) in
     let b = placesOf (g .t2) in
     let l = c .before .before .before .before .before .loop in
-    left-last kind placesMax (g .quotient) a b (l .w) (c .pushed4 .result) (l .i) (l .j) (l .inv) (c .before .before .before .before .if1 .taken)
-    (subst (λ z. Pushed kind (l .w) (c .pushed4 .result) (symAt a (l .i)) z) (back (expAt a (l .i)) (c .before .before .e .given)) (c .pushed4 .ensures))
+    left-last kind placesMax (g .quotient) a b (l .w) (c .pushed3 .result) (l .i) (l .j) (l .inv) (c .before .before .before .before .if1 .taken)
+    (subst (λ z. Pushed kind (l .w) (c .pushed3 .result) (symAt a (l .i)) z) (back (expAt a (l .i)) (c .before .before .e .given)) (c .pushed3 .ensures))
     (c .before .if2 .left)
 
 element-copy-out-pushed : tie.Need-element-copy-out-pushed Inv-loop μ-loop
@@ -177,26 +160,26 @@ turned-by-requires-2 c κs =
     let a = placesOf (g .t1) in
     let b = placesOf (g .t2) in
     let l = c .before .before .before .before .loop in
-    rw (back (expAt b (l .j)) (c .turned-by-arg .given)) (formed-inside placesMax namesMax b (c .before .before .before .before .before .before .pre .1) (l .j) (c .before .before .if6 .taken))
+    rw (back (expAt b (l .j)) (c .turned-by-arg .given)) (formed-inside placesMax namesMax b (c .before .before .before .before .before .before .pre .1) (l .j) (c .before .before .if5 .taken))
 
-pushed-requires-5 : tie.Need-pushed-requires-5 Inv-loop μ-loop
-pushed-requires-5 c κs = search needs
+pushed-requires-4 : tie.Need-pushed-requires-4 Inv-loop μ-loop
+pushed-requires-4 c κs = search needs
 
 add-j-3 : tie.Need-add-j-3 Inv-loop μ-loop
 add-j-3 c = search needs
 
-loop-less-6 : tie.Need-loop-less-6 Inv-loop μ-loop
-loop-less-6 c = search needs
+loop-less-5 : tie.Need-loop-less-5 Inv-loop μ-loop
+loop-less-5 c = search needs
 
-loop-again-6 : tie.Need-loop-again-6 Inv-loop μ-loop
-loop-again-6 c =
+loop-again-5 : tie.Need-loop-again-5 Inv-loop μ-loop
+loop-again-5 c =
     let g = c .before .before .before .before .before .before .before .before .args in
     let a = placesOf (g .t1) in
     let b = placesOf (g .t2) in
     let l = c .before .before .before .before .before .before .loop in
     let f = back (c .before .turned-by2 .result) (c .before .turned-by2 .ok) ∙ c .before .turned-by2 .ensures ∙ ap (turn (g .quotient)) (back (expAt b (l .j)) (c .before .before .turned-by-arg .given)) in
-    right-last kind placesMax (g .quotient) a b (l .w) (c .pushed5 .result) (l .i) (l .j) (l .inv) (c .before .before .before .before .if6 .taken)
-    (subst (λ z. Pushed kind (l .w) (c .pushed5 .result) (symAt b (l .j)) z) f (c .pushed5 .ensures))
+    right-last kind placesMax (g .quotient) a b (l .w) (c .pushed4 .result) (l .i) (l .j) (l .inv) (c .before .before .before .before .if5 .taken)
+    (subst (λ z. Pushed kind (l .w) (c .pushed4 .result) (symAt b (l .j)) z) f (c .pushed4 .ensures))
     (c .before .before .before .before .before .if1 .left)
 
 returns : tie.Need-returns Inv-loop μ-loop
@@ -205,7 +188,7 @@ returns c =
     let a = placesOf (g .t1) in
     let b = placesOf (g .t2) in
     let l = c .before .before .loop in
-    stand-end kind placesMax (g .quotient) a b (l .w) (l .w) (l .i) (l .j) (l .inv) (c .before .if1 .left) (c .if6 .left)
+    stand-end kind placesMax (g .quotient) a b (l .w) (l .w) (l .i) (l .j) (l .inv) (c .before .if1 .left) (c .if5 .left)
 
 pub merged-spec : {M : Type 1} → statement M
 merged-spec =
@@ -231,24 +214,21 @@ merged-spec =
     loop-less-2
     loop-again-2
     combined-requires
+    joined-to-requires
     add-i-2
     add-j-2
-    is-zero-requires
-    pushed-requires-3
     loop-less-3
     loop-again-3
+    pushed-requires-3
+    add-i-3
     loop-less-4
     loop-again-4
-    pushed-requires-4
-    add-i-3
-    loop-less-5
-    loop-again-5
     element-copy-out-pushed
     mul-turned-by
     element-copy-out-turned-by
     turned-by-requires-2
-    pushed-requires-5
+    pushed-requires-4
     add-j-3
-    loop-less-6
-    loop-again-6
+    loop-less-5
+    loop-again-5
     returns)
