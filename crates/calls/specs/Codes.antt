@@ -24,9 +24,11 @@ use Rattle.text.specs.Calls.{textAnswer}
 use Rattle.text.specs.declared.Text.{Text}
 use Rattle.values.specs.Value.{rawOf, unitMax, unitBytes, valueVerdict, unitIn}
 
+-- a verdict and a value as one number
 abbrev pub packed : Verdict → ℕ → ℕ
 packed v n = codeOf v * 65536 + n % 65536
 
+-- what adding a name answers
 abbrev pub addedCode : Added → ℕ
 addedCode (added.At n) = packed Passed n
 addedCode (added.Refused r) = packed (Refused r) 0
@@ -35,6 +37,7 @@ addedCode (added.Refused r) = packed (Refused r) 0
 abbrev pub absent : ℕ
 absent = 65535
 
+-- what looking for a name answers
 abbrev pub foundCode : Found → ℕ
 foundCode (found.At n) = packed Passed n
 foundCode found.Absent = packed Passed absent
@@ -59,6 +62,7 @@ brokenUnit = record { count = placesMax + 1; symbols = pad placesMax 0 []; expon
 unfoldable pub unitOrBroken : List ℕ → Unit
 unitOrBroken bytes = cond (unitIn bytes .some) (unitIn bytes .unit) brokenUnit
 
+-- an answer, unless the bytes are refused
 abbrev pub answeredOr : Verdict → Unitless → Unitless
 answeredOr Passed answer = answer
 answeredOr (Refused r) answer = Unitless.Refused r

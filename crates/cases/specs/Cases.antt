@@ -33,6 +33,7 @@ second = 1
 
 -- ---- the rows
 
+-- every case marked *, in the order of document 01 within a module
 unfoldable pub cases : List Case
 cases =
     -- "m/s times s is m" ("Units and pairs")

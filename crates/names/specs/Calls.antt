@@ -18,7 +18,7 @@ use Rattle.names.specs.declared.Name.{Name}
 
 -- ---- making a table
 
--- a page too short for the count cannot be a table
+-- refused (2) is a page too short for the count, which cannot be a table; what else it holds does not matter yet
 unfoldable pub emptyVerdict : List ℕ → Verdict
 emptyVerdict page = lowest ((Broken when ltb (length page) countBytes) ∷ [])
 
@@ -40,6 +40,7 @@ roomy page name = ltb (countOf page) namesMax && leb (offset page (countOf page)
 unfoldable pub withName : List ℕ → List ℕ → List ℕ
 withName page name = put (put page (offset page (countOf page)) (length name ∷ name)) 0 (bytesOf (countOf page + 1))
 
+-- why adding is refused, if it is: 2, 4, or 10 for a new name without a place
 unfoldable pub addVerdict : List ℕ → List ℕ → Verdict
 addVerdict page name =
     lowest
@@ -48,6 +49,7 @@ addVerdict page name =
     ∷ (Full when (not (isKnown page name) && not (roomy page name)))
     ∷ [])
 
+-- a number, or the refusal
 abbrev pub numbered : Verdict → ℕ → Added
 numbered Passed n = Added.At n
 numbered (Refused r) n = Added.Refused r
@@ -56,14 +58,17 @@ numbered (Refused r) n = Added.Refused r
 unfoldable pub addAnswer : List ℕ → List ℕ → Added
 addAnswer page name = numbered (addVerdict page name) (numberOf page (countOf page) name)
 
+-- the page afterwards: changed only by a new name that is not refused
 unfoldable pub pageAfter : List ℕ → List ℕ → List ℕ
 pageAfter page name = unlessRefused (addVerdict page name) (cond (isKnown page name) page (withName page name)) page
 
 -- ---- looking for a name
 
+-- why looking is refused, if it is: 2 or 4
 unfoldable pub findVerdict : List ℕ → List ℕ → Verdict
 findVerdict page name = lowest ((Broken when not (formed page)) ∷ (Malformed when not (wellNamed name)) ∷ [])
 
+-- a number if the name is known, else its absence, or the refusal
 abbrev pub found : Verdict → Bool → ℕ → Found
 found Passed known n = cond known (Found.At n) Found.Absent
 found (Refused r) known n = Found.Refused r
@@ -74,6 +79,7 @@ findAnswer page name = found (findVerdict page name) (isKnown page name) (number
 
 -- ---- reading a name
 
+-- why reading is refused, if it is: 2, or 3 for a number not in use
 unfoldable pub readVerdict : List ℕ → ℕ → Verdict
 readVerdict page k = lowest ((Broken when not (formed page)) ∷ (Unused when leb (countOf page) k) ∷ [])
 
@@ -81,12 +87,15 @@ readVerdict page k = lowest ((Broken when not (formed page)) ∷ (Unused when le
 abbrev pub nameOf : List ℕ → Name
 nameOf name = record { verdict = Passed; size = length name; bytes = pad nameMax 0 name }
 
+-- no name, beside the refusal
 abbrev pub noName : Refusal → Name
 noName r = record { verdict = Refused r; size = 0; bytes = pad nameMax 0 [] }
 
+-- a name, or none beside the refusal
 abbrev pub named : Verdict → List ℕ → Name
 named Passed name = nameOf name
 named (Refused r) name = noName r
 
+-- the name with number k
 unfoldable pub readAnswer : List ℕ → ℕ → Name
 readAnswer page k = named (readVerdict page k) (nameAt page k)

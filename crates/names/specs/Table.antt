@@ -23,7 +23,7 @@ digit b = within 48 57 b
 unfoldable pub nameByte : ℕ → Bool
 nameByte b = within 65 90 b || (within 97 122 b || (eqb b 95 || digit b))
 
--- is byte i one of a name
+-- is byte i one that a name can have
 abbrev pub nameByteAt : List ℕ → ℕ → Bool
 nameByteAt name i = nameByte (getD name i 0)
 

@@ -7,11 +7,18 @@ ghost use mathlib.Core.Bool.{true};
 ghost use Prim.Native.Nat.{_+_, _≤_, _<_};
 ghost use lib.ListN.{length};
 ghost use Rattle.pages.specs.Bytes.{countOf};
-ghost use Rattle.names.specs.Table.{digit, nameByte, wellNamed, nameMax, offset, nameAt, numberOf, formed};
+ghost use Rattle.names.specs.Table.{digit, nameByte, wellNamed, namesMax, nameMax, offset, nameAt, numberOf, formed};
 ghost use Rattle.names.specs.Calls.{emptyVerdict, emptyPage, addAnswer, pageAfter, findAnswer, readAnswer, nameOf, noName};
 
 // A name's number, as units, pairs and types hold it.
 pub type Symbol = u8;
+
+// A symbol as an index.
+pub fn symbol_index(s: Symbol) -> usize
+    ensures { λ r. ⌜ (r ≡ s) × (r < namesMax) ⌝ }
+{
+    s as usize
+}
 
 // How many names there can be.
 pub const NAMES: usize = 256;

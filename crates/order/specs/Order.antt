@@ -23,6 +23,7 @@ unfoldable pub placed : List ℕ → List Term → List Term → List Term
 placed names done [] = done
 placed names done (x ∷ xs) = placed names (place names x done) xs
 
+-- a unit's terms in byte order of their names
 abbrev pub byName : List ℕ → List Term → List Term
 byName names xs = placed names [] xs
 

@@ -1,7 +1,7 @@
 // A unit's terms in byte order of their names.
 use names::Symbol;
 use names::name_of;
-use pages::index;
+use names::symbol_index;
 use units::Unit;
 use units::with_term;
 ghost use mathlib.Core.Path.{_≡_};
@@ -55,12 +55,12 @@ fn placed(page: &[u8], w: Unit, s: Symbol, e: i16) -> Unit
     ensures { λ r. ⌜ r ≡ unitOf (place (now (page .entry)) (term s e) (termsOf w)) ⌝ }
 {
     let n = w.count;
-    let name = name_of(page, index(s));
+    let name = name_of(page, symbol_index(s));
     let mut v = units::dimensionless();
     let mut j: usize = 0;
     while j < n {
         let t = w.symbols[j];
-        if is_before(name, name_of(page, index(t))) {
+        if is_before(name, name_of(page, symbol_index(t))) {
             return with_rest(with_term(v, s, e), w, j);
         }
         v = with_term(v, t, w.exponents[j]);

@@ -2,6 +2,7 @@
 use mathlib.Core.List.{List, [], _∷_}
 use Prim.Native.Nat.{ℕ, zero, suc}
 
+-- n places that hold a list: its first n elements, and fillers d after the last
 unfoldable pub pad : {A : Type 0} → ℕ → A → List A → List A
 pad zero d xs = []
 pad (suc n) d [] = d ∷ pad n d []

@@ -6,9 +6,9 @@ ghost use Rattle.refusals.specs.Numbers.{numberOf, codeOf, isRefused};
 pub enum Refusal {
     // A type kind, node form or operator code is undefined.
     Undefined,
-    // A lent store or table, or the bindings, break their form.
+    // A lent store or table, or the bindings, break their form or, with names lent, hold a name number not in use.
     Broken,
-    // A name, type or node number is not in use.
+    // A name, type or node number is not in use, or a Function's type number is no Callback.
     Unused,
     // A name is malformed.
     Malformed,
@@ -24,7 +24,7 @@ pub enum Refusal {
     Symbols,
     // There is no place for one more.
     Full,
-    // A sheet is too long, of another version, cut or misordered.
+    // A sheet is too long or of bad version, a record cut or misordered, or a body's length wrong.
     Sheet,
 }
 

@@ -33,7 +33,7 @@ powerMax = names.nameMax + exponentDigits + 2
 abbrev pub textMax : ℕ
 textMax = 1 + units.placesMax * powerMax
 
--- the terms whose symbols are looked up: a unit with more symbols than places says none
+-- the terms whose symbols are looked up: none where the unit says more symbols than it has places (docs/DECISIONS.md)
 abbrev pub present : Unit → List units.Term
 present u = cond (leb (u .count) units.placesMax) (termsOf u) []
 
@@ -49,6 +49,7 @@ pub record Writable (page : List ℕ) (v : Unit) : Type 0 where
   pub used : inUse (countOf page) (termsOf v) ≡ true
   pub inside : anyOutside (termsOf v) ≡ false
 
+-- why a text is refused, if it is: 2 the names page, 3 a symbol not in use, 5 the unit
 unfoldable pub textVerdict : List ℕ → Unit → Verdict
 textVerdict page u =
     lowest
@@ -61,12 +62,15 @@ textVerdict page u =
 abbrev pub textOf : List ℕ → Text
 textOf bytes = record { verdict = Passed; size = length bytes; bytes = pad textMax 0 bytes }
 
+-- no text, beside the refusal
 abbrev pub noText : Refusal → Text
 noText r = record { verdict = Refused r; size = 0; bytes = pad textMax 0 [] }
 
+-- a text, or none beside the refusal
 abbrev pub told : Verdict → List ℕ → Text
 told Passed bytes = textOf bytes
 told (Refused r) bytes = noText r
 
+-- the text of a unit, by the names of a page
 unfoldable pub textAnswer : List ℕ → Unit → Text
 textAnswer page u = told (textVerdict page u) (unitText page (termsOf u))

@@ -36,6 +36,7 @@ sideFrom names above text [] = text
 sideFrom names above text (x ∷ xs) =
     sideFrom names above (cond (stands above (x .exp)) (text ++ (separator above text ++ power (nameAt names (x .symbol)) (natAbs (x .exp)))) text) xs
 
+-- a side's text
 abbrev pub side : List ℕ → Bool → List Term → List ℕ
 side names above xs = sideFrom names above [] xs
 

@@ -1,7 +1,7 @@
 // The text of a unit (document 01, "Units and pairs"; `Display` of the source's units.rs).
 use digits::push;
 use names::name_of;
-use pages::index;
+use names::symbol_index;
 use refusals::Refusal;
 use refusals::Verdict;
 use units::PLACES;
@@ -93,7 +93,7 @@ fn write_side(out: &mut [u8], start: usize, page: &[u8], v: Unit, above: bool) -
         let e = v.exponents[i];
         if is_on(e, above) {
             let a = write_separator(out, start, at, above);
-            at = write_power(out, a, name_of(page, index(v.symbols[i])), size(e));
+            at = write_power(out, a, name_of(page, symbol_index(v.symbols[i])), size(e));
             i += 1;
         } else {
             i += 1;
@@ -150,7 +150,7 @@ fn is_used(u: Unit, n: usize) -> bool
     }
     let mut i: usize = 0;
     while i < k {
-        if n <= index(u.symbols[i]) {
+        if n <= symbol_index(u.symbols[i]) {
             return false;
         }
         i += 1;

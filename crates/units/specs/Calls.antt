@@ -35,10 +35,12 @@ termsOf u = terms (u .count) 0 (u .symbols) (u .exponents)
 abbrev pub termsFrom : Unit → ℕ → List Term
 termsFrom u i = terms (u .count - i) i (u .symbols) (u .exponents)
 
+-- the symbols of terms
 abbrev pub syms : List Term → List ℕ
 syms [] = []
 syms (x ∷ xs) = x .symbol ∷ syms xs
 
+-- the exponents of terms
 abbrev pub exps : List Term → List ℤ
 exps [] = []
 exps (x ∷ xs) = x .exp ∷ exps xs
@@ -57,6 +59,7 @@ sumOf l = record { count = length l; wide = anyOutside l; symbols = pad placesMa
 
 -- ---- is it a unit
 
+-- 5 for a unit that breaks its form
 unfoldable pub formVerdict : Unit → Verdict
 formVerdict u = lowest ((BadUnit when not (formed placesMax namesMax (termsOf u))) ∷ [])
 
@@ -67,21 +70,25 @@ abbrev pub given : Verdict → List Term → UnitResult
 given Passed l = record { verdict = Passed; unit = unitOf l }
 given (Refused r) l = record { verdict = Refused r; unit = unitOf [] }
 
+-- the product of two units by value or, with true, their quotient
 unfoldable pub productAnswer : Bool → Unit → Unit → UnitResult
 productAnswer quotient a b =
     given (productVerdict placesMax namesMax quotient (termsOf a) (termsOf b)) (productOf namesMax quotient (termsOf a) (termsOf b))
 
 -- ---- the exponent of a symbol
 
+-- an exponent, or the refusal
 abbrev pub powered : Verdict → ℤ → Power
 powered Passed e = Power.Of e
 powered (Refused r) e = Power.Refused r
 
+-- the exponent of symbol s in a unit in form
 unfoldable pub exponentAnswer : Unit → ℕ → Power
 exponentAnswer u s = powered (formVerdict u) (exponent s (termsOf u))
 
 -- ---- unitless or not: "\"No unit\" and the empty unit are different values; both count as unitless"
 
+-- is there no unit, or one of no symbol
 unfoldable pub unitless : MaybeUnit → Bool
 unitless m = not (m .some) || eqb (length (termsOf (m .unit))) 0
 
@@ -89,9 +96,11 @@ unitless m = not (m .some) || eqb (length (termsOf (m .unit))) 0
 unfoldable pub maybeVerdict : MaybeUnit → Verdict
 maybeVerdict m = lowest ((BadUnit when (m .some && not (formed placesMax namesMax (termsOf (m .unit))))) ∷ [])
 
+-- yes or no, or the refusal
 abbrev pub answered : Verdict → Bool → Unitless
 answered Passed holds = cond holds Unitless.Yes Unitless.No
 answered (Refused r) holds = Unitless.Refused r
 
+-- is a unit in form, or none, unitless
 unfoldable pub unitlessAnswer : MaybeUnit → Unitless
 unitlessAnswer m = answered (maybeVerdict m) (unitless m)

@@ -12,6 +12,7 @@ abbrev pub turn : Bool → ℤ → ℤ
 turn false e = e
 turn true e = negℤ e
 
+-- a unit's terms, each turned so
 abbrev pub turned : Bool → List Term → List Term
 turned quotient [] = []
 turned quotient (y ∷ ys) = term (y .symbol) (turn quotient (y .exp)) ∷ turned quotient ys
@@ -27,6 +28,7 @@ weave x rest (y ∷ ys) =
     cond (ltb (x .symbol) (y .symbol)) (x ∷ rest (y ∷ ys))
     (cond (ltb (y .symbol) (x .symbol)) (y ∷ weave x rest ys) (joined (x .symbol) (x .exp +ℤ y .exp) (rest ys)))
 
+-- the terms of two units in order of their symbols, joined
 abbrev pub merge : List Term → List Term → List Term
 merge [] ys = ys
 merge (x ∷ xs) ys = weave x (merge xs) ys

@@ -20,9 +20,11 @@ pub record Term : Type 0 where
   pub symbol : ℕ
   pub exp : ℤ
 
+-- a term of a symbol and an exponent
 abbrev pub term : ℕ → ℤ → Term
 term s e = record { symbol = s; exp = e }
 
+-- is an exponent zero
 abbrev pub isZero : ℤ → Bool
 isZero e = eqb (natAbs e) 0
 
@@ -36,7 +38,7 @@ ordered n lo [] = true
 ordered n lo (x ∷ xs) =
     leb lo (x .symbol) && (ltb (x .symbol) n && (not (isZero (x .exp)) && (not (outside (x .exp)) && ordered n (suc (x .symbol)) xs)))
 
--- a unit in form: at most p symbols, each one of n numbers of names
+-- a unit in form: at most p symbols, each the number of one of n names
 unfoldable pub formed : ℕ → ℕ → List Term → Bool
 formed p n xs = leb (length xs) p && ordered n 0 xs
 

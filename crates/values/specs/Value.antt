@@ -47,6 +47,7 @@ isNone bytes = eqb (length bytes) 1 && eqb (getD bytes 0 0) noneCount
 abbrev pub isSome : List ℕ → Bool
 isSome bytes = leb 1 (length bytes) && (leb (getD bytes 0 0) placesMax && eqb (length bytes) (1 + termBytes * getD bytes 0 0))
 
+-- 5 for bytes that say neither a unit nor none
 unfoldable pub valueVerdict : List ℕ → Verdict
 valueVerdict bytes = lowest ((BadUnit when not (isNone bytes || isSome bytes)) ∷ [])
 
@@ -54,6 +55,7 @@ valueVerdict bytes = lowest ((BadUnit when not (isNone bytes || isSome bytes)) �
 unfoldable pub unitIn : List ℕ → MaybeUnit
 unitIn bytes = record { some = isSome bytes; unit = unitOf (cond (isSome bytes) (termsAt bytes (getD bytes 0 0) 1) []) }
 
+-- what reading answers
 abbrev pub valueIn : List ℕ → Value
 valueIn bytes = record { verdict = valueVerdict bytes; unit = unitIn bytes }
 
@@ -64,6 +66,7 @@ abbrev pub rawOf : ℤ → ℕ
 rawOf (pos n) = n
 rawOf (negsuc n) = 65535 - n
 
+-- the bytes of terms, one after another
 abbrev pub bytesIn : List Term → List ℕ
 bytesIn [] = []
 bytesIn (x ∷ xs) = x .symbol ∷ (bytesOf (rawOf (x .exp)) ++ bytesIn xs)

@@ -27,11 +27,11 @@ Inv-loop page s e w n name v₀ j₀ v j = Placing page w (term s (toZ w16 e)) v
 abbrev μ-loop : tie.MeasureT-loop
 μ-loop page s e w n name v₀ j₀ v j = n - j
 
-index-requires : tie.Need-index-requires Inv-loop μ-loop
-index-requires c κs = search needs
+symbol-index-requires : tie.Need-symbol-index-requires Inv-loop μ-loop
+symbol-index-requires c κs = search needs
 
 name-of-requires : tie.Need-name-of-requires Inv-loop μ-loop
-name-of-requires c κs = (c .before .before .pre .0, rw (c .index .ensures .0) (c .before .before .pre .2))
+name-of-requires c κs = (c .before .before .pre .0, rw (c .symbol-index .ensures .0) (c .before .before .pre .2))
 
 dimensionless-requires : tie.Need-dimensionless-requires Inv-loop μ-loop
 dimensionless-requires c κs = search needs
@@ -42,13 +42,13 @@ loop-holds c = placing-start (now (c .before .before .before .before .args .page
 element-copy-out-t : tie.Need-element-copy-out-t Inv-loop μ-loop
 element-copy-out-t c = search needs
 
-index-requires-2 : tie.Need-index-requires-2 Inv-loop μ-loop
-index-requires-2 c κs = search needs
+symbol-index-requires-2 : tie.Need-symbol-index-requires-2 Inv-loop μ-loop
+symbol-index-requires-2 c κs = search needs
 
 name-of-requires-2 : tie.Need-name-of-requires-2 Inv-loop μ-loop
 name-of-requires-2 c κs =
     let g = c .before .before .before .before .before .before .before .before .args in
-    (c .before .before .before .before .before .before .before .before .pre .0, rw (c .index2 .ensures .0) (in-use-at (countOf (now (g .page))) (g .t2) (c .before .before .before .before .before .before .before .before .pre .3) (c .before .before .before .loop .j) (c .before .before .loop-test .taken)))
+    (c .before .before .before .before .before .before .before .before .pre .0, rw (c .symbol-index2 .ensures .0) (in-use-at (countOf (now (g .page))) (g .t2) (c .before .before .before .before .before .before .before .before .pre .3) (c .before .before .before .loop .j) (c .before .before .loop-test .taken)))
 
 is-before-requires : tie.Need-is-before-requires Inv-loop μ-loop
 is-before-requires c κs = search needs
@@ -80,7 +80,7 @@ returns c =
     let x = term (g .s) (toZ w16 (ofZ w16 (g .e))) in
     let l = c .before .before .before .before .before .before .before .before .loop in
     let b : comes (nameAt page (x .symbol)) (nameAt page (symAt (placesOf (g .t2)) (l .j))) ≡ c .before .before .before .is-before .result =
-    rw (c .before .before .before .is-before .ensures, c .before .before .before .before .before .before .before .before .before .before .name-of .ensures .0, c .before .before .before .before .name-of2 .ensures .0, c .before .before .before .before .before .before .before .before .before .before .before .index .ensures .0, c .before .before .before .before .before .index2 .ensures .0) in
+    rw (c .before .before .before .is-before .ensures, c .before .before .before .before .before .before .before .before .before .before .name-of .ensures .0, c .before .before .before .before .name-of2 .ensures .0, c .before .before .before .before .before .before .before .before .before .before .before .symbol-index .ensures .0, c .before .before .before .before .before .symbol-index2 .ensures .0) in
     placing-here page (g .t2) x (l .v) (l .j) (l .inv) (c .before .before .before .before .before .before .before .loop-test .taken) (b ∙ c .before .before .if1 .taken) (c .before .with-term .result) (c .with-rest .result)
     (λ k q. c .before .with-term .ensures ∙ grown _ _ _ k q) (c .with-rest .ensures)
     ∙ ap (λ z. unitOf (place page (term (g .s) z) (termsOf (g .t2)))) (toZ-ofZ (c .before .before .before .before .before .before .before .before .before .before .before .before .before .fits .e))
@@ -112,7 +112,7 @@ loop-again c =
     let x = term (g .s) (toZ w16 (ofZ w16 (g .e))) in
     let l = c .before .before .before .before .before .before .before .before .loop in
     let b : comes (nameAt page (x .symbol)) (nameAt page (symAt (placesOf (g .t2)) (l .j))) ≡ c .before .before .before .is-before .result =
-    rw (c .before .before .before .is-before .ensures, c .before .before .before .before .before .before .before .before .before .before .name-of .ensures .0, c .before .before .before .before .name-of2 .ensures .0, c .before .before .before .before .before .before .before .before .before .before .before .index .ensures .0, c .before .before .before .before .before .index2 .ensures .0) in
+    rw (c .before .before .before .is-before .ensures, c .before .before .before .before .before .before .before .before .before .before .name-of .ensures .0, c .before .before .before .before .name-of2 .ensures .0, c .before .before .before .before .before .before .before .before .before .before .before .symbol-index .ensures .0, c .before .before .before .before .before .symbol-index2 .ensures .0) in
     placing-next page (g .t2) x (l .v) (l .j) (l .inv) (c .before .before .before .before .before .before .before .loop-test .taken) (b ∙ c .before .before .if1 .left) (c .with-term2 .result)
     (λ k q. c .with-term2 .ensures ∙ grown _ _ _ k q ∙ ap (λ z. unitOf (k ++ (term (symAt (placesOf (g .t2)) (l .j)) z ∷ []))) (back (expAt (placesOf (g .t2)) (l .j)) (c .before .with-term-arg .given)))
 
@@ -140,12 +140,12 @@ placed-spec =
     (tie.spec
     Inv-loop
     μ-loop
-    index-requires
+    symbol-index-requires
     name-of-requires
     dimensionless-requires
     loop-holds
     element-copy-out-t
-    index-requires-2
+    symbol-index-requires-2
     name-of-requires-2
     is-before-requires
     with-term-requires

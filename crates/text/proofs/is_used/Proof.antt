@@ -17,14 +17,14 @@ returns c = looked-none (c .before .args .n) (c .before .args .t1) (c .if1 .take
 loop-holds : tie.Need-loop-holds Inv-loop μ-loop
 loop-holds c = looking-start (c .before .args .n) (c .before .args .t1) (c .if1 .left)
 
-element-copy-out-index : tie.Need-element-copy-out-index Inv-loop μ-loop
-element-copy-out-index c = search needs
+element-copy-out-symbol-index : tie.Need-element-copy-out-symbol-index Inv-loop μ-loop
+element-copy-out-symbol-index c = search needs
 
-index-requires : tie.Need-index-requires Inv-loop μ-loop
-index-requires c κs = search needs
+symbol-index-requires : tie.Need-symbol-index-requires Inv-loop μ-loop
+symbol-index-requires c κs = search needs
 
 returns-2 : tie.Need-returns-2 Inv-loop μ-loop
-returns-2 c = looked-unused (c .before .before .before .before .before .before .args .n) (c .before .before .before .before .before .before .args .t1) (c .before .before .before .before .loop .i) (c .before .before .before .before .loop .inv) (c .before .before .before .loop-test .taken) (rw (c .before .index .ensures .0) at (c .if2 .taken))
+returns-2 c = looked-unused (c .before .before .before .before .before .before .args .n) (c .before .before .before .before .before .before .args .t1) (c .before .before .before .before .loop .i) (c .before .before .before .before .loop .inv) (c .before .before .before .loop-test .taken) (rw (c .before .symbol-index .ensures .0) at (c .if2 .taken))
 
 add-i : tie.Need-add-i Inv-loop μ-loop
 add-i c = search needs
@@ -33,7 +33,7 @@ loop-less : tie.Need-loop-less Inv-loop μ-loop
 loop-less c = search needs
 
 loop-again : tie.Need-loop-again Inv-loop μ-loop
-loop-again c = looking-next (c .before .before .before .before .before .before .args .n) (c .before .before .before .before .before .before .args .t1) (c .before .before .before .before .loop .i) (c .before .before .before .before .loop .inv) (c .before .before .before .loop-test .taken) (rw (c .before .index .ensures .0) at (c .if2 .left))
+loop-again c = looking-next (c .before .before .before .before .before .before .args .n) (c .before .before .before .before .before .before .args .t1) (c .before .before .before .before .loop .i) (c .before .before .before .before .loop .inv) (c .before .before .before .loop-test .taken) (rw (c .before .symbol-index .ensures .0) at (c .if2 .left))
 
 returns-3 : tie.Need-returns-3 Inv-loop μ-loop
 returns-3 c = looked-all (c .before .before .before .args .n) (c .before .before .before .args .t1) (c .before .loop .i) (c .before .loop .inv) (c .loop-test .left)
@@ -46,8 +46,8 @@ is-used-spec =
     μ-loop
     returns
     loop-holds
-    element-copy-out-index
-    index-requires
+    element-copy-out-symbol-index
+    symbol-index-requires
     returns-2
     add-i
     loop-less

@@ -47,17 +47,17 @@ write-separator-requires c κs =
     let r = here-room (now (g .page)) (g .above) (placesOf (g .t4)) (now (g .out)) (g .start) (l .out) (l .at) (l .i) (l .inv) (c .before .before .before .before .loop-test .taken) (sym (on-is (c .before .before)) ∙ c .before .if1 .taken) in
     omega (arith, w, r)
 
-element-copy-out-index : tie.Need-element-copy-out-index Inv-loop μ-loop
-element-copy-out-index c = search needs
+element-copy-out-symbol-index : tie.Need-element-copy-out-symbol-index Inv-loop μ-loop
+element-copy-out-symbol-index c = search needs
 
-index-requires : tie.Need-index-requires Inv-loop μ-loop
-index-requires c κs = search needs
+symbol-index-requires : tie.Need-symbol-index-requires Inv-loop μ-loop
+symbol-index-requires c κs = search needs
 
 name-of-requires : tie.Need-name-of-requires Inv-loop μ-loop
 name-of-requires c κs =
     let g = c .before .before .before .before .before .before .before .before .before .before .before .before .before .before .args in
     let l = c .before .before .before .before .before .before .before .before .before .before .before .loop in
-    (c .before .before .before .before .before .before .before .before .before .before .before .before .before .before .pre .0 .form, rw (c .index .ensures .0) (here-used (now (g .page)) (g .above) (placesOf (g .t4)) (now (g .out)) (g .start) (l .out) (l .at) (l .i) (l .inv) (c .before .before .before .before .before .before .before .before .before .before .loop-test .taken)))
+    (c .before .before .before .before .before .before .before .before .before .before .before .before .before .before .pre .0 .form, rw (c .symbol-index .ensures .0) (here-used (now (g .page)) (g .above) (placesOf (g .t4)) (now (g .out)) (g .start) (l .out) (l .at) (l .i) (l .inv) (c .before .before .before .before .before .before .before .before .before .before .loop-test .taken)))
 
 size-requires : tie.Need-size-requires Inv-loop μ-loop
 size-requires c κs =
@@ -87,7 +87,7 @@ loop-again c =
     let l = c .before .before .before .before .before .before .before .before .before .before .before .before .before .before .before .before .loop in
     writing-on (now (g .page)) (g .above) (placesOf (g .t4)) (now (g .out)) (g .start) (l .out) (l .at) (l .i) (l .inv) (c .before .before .before .before .before .before .before .before .before .before .before .before .before .before .before .loop-test .taken) (sym (on-is (c .before .before .before .before .before .before .before .before .before .before .before .before .before)) ∙ c .before .before .before .before .before .before .before .before .before .before .before .before .if1 .taken) (c .before .before .before .before .before .before .before .before .before .before .before .before .before .before .before .before .before .before .before .pre .0 .form) _ _ _ _
     (c .before .before .before .before .before .before .before .before .before .before .write-separator .ensures (l .inv .text) (l .inv .wrote .0))
-    (rw (c .before .before .before .before .name-of .ensures .0, c .before .before .before .before .before .index .ensures .0, c .before .before .before .size .ensures .0, back (expAt (placesOf (g .t4)) (l .i)) (c .before .before .before .before .before .before .before .before .before .before .before .before .before .before .e .given)) at (c .before .before .write-power .ensures))
+    (rw (c .before .before .before .before .name-of .ensures .0, c .before .before .before .before .before .symbol-index .ensures .0, c .before .before .before .size .ensures .0, back (expAt (placesOf (g .t4)) (l .i)) (c .before .before .before .before .before .before .before .before .before .before .before .before .before .before .e .given)) at (c .before .before .write-power .ensures))
 
 add-i-2 : tie.Need-add-i-2 Inv-loop μ-loop
 add-i-2 c = search needs
@@ -124,8 +124,8 @@ write-side-spec =
     element-copy-out-e
     is-on-requires
     write-separator-requires
-    element-copy-out-index
-    index-requires
+    element-copy-out-symbol-index
+    symbol-index-requires
     name-of-requires
     size-requires
     write-power-requires
