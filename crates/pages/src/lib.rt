@@ -54,8 +54,11 @@ pub fn count(page: &[u8]) -> usize
     index(page[0]) * 256 + index(page[1])
 }
 
+// A number in two bytes, big-endian.
+pub type Word = [u8; COUNT_BYTES];
+
 // The two bytes that say a count.
-pub fn count_bytes(n: usize) -> [u8; COUNT_BYTES]
+pub fn count_bytes(n: usize) -> Word
     requires { ⌜ n < 65536 ⌝ }
     ensures { λ r. ⌜ r ≡ bytesOf n ⌝ }
 {

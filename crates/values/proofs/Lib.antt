@@ -2,3 +2,4 @@
 pub mod Sixteen
 pub mod Terms
 pub mod Calls
+pub mod Back

@@ -26,6 +26,9 @@ pub const TERM_BYTES: usize = 3;
 // How many bytes a unit takes at most.
 pub const UNIT_BYTES: usize = 1 + PLACES * TERM_BYTES;
 
+// A unit's bytes, and zeros after them.
+pub type UnitBytes = [u8; UNIT_BYTES];
+
 // A unit or none, as the bytes say it; none where they are refused.
 pub struct Value {
     pub verdict: Verdict,
@@ -129,7 +132,7 @@ fn write_terms(out: &mut [u8], u: Unit)
 }
 
 // The bytes of a unit, and zeros after them, for crates above (every unit in form, as `unit_form` tests, has few enough places).
-pub fn value_bytes(u: Unit) -> [u8; UNIT_BYTES]
+pub fn value_bytes(u: Unit) -> UnitBytes
     requires { ⌜ u .count ≤ placesMax ⌝ }
     ensures { λ r. ⌜ r ≡ pad unitMax 0 (unitBytes (termsOf u)) ⌝ }
 {

@@ -1,11 +1,10 @@
 -- `units::merged` meets its contract. The invariant is `Stand`: what is out, with what is left, comes to the whole.
 -- Assumes nothing.
-use mathlib.Core.Path.{sym, ap, ap₂, subst, _∙_}
+use mathlib.Core.Path.{ap, ap₂, subst, _∙_}
 use Prim.Native.Nat.{_+_, _-_}
 use borrow.Author.Needs.{needs}
-use borrow.Author.Tests.{not-true, not-false}
 use Rattle.names.specs.Table.{namesMax}
-use Rattle.units.specs.Unit.{placesMax, isZero}
+use Rattle.units.specs.Unit.{placesMax}
 use Rattle.units.specs.Product.{combine}
 use Rattle.units.specs.Merge.{turn}
 use Rattle.units.proofs.Signed.{back}

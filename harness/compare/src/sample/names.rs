@@ -85,7 +85,7 @@ fn words() -> Vec<Question> {
         b"Z",
         b"z9", // new
         b"",
-        b"1m",
+        b"2mm",
         b"9",
         b"m m",
         b"m-",
