@@ -24,13 +24,19 @@ same-length : tie.Need-same-length
 same-length c = search needs
 
 returns : tie.Need-returns
-returns c = (c .packed-as .ensures ∙ ap addedCode (sym (c .before .before .added .given .1) ∙ c .before .before .before .before .before .before .add-name .ensures .0), c .before .before .before .before .before .before .add-name .ensures .1)
+returns c =
+    let add-name = c .before .before .before .before .before .before .add-name in
+    let added = c .before .before .added in
+    (c .packed-as .ensures ∙ ap addedCode (sym (added .given .1) ∙ add-name .ensures .0), add-name .ensures .1)
 
 same-length-2 : tie.Need-same-length-2
 same-length-2 c = search needs
 
 returns-2 : tie.Need-returns-2
-returns-2 c = (c .packed-as2 .ensures ∙ ap addedCode (sym (c .before .before .added2 .given .1) ∙ c .before .before .before .before .before .before .add-name .ensures .0), c .before .before .before .before .before .before .add-name .ensures .1)
+returns-2 c =
+    let add-name = c .before .before .before .before .before .before .add-name in
+    let added2 = c .before .before .added2 in
+    (c .packed-as2 .ensures ∙ ap addedCode (sym (added2 .given .1) ∙ add-name .ensures .0), add-name .ensures .1)
 
 pub riddlepoppy-add-name-spec : {M : Type 1} → statement M
 riddlepoppy-add-name-spec =

@@ -15,7 +15,9 @@ same-length : tie.Need-same-length
 same-length c = search needs
 
 returns : tie.Need-returns
-returns c = (c .packed-as .ensures ∙ ap (λ v. packed v 0) (c .before .before .before .empty-names .ensures .0), c .before .before .before .empty-names .ensures .1)
+returns c =
+    let empty-names = c .before .before .before .empty-names in
+    (c .packed-as .ensures ∙ ap (λ v. packed v 0) (empty-names .ensures .0), empty-names .ensures .1)
 
 pub riddlepoppy-empty-names-spec : {M : Type 1} → statement M
 riddlepoppy-empty-names-spec =

@@ -32,13 +32,22 @@ packed-as-requires-2 c κs = search needs
 
 returns : tie.Need-returns
 returns c =
-    let u = ap (λ v. exponentAnswer v (c .before .before .before .before .before .before .before .before .args .symbol)) (c .before .before .before .before .before .before .unit-or-broken .ensures) in
-    c .packed-as .ensures ∙ ap (packed Passed) (c .before .raw .ensures .0 ∙ ap rawOf (back (c .before .before .before .power .given .0 .0) (c .before .before .known-told .given .0 .1))) ∙ ap powerCode (sym (c .before .before .before .power .given .1) ∙ c .before .before .before .before .before .exponent .ensures ∙ u)
+    let start = c .before .before .before .before .before .before .before .before in
+    let unit-or-broken = c .before .before .before .before .before .before .unit-or-broken in
+    let exponent = c .before .before .before .before .before .exponent in
+    let power = c .before .before .before .power in
+    let known-told = c .before .before .known-told in
+    let u = ap (λ v. exponentAnswer v (start .args .symbol)) (unit-or-broken .ensures) in
+    c .packed-as .ensures ∙ ap (packed Passed) (c .before .raw .ensures .0 ∙ ap rawOf (back (power .given .0 .0) (known-told .given .0 .1))) ∙ ap powerCode (sym (power .given .1) ∙ exponent .ensures ∙ u)
 
 returns-2 : tie.Need-returns-2
 returns-2 c =
-    let u = ap (λ v. exponentAnswer v (c .before .before .before .before .before .before .before .args .symbol)) (c .before .before .before .before .before .unit-or-broken .ensures) in
-    c .packed-as2 .ensures ∙ ap powerCode (sym (c .before .before .power2 .given .1) ∙ c .before .before .before .before .exponent .ensures ∙ u)
+    let start = c .before .before .before .before .before .before .before in
+    let unit-or-broken = c .before .before .before .before .before .unit-or-broken in
+    let exponent = c .before .before .before .before .exponent in
+    let power2 = c .before .before .power2 in
+    let u = ap (λ v. exponentAnswer v (start .args .symbol)) (unit-or-broken .ensures) in
+    c .packed-as2 .ensures ∙ ap powerCode (sym (power2 .given .1) ∙ exponent .ensures ∙ u)
 
 pub riddlepoppy-exponent-spec : {M : Type 1} → statement M
 riddlepoppy-exponent-spec =

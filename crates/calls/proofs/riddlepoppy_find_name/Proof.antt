@@ -27,13 +27,21 @@ packed-as-requires-3 : tie.Need-packed-as-requires-3
 packed-as-requires-3 c κs = search needs
 
 returns : tie.Need-returns
-returns c = c .packed-as .ensures ∙ ap foundCode (sym (c .before .before .found .given .1) ∙ c .before .before .before .before .find-name .ensures)
+returns c =
+    let find-name = c .before .before .before .before .find-name in
+    let found = c .before .before .found in
+    c .packed-as .ensures ∙ ap foundCode (sym (found .given .1) ∙ find-name .ensures)
 
 returns-2 : tie.Need-returns-2
-returns-2 c = c .packed-as2 .ensures ∙ ap foundCode (sym (c .before .enum-told .given .1) ∙ c .before .before .before .find-name .ensures)
+returns-2 c =
+    let find-name = c .before .before .before .find-name in
+    c .packed-as2 .ensures ∙ ap foundCode (sym (c .before .enum-told .given .1) ∙ find-name .ensures)
 
 returns-3 : tie.Need-returns-3
-returns-3 c = c .packed-as3 .ensures ∙ ap foundCode (sym (c .before .before .found2 .given .1) ∙ c .before .before .before .before .find-name .ensures)
+returns-3 c =
+    let find-name = c .before .before .before .before .find-name in
+    let found2 = c .before .before .found2 in
+    c .packed-as3 .ensures ∙ ap foundCode (sym (found2 .given .1) ∙ find-name .ensures)
 
 pub riddlepoppy-find-name-spec : {M : Type 1} → statement M
 riddlepoppy-find-name-spec =

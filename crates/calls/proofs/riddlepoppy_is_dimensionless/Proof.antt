@@ -21,9 +21,12 @@ packed-as-requires c κs = search needs
 returns : tie.Need-returns
 unfolding unitlessIn
 returns c =
-    let v : c .before .before .before .before .read-value .result .verdict ≡ valueVerdict (now (c .before .before .before .before .before .before .args .bytes)) = ap (λ (v : Value). v .verdict) (c .before .before .before .before .read-value .ensures) in
-    let u : c .before .before .before .before .read-value .result .unit ≡ unitIn (now (c .before .before .before .before .before .before .args .bytes)) = ap (λ (v : Value). v .unit) (c .before .before .before .before .read-value .ensures) in
-    c .packed-as .ensures ∙ rw (← v, c .before .before .verdict .given .1)
+    let start = c .before .before .before .before .before .before in
+    let read-value = c .before .before .before .before .read-value in
+    let verdict = c .before .before .verdict in
+    let v : read-value .result .verdict ≡ valueVerdict (now (start .args .bytes)) = ap (λ (v : Value). v .verdict) (read-value .ensures) in
+    let u : read-value .result .unit ≡ unitIn (now (start .args .bytes)) = ap (λ (v : Value). v .unit) (read-value .ensures) in
+    c .packed-as .ensures ∙ rw (← v, verdict .given .1)
 
 enum-told : tie.Need-enum-told
 enum-told c = search needs
@@ -52,23 +55,36 @@ packed-as-requires-4 c κs = search needs
 returns-2 : tie.Need-returns-2
 unfolding unitlessIn
 returns-2 c =
-    let v : c .before .before .before .before .before .before .before .read-value .result .verdict ≡ valueVerdict (now (c .before .before .before .before .before .before .before .before .before .args .bytes)) = ap (λ (v : Value). v .verdict) (c .before .before .before .before .before .before .before .read-value .ensures) in
-    let u : c .before .before .before .before .before .before .before .read-value .result .unit ≡ unitIn (now (c .before .before .before .before .before .before .before .before .before .args .bytes)) = ap (λ (v : Value). v .unit) (c .before .before .before .before .before .before .before .read-value .ensures) in
-    c .packed-as2 .ensures ∙ ap unitlessCode (sym (c .before .enum-told2 .given .1) ∙ c .before .before .before .is-dimensionless .ensures) ∙ rw (← v, ← u, c .before .before .before .before .before .enum-told .given .1)
+    let start = c .before .before .before .before .before .before .before .before .before in
+    let read-value = c .before .before .before .before .before .before .before .read-value in
+    let enum-told = c .before .before .before .before .before .enum-told in
+    let is-dimensionless = c .before .before .before .is-dimensionless in
+    let v : read-value .result .verdict ≡ valueVerdict (now (start .args .bytes)) = ap (λ (v : Value). v .verdict) (read-value .ensures) in
+    let u : read-value .result .unit ≡ unitIn (now (start .args .bytes)) = ap (λ (v : Value). v .unit) (read-value .ensures) in
+    c .packed-as2 .ensures ∙ ap unitlessCode (sym (c .before .enum-told2 .given .1) ∙ is-dimensionless .ensures) ∙ rw (← v, ← u, enum-told .given .1)
 
 returns-3 : tie.Need-returns-3
 unfolding unitlessIn
 returns-3 c =
-    let v : c .before .before .before .before .before .before .before .read-value .result .verdict ≡ valueVerdict (now (c .before .before .before .before .before .before .before .before .before .args .bytes)) = ap (λ (v : Value). v .verdict) (c .before .before .before .before .before .before .before .read-value .ensures) in
-    let u : c .before .before .before .before .before .before .before .read-value .result .unit ≡ unitIn (now (c .before .before .before .before .before .before .before .before .before .args .bytes)) = ap (λ (v : Value). v .unit) (c .before .before .before .before .before .before .before .read-value .ensures) in
-    c .packed-as3 .ensures ∙ ap unitlessCode (sym (c .before .enum-told3 .given .1) ∙ c .before .before .before .is-dimensionless .ensures) ∙ rw (← v, ← u, c .before .before .before .before .before .enum-told .given .1)
+    let start = c .before .before .before .before .before .before .before .before .before in
+    let read-value = c .before .before .before .before .before .before .before .read-value in
+    let enum-told = c .before .before .before .before .before .enum-told in
+    let is-dimensionless = c .before .before .before .is-dimensionless in
+    let v : read-value .result .verdict ≡ valueVerdict (now (start .args .bytes)) = ap (λ (v : Value). v .verdict) (read-value .ensures) in
+    let u : read-value .result .unit ≡ unitIn (now (start .args .bytes)) = ap (λ (v : Value). v .unit) (read-value .ensures) in
+    c .packed-as3 .ensures ∙ ap unitlessCode (sym (c .before .enum-told3 .given .1) ∙ is-dimensionless .ensures) ∙ rw (← v, ← u, enum-told .given .1)
 
 returns-4 : tie.Need-returns-4
 unfolding unitlessIn
 returns-4 c =
-    let v : c .before .before .before .before .before .before .before .before .read-value .result .verdict ≡ valueVerdict (now (c .before .before .before .before .before .before .before .before .before .before .args .bytes)) = ap (λ (v : Value). v .verdict) (c .before .before .before .before .before .before .before .before .read-value .ensures) in
-    let u : c .before .before .before .before .before .before .before .before .read-value .result .unit ≡ unitIn (now (c .before .before .before .before .before .before .before .before .before .before .args .bytes)) = ap (λ (v : Value). v .unit) (c .before .before .before .before .before .before .before .before .read-value .ensures) in
-    c .packed-as4 .ensures ∙ ap unitlessCode (sym (c .before .before .answer .given .1) ∙ c .before .before .before .before .is-dimensionless .ensures) ∙ rw (← v, ← u, c .before .before .before .before .before .before .enum-told .given .1)
+    let start = c .before .before .before .before .before .before .before .before .before .before in
+    let read-value = c .before .before .before .before .before .before .before .before .read-value in
+    let enum-told = c .before .before .before .before .before .before .enum-told in
+    let is-dimensionless = c .before .before .before .before .is-dimensionless in
+    let answer = c .before .before .answer in
+    let v : read-value .result .verdict ≡ valueVerdict (now (start .args .bytes)) = ap (λ (v : Value). v .verdict) (read-value .ensures) in
+    let u : read-value .result .unit ≡ unitIn (now (start .args .bytes)) = ap (λ (v : Value). v .unit) (read-value .ensures) in
+    c .packed-as4 .ensures ∙ ap unitlessCode (sym (answer .given .1) ∙ is-dimensionless .ensures) ∙ rw (← v, ← u, enum-told .given .1)
 
 pub riddlepoppy-is-dimensionless-spec : {M : Type 1} → statement M
 riddlepoppy-is-dimensionless-spec =

@@ -29,25 +29,40 @@ packed-as-requires c κs = search needs
 
 returns : tie.Need-returns
 returns c =
-    let a = productIn (c .before .before .before .before .before .before .before .before .args .quotient) (now (c .before .before .before .before .before .before .before .before .args .a)) (now (c .before .before .before .before .before .before .before .before .args .b)) in
-    let e : c .before .before .before .product .result ≡ a = c .before .before .before .product .ensures ∙ ap₂ (productAnswer (c .before .before .before .before .before .before .before .before .args .quotient)) (c .before .before .before .before .before .unit-or-broken .ensures) (c .before .before .before .before .unit-or-broken2 .ensures) in
-    let h : isRefused (a .verdict) ≡ true = ap (λ (r : UnitResult). isRefused (r .verdict)) (sym e) ∙ sym (c .before .before .is-refused .ensures) ∙ c .before .if1 .taken in
-    (c .packed-as .ensures ∙ ap (λ (r : UnitResult). packed (r .verdict) 0) e, kept (a .verdict) (bytesOfUnit (a .unit)) (now (c .before .before .before .before .before .before .before .before .args .out)) h)
+    let start = c .before .before .before .before .before .before .before .before in
+    let unit-or-broken = c .before .before .before .before .before .unit-or-broken in
+    let unit-or-broken2 = c .before .before .before .before .unit-or-broken2 in
+    let product = c .before .before .before .product in
+    let is-refused = c .before .before .is-refused in
+    let a = productIn (start .args .quotient) (now (start .args .a)) (now (start .args .b)) in
+    let e : product .result ≡ a = product .ensures ∙ ap₂ (productAnswer (start .args .quotient)) (unit-or-broken .ensures) (unit-or-broken2 .ensures) in
+    let h : isRefused (a .verdict) ≡ true = ap (λ (r : UnitResult). isRefused (r .verdict)) (sym e) ∙ sym (is-refused .ensures) ∙ c .before .if1 .taken in
+    (c .packed-as .ensures ∙ ap (λ (r : UnitResult). packed (r .verdict) 0) e, kept (a .verdict) (bytesOfUnit (a .unit)) (now (start .args .out)) h)
 
 value-bytes-requires : tie.Need-value-bytes-requires
 value-bytes-requires c κs =
-    let e : c .before .before .before .product .result ≡ productIn (c .before .before .before .before .before .before .before .before .args .quotient) (now (c .before .before .before .before .before .before .before .before .args .a)) (now (c .before .before .before .before .before .before .before .before .args .b)) = c .before .before .before .product .ensures ∙ ap₂ (productAnswer (c .before .before .before .before .before .before .before .before .args .quotient)) (c .before .before .before .before .before .unit-or-broken .ensures) (c .before .before .before .before .unit-or-broken2 .ensures) in
-    rw e (result-few (c .before .before .before .before .before .before .before .before .args .quotient) (unitOrBroken (now (c .before .before .before .before .before .before .before .before .args .a))) (unitOrBroken (now (c .before .before .before .before .before .before .before .before .args .b))))
+    let start = c .before .before .before .before .before .before .before .before in
+    let unit-or-broken = c .before .before .before .before .before .unit-or-broken in
+    let unit-or-broken2 = c .before .before .before .before .unit-or-broken2 in
+    let product = c .before .before .before .product in
+    let e : product .result ≡ productIn (start .args .quotient) (now (start .args .a)) (now (start .args .b)) = product .ensures ∙ ap₂ (productAnswer (start .args .quotient)) (unit-or-broken .ensures) (unit-or-broken2 .ensures) in
+    rw e (result-few (start .args .quotient) (unitOrBroken (now (start .args .a))) (unitOrBroken (now (start .args .b))))
 
 packed-as-requires-2 : tie.Need-packed-as-requires-2
 packed-as-requires-2 c κs = search needs
 
 returns-2 : tie.Need-returns-2
 returns-2 c =
-    let a = productIn (c .before .before .before .before .before .before .before .before .before .before .args .quotient) (now (c .before .before .before .before .before .before .before .before .before .before .args .a)) (now (c .before .before .before .before .before .before .before .before .before .before .args .b)) in
-    let e : c .before .before .before .before .before .product .result ≡ a = c .before .before .before .before .before .product .ensures ∙ ap₂ (productAnswer (c .before .before .before .before .before .before .before .before .before .before .args .quotient)) (c .before .before .before .before .before .before .before .unit-or-broken .ensures) (c .before .before .before .before .before .before .unit-or-broken2 .ensures) in
-    let h : isRefused (a .verdict) ≡ false = ap (λ (r : UnitResult). isRefused (r .verdict)) (sym e) ∙ sym (c .before .before .before .before .is-refused .ensures) ∙ c .before .before .before .if1 .left in
-    (c .packed-as2 .ensures ∙ ap (λ (r : UnitResult). packed (r .verdict) 0) e, c .before .value-bytes .ensures ∙ ap (λ (r : UnitResult). bytesOfUnit (r .unit)) e ∙ changed (a .verdict) (bytesOfUnit (a .unit)) (now (c .before .before .before .before .before .before .before .before .before .before .args .out)) h)
+    let start = c .before .before .before .before .before .before .before .before .before .before in
+    let unit-or-broken = c .before .before .before .before .before .before .before .unit-or-broken in
+    let unit-or-broken2 = c .before .before .before .before .before .before .unit-or-broken2 in
+    let product = c .before .before .before .before .before .product in
+    let is-refused = c .before .before .before .before .is-refused in
+    let if1 = c .before .before .before .if1 in
+    let a = productIn (start .args .quotient) (now (start .args .a)) (now (start .args .b)) in
+    let e : product .result ≡ a = product .ensures ∙ ap₂ (productAnswer (start .args .quotient)) (unit-or-broken .ensures) (unit-or-broken2 .ensures) in
+    let h : isRefused (a .verdict) ≡ false = ap (λ (r : UnitResult). isRefused (r .verdict)) (sym e) ∙ sym (is-refused .ensures) ∙ if1 .left in
+    (c .packed-as2 .ensures ∙ ap (λ (r : UnitResult). packed (r .verdict) 0) e, c .before .value-bytes .ensures ∙ ap (λ (r : UnitResult). bytesOfUnit (r .unit)) e ∙ changed (a .verdict) (bytesOfUnit (a .unit)) (now (start .args .out)) h)
 
 pub riddlepoppy-product-spec : {M : Type 1} → statement M
 riddlepoppy-product-spec =

@@ -22,20 +22,27 @@ packed-as-requires c κs = search needs
 
 returns : tie.Need-returns
 returns c =
-    let a = readAnswer (now (c .before .before .before .before .before .args .page)) (c .before .before .before .before .before .args .k) in
-    let e : c .before .before .before .read-name .result ≡ a = c .before .before .before .read-name .ensures in
-    let h : isRefused (a .verdict) ≡ true = ap (λ (r : Name). isRefused (r .verdict)) (sym e) ∙ sym (c .before .before .is-refused .ensures) ∙ c .before .if1 .taken in
-    (c .packed-as .ensures ∙ ap (λ (r : Name). packed (r .verdict) (r .size)) e, kept (a .verdict) (a .bytes) (now (c .before .before .before .before .before .args .out)) h)
+    let start = c .before .before .before .before .before in
+    let read-name = c .before .before .before .read-name in
+    let is-refused = c .before .before .is-refused in
+    let a = readAnswer (now (start .args .page)) (start .args .k) in
+    let e : read-name .result ≡ a = read-name .ensures in
+    let h : isRefused (a .verdict) ≡ true = ap (λ (r : Name). isRefused (r .verdict)) (sym e) ∙ sym (is-refused .ensures) ∙ c .before .if1 .taken in
+    (c .packed-as .ensures ∙ ap (λ (r : Name). packed (r .verdict) (r .size)) e, kept (a .verdict) (a .bytes) (now (start .args .out)) h)
 
 packed-as-requires-2 : tie.Need-packed-as-requires-2
 packed-as-requires-2 c κs = search needs
 
 returns-2 : tie.Need-returns-2
 returns-2 c =
-    let a = readAnswer (now (c .before .before .before .before .before .before .args .page)) (c .before .before .before .before .before .before .args .k) in
-    let e : c .before .before .before .before .read-name .result ≡ a = c .before .before .before .before .read-name .ensures in
-    let h : isRefused (a .verdict) ≡ false = ap (λ (r : Name). isRefused (r .verdict)) (sym e) ∙ sym (c .before .before .before .is-refused .ensures) ∙ c .before .before .if1 .left in
-    (c .packed-as2 .ensures ∙ ap (λ (r : Name). packed (r .verdict) (r .size)) e, ap (λ (r : Name). r .bytes) e ∙ changed (a .verdict) (a .bytes) (now (c .before .before .before .before .before .before .args .out)) h)
+    let start = c .before .before .before .before .before .before in
+    let read-name = c .before .before .before .before .read-name in
+    let is-refused = c .before .before .before .is-refused in
+    let if1 = c .before .before .if1 in
+    let a = readAnswer (now (start .args .page)) (start .args .k) in
+    let e : read-name .result ≡ a = read-name .ensures in
+    let h : isRefused (a .verdict) ≡ false = ap (λ (r : Name). isRefused (r .verdict)) (sym e) ∙ sym (is-refused .ensures) ∙ if1 .left in
+    (c .packed-as2 .ensures ∙ ap (λ (r : Name). packed (r .verdict) (r .size)) e, ap (λ (r : Name). r .bytes) e ∙ changed (a .verdict) (a .bytes) (now (start .args .out)) h)
 
 pub riddlepoppy-read-name-spec : {M : Type 1} → statement M
 riddlepoppy-read-name-spec =

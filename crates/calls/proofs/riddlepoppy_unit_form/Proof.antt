@@ -16,7 +16,9 @@ packed-as-requires : tie.Need-packed-as-requires
 packed-as-requires c κs = search needs
 
 returns : tie.Need-returns
-returns c = c .packed-as .ensures ∙ ap (λ v. packed v 0) (c .before .unit-form .ensures ∙ ap formVerdict (c .before .before .unit-or-broken .ensures))
+returns c =
+    let unit-or-broken = c .before .before .unit-or-broken in
+    c .packed-as .ensures ∙ ap (λ v. packed v 0) (c .before .unit-form .ensures ∙ ap formVerdict (unit-or-broken .ensures))
 
 pub riddlepoppy-unit-form-spec : {M : Type 1} → statement M
 riddlepoppy-unit-form-spec =

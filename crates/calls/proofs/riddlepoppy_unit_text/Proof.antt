@@ -25,20 +25,29 @@ packed-as-requires c κs = search needs
 
 returns : tie.Need-returns
 returns c =
-    let a = textIn (now (c .before .before .before .before .before .before .before .args .page)) (now (c .before .before .before .before .before .before .before .args .unit)) in
-    let e : c .before .before .before .unit-text .result ≡ a = c .before .before .before .unit-text .ensures ∙ ap (textAnswer (now (c .before .before .before .before .before .before .before .args .page))) (c .before .before .before .before .unit-or-broken .ensures) in
-    let h : isRefused (a .verdict) ≡ true = ap (λ (r : Text). isRefused (r .verdict)) (sym e) ∙ sym (c .before .before .is-refused .ensures) ∙ c .before .if1 .taken in
-    (c .packed-as .ensures ∙ ap (λ (r : Text). packed (r .verdict) (r .size)) e, kept (a .verdict) (a .bytes) (now (c .before .before .before .before .before .before .before .args .out)) h)
+    let start = c .before .before .before .before .before .before .before in
+    let unit-or-broken = c .before .before .before .before .unit-or-broken in
+    let unit-text = c .before .before .before .unit-text in
+    let is-refused = c .before .before .is-refused in
+    let a = textIn (now (start .args .page)) (now (start .args .unit)) in
+    let e : unit-text .result ≡ a = unit-text .ensures ∙ ap (textAnswer (now (start .args .page))) (unit-or-broken .ensures) in
+    let h : isRefused (a .verdict) ≡ true = ap (λ (r : Text). isRefused (r .verdict)) (sym e) ∙ sym (is-refused .ensures) ∙ c .before .if1 .taken in
+    (c .packed-as .ensures ∙ ap (λ (r : Text). packed (r .verdict) (r .size)) e, kept (a .verdict) (a .bytes) (now (start .args .out)) h)
 
 packed-as-requires-2 : tie.Need-packed-as-requires-2
 packed-as-requires-2 c κs = search needs
 
 returns-2 : tie.Need-returns-2
 returns-2 c =
-    let a = textIn (now (c .before .before .before .before .before .before .before .before .args .page)) (now (c .before .before .before .before .before .before .before .before .args .unit)) in
-    let e : c .before .before .before .before .unit-text .result ≡ a = c .before .before .before .before .unit-text .ensures ∙ ap (textAnswer (now (c .before .before .before .before .before .before .before .before .args .page))) (c .before .before .before .before .before .unit-or-broken .ensures) in
-    let h : isRefused (a .verdict) ≡ false = ap (λ (r : Text). isRefused (r .verdict)) (sym e) ∙ sym (c .before .before .before .is-refused .ensures) ∙ c .before .before .if1 .left in
-    (c .packed-as2 .ensures ∙ ap (λ (r : Text). packed (r .verdict) (r .size)) e, ap (λ (r : Text). r .bytes) e ∙ changed (a .verdict) (a .bytes) (now (c .before .before .before .before .before .before .before .before .args .out)) h)
+    let start = c .before .before .before .before .before .before .before .before in
+    let unit-or-broken = c .before .before .before .before .before .unit-or-broken in
+    let unit-text = c .before .before .before .before .unit-text in
+    let is-refused = c .before .before .before .is-refused in
+    let if1 = c .before .before .if1 in
+    let a = textIn (now (start .args .page)) (now (start .args .unit)) in
+    let e : unit-text .result ≡ a = unit-text .ensures ∙ ap (textAnswer (now (start .args .page))) (unit-or-broken .ensures) in
+    let h : isRefused (a .verdict) ≡ false = ap (λ (r : Text). isRefused (r .verdict)) (sym e) ∙ sym (is-refused .ensures) ∙ if1 .left in
+    (c .packed-as2 .ensures ∙ ap (λ (r : Text). packed (r .verdict) (r .size)) e, ap (λ (r : Text). r .bytes) e ∙ changed (a .verdict) (a .bytes) (now (start .args .out)) h)
 
 pub riddlepoppy-unit-text-spec : {M : Type 1} → statement M
 riddlepoppy-unit-text-spec =

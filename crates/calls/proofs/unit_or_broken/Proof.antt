@@ -13,14 +13,20 @@ read-value-requires c κs = search needs
 
 returns : tie.Need-returns
 unfolding unitOrBroken
-returns c = let e : c .before .before .before .read-value .result .unit ≡ unitIn (now (c .before .before .before .before .before .args .bytes)) = ap (λ (v : Value). v .unit) (c .before .before .before .read-value .ensures) in rw (← e, c .before .if1 .taken)
+returns c =
+    let start = c .before .before .before .before .before in
+    let read-value = c .before .before .before .read-value in
+    let e : read-value .result .unit ≡ unitIn (now (start .args .bytes)) = ap (λ (v : Value). v .unit) (read-value .ensures) in rw (← e, c .before .if1 .taken)
 
 broken-unit-requires : tie.Need-broken-unit-requires
 broken-unit-requires c κs = search needs
 
 returns-2 : tie.Need-returns-2
 unfolding unitOrBroken
-returns-2 c = let e : c .before .before .before .read-value .result .unit ≡ unitIn (now (c .before .before .before .before .before .args .bytes)) = ap (λ (v : Value). v .unit) (c .before .before .before .read-value .ensures) in c .broken-unit .ensures ∙ rw (← e, c .before .if1 .left)
+returns-2 c =
+    let start = c .before .before .before .before .before in
+    let read-value = c .before .before .before .read-value in
+    let e : read-value .result .unit ≡ unitIn (now (start .args .bytes)) = ap (λ (v : Value). v .unit) (read-value .ensures) in c .broken-unit .ensures ∙ rw (← e, c .before .if1 .left)
 
 pub unit-or-broken-spec : {M : Type 1} → statement M
 unit-or-broken-spec =

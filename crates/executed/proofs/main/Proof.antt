@@ -29,7 +29,10 @@ code-requires c κs = search needs
 expect-requires : tie.Need-expect-requires
 unfolding pad formed productVerdict productOf productAnswer
 expect-requires c κs =
-    let e : c .before .product .result ≡ productAnswer true (unitOf (term 0 (pos 1000) ∷ [])) (unitOf (term 0 (pos 1) ∷ [])) = c .before .product .ensures ∙ ap₂ (productAnswer true) (c .before .before .before .power .ensures) (c .before .before .power2 .ensures) in
+    let power = c .before .before .before .power in
+    let power2 = c .before .before .power2 in
+    let product = c .before .product in
+    let e : product .result ≡ productAnswer true (unitOf (term 0 (pos 1000) ∷ [])) (unitOf (term 0 (pos 1) ∷ [])) = product .ensures ∙ ap₂ (productAnswer true) (power .ensures) (power2 .ensures) in
     eq-eqb (c .code .result) 0 (c .code .ensures ∙ ap (λ (r : UnitResult). codeOf (r .verdict)) e)
 
 product-requires-2 : tie.Need-product-requires-2
@@ -41,7 +44,10 @@ code-requires-2 c κs = search needs
 expect-requires-2 : tie.Need-expect-requires-2
 unfolding pad formed productVerdict productOf productAnswer
 expect-requires-2 c κs =
-    let e : c .before .product2 .result ≡ productAnswer false (unitOf (term 0 (pos 1000) ∷ [])) (unitOf (term 0 (pos 1) ∷ [])) = c .before .product2 .ensures ∙ ap₂ (productAnswer false) (c .before .before .before .before .before .before .power .ensures) (c .before .before .before .before .before .power2 .ensures) in
+    let power = c .before .before .before .before .before .before .power in
+    let power2 = c .before .before .before .before .before .power2 in
+    let product2 = c .before .product2 in
+    let e : product2 .result ≡ productAnswer false (unitOf (term 0 (pos 1000) ∷ [])) (unitOf (term 0 (pos 1) ∷ [])) = product2 .ensures ∙ ap₂ (productAnswer false) (power .ensures) (power2 .ensures) in
     eq-eqb (c .code2 .result) 8 (c .code2 .ensures ∙ ap (λ (r : UnitResult). codeOf (r .verdict)) e)
 
 returns : tie.Need-returns

@@ -16,7 +16,9 @@ with-term-requires : tie.Need-with-term-requires
 with-term-requires c κs = let n = ap (λ (u : Unit). u .count) (c .dimensionless .ensures) in omega arith
 
 returns : tie.Need-returns
-returns c = c .with-term .ensures ∙ grown _ _ _ [] (c .before .dimensionless .ensures) ∙ rw (toZ-ofZ (c .before .before .fits .exponent))
+returns c =
+    let start = c .before .before in
+    c .with-term .ensures ∙ grown _ _ _ [] (c .before .dimensionless .ensures) ∙ rw (toZ-ofZ (start .fits .exponent))
 
 pub power-spec : {M : Type 1} → statement M
 power-spec =

@@ -10,7 +10,9 @@ is-formed-requires : tie.Need-is-formed-requires
 is-formed-requires c κs = search needs
 
 insert-name-requires : tie.Need-insert-name-requires
-insert-name-requires c κs = sym (c .before .before .is-formed .ensures) ∙ c .before .if1 .taken
+insert-name-requires c κs =
+    let is-formed = c .before .before .is-formed in
+    sym (is-formed .ensures) ∙ c .before .if1 .taken
 
 same-length : tie.Need-same-length
 same-length c = search needs
@@ -22,7 +24,9 @@ same-length-2 : tie.Need-same-length-2
 same-length-2 c = search needs
 
 returns-2 : tie.Need-returns-2
-returns-2 c = add-broken (now (c .before .before .before .before .before .args .page)) (now (c .before .before .before .before .before .args .name)) (sym (c .before .is-formed .ensures) ∙ c .if1 .left)
+returns-2 c =
+    let start = c .before .before .before .before .before in
+    add-broken (now (start .args .page)) (now (start .args .name)) (sym (c .before .is-formed .ensures) ∙ c .if1 .left)
 
 pub add-name-spec : {M : Type 1} → statement M
 add-name-spec = tie.close (tie.spec is-formed-requires insert-name-requires same-length returns same-length-2 returns-2)

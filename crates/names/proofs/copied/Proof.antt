@@ -13,7 +13,9 @@ put-bytes-requires : tie.Need-put-bytes-requires
 put-bytes-requires c κs = search needs
 
 returns : tie.Need-returns
-returns c = rw (c .before .put-bytes .ensures, put-pad nameMax (now (c .before .before .before .before .args .name)) (c .before .before .before .before .pre))
+returns c =
+    let start = c .before .before .before .before in
+    rw (c .before .put-bytes .ensures, put-pad nameMax (now (start .args .name)) (start .pre))
 
 pub copied-spec : {M : Type 1} → statement M
 copied-spec = tie.close (tie.spec slice-aggregate-put-bytes put-bytes-requires returns)

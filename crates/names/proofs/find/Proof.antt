@@ -21,19 +21,31 @@ abbrev μ-loop : tie.MeasureT-loop
 
 loop-holds : tie.Need-loop-holds Inv-loop μ-loop
 unfolding offset
-loop-holds c = (omega arith, refl, let z = offset-ge (now (c .before .before .args .page)) (c .before .before .args .n) in omega (arith, c .before .before .pre), any-none _)
+loop-holds c =
+    let start = c .before .before in
+    (omega arith, refl, let z = offset-ge (now (start .args .page)) (start .args .n) in omega (arith, start .pre), any-none _)
 
 add-start : tie.Need-add-start Inv-loop μ-loop
-add-start c = let z = step-in (now (c .before .before .before .before .args .page)) (c .before .loop .i) (c .before .loop .at) (c .before .before .before .before .args .n) (c .before .loop .inv .1) (c .loop-test .taken) (c .before .before .before .before .pre) in omega arith
+add-start c =
+    let start = c .before .before .before .before in
+    let loop = c .before .loop in
+    let z = step-in (now (start .args .page)) (loop .i) (loop .at) (start .args .n) (loop .inv .1) (c .loop-test .taken) (start .pre) in omega arith
 
 shared-slice-read-index : tie.Need-shared-slice-read-index Inv-loop μ-loop
-shared-slice-read-index c = let z = step-in (now (c .before .before .before .before .before .args .page)) (c .before .before .loop .i) (c .before .before .loop .at) (c .before .before .before .before .before .args .n) (c .before .before .loop .inv .1) (c .before .loop-test .taken) (c .before .before .before .before .before .pre) in omega arith
+shared-slice-read-index c =
+    let start = c .before .before .before .before .before in
+    let loop = c .before .before .loop in
+    let z = step-in (now (start .args .page)) (loop .i) (loop .at) (start .args .n) (loop .inv .1) (c .before .loop-test .taken) (start .pre) in omega arith
 
 index-requires : tie.Need-index-requires Inv-loop μ-loop
 index-requires c κs = search needs
 
 add-end : tie.Need-add-end Inv-loop μ-loop
-add-end c = let z = step-in (now (c .before .before .before .before .before .before .args .page)) (c .before .before .before .loop .i) (c .before .before .before .loop .at) (c .before .before .before .before .before .before .args .n) (c .before .before .before .loop .inv .1) (c .before .before .loop-test .taken) (c .before .before .before .before .before .before .pre) in omega arith
+add-end c =
+    let start = c .before .before .before .before .before .before in
+    let loop = c .before .before .before .loop in
+    let loop-test = c .before .before .loop-test in
+    let z = step-in (now (start .args .page)) (loop .i) (loop .at) (start .args .n) (loop .inv .1) (loop-test .taken) (start .pre) in omega arith
 
 sub-same : tie.Need-sub-same Inv-loop μ-loop
 sub-same c = search needs
@@ -42,14 +54,23 @@ part-same-start : tie.Need-part-same-start Inv-loop μ-loop
 part-same-start c = search needs
 
 part-same-end : tie.Need-part-same-end Inv-loop μ-loop
-part-same-end c = let z = step-in (now (c .before .before .before .before .before .before .args .page)) (c .before .before .before .loop .i) (c .before .before .before .loop .at) (c .before .before .before .before .before .before .args .n) (c .before .before .before .loop .inv .1) (c .before .before .loop-test .taken) (c .before .before .before .before .before .before .pre) in omega arith
+part-same-end c =
+    let start = c .before .before .before .before .before .before in
+    let loop = c .before .before .before .loop in
+    let loop-test = c .before .before .loop-test in
+    let z = step-in (now (start .args .page)) (loop .i) (loop .at) (start .args .n) (loop .inv .1) (loop-test .taken) (start .pre) in omega arith
 
 same-requires : tie.Need-same-requires Inv-loop μ-loop
 same-requires c κs = search needs
 
 returns : tie.Need-returns Inv-loop μ-loop
-returns c = let p = now (c .before .before .before .before .before .before .before .before .before .args .page) in let l = c .before .before .before .before .before .before .loop in
-    sym (first-at _ _ (l .i) (c .before .before .before .before .before .loop-test .taken) (l .inv .3) (found-at p (l .i) (l .at) _ (now (c .before .before .before .before .before .before .before .before .before .args .name)) (l .inv .1) (c .before .before .before .index .ensures .0) _ (sym (c .before .same .ensures) ∙ c .if1 .taken)))
+returns c =
+    let start = c .before .before .before .before .before .before .before .before .before in
+    let loop = c .before .before .before .before .before .before .loop in
+    let loop-test = c .before .before .before .before .before .loop-test in
+    let index = c .before .before .before .index in
+    let p = now (start .args .page) in let l = loop in
+    sym (first-at _ _ (l .i) (loop-test .taken) (l .inv .3) (found-at p (l .i) (l .at) _ (now (start .args .name)) (l .inv .1) (index .ensures .0) _ (sym (c .before .same .ensures) ∙ c .if1 .taken)))
 
 add-i : tie.Need-add-i Inv-loop μ-loop
 add-i c = search needs
@@ -58,12 +79,20 @@ loop-less : tie.Need-loop-less Inv-loop μ-loop
 loop-less c = search needs
 
 loop-again : tie.Need-loop-again Inv-loop μ-loop
-loop-again c = let p = now (c .before .before .before .before .before .before .before .before .before .args .page) in let l = c .before .before .before .before .before .before .loop in
-    let z = step-in p (l .i) (l .at) (c .before .before .before .before .before .before .before .before .before .args .n) (l .inv .1) (c .before .before .before .before .before .loop-test .taken) (c .before .before .before .before .before .before .before .before .before .pre) in
-    (omega arith, step-at p (l .i) (l .at) (c .before .before .before .before .before .before .before .before .before .args .n) (l .inv .1) (c .before .before .before .before .before .loop-test .taken) (c .before .before .before .before .before .before .before .before .before .pre) _ (c .before .before .before .index .ensures .0), omega arith, any-more _ _ (l .inv .3) (found-at p (l .i) (l .at) _ (now (c .before .before .before .before .before .before .before .before .before .args .name)) (l .inv .1) (c .before .before .before .index .ensures .0) _ (sym (c .before .same .ensures) ∙ c .if1 .left)))
+loop-again c =
+    let start = c .before .before .before .before .before .before .before .before .before in
+    let loop = c .before .before .before .before .before .before .loop in
+    let loop-test = c .before .before .before .before .before .loop-test in
+    let index = c .before .before .before .index in
+    let p = now (start .args .page) in let l = loop in
+    let z = step-in p (l .i) (l .at) (start .args .n) (l .inv .1) (loop-test .taken) (start .pre) in
+    (omega arith, step-at p (l .i) (l .at) (start .args .n) (l .inv .1) (loop-test .taken) (start .pre) _ (index .ensures .0), omega arith, any-more _ _ (l .inv .3) (found-at p (l .i) (l .at) _ (now (start .args .name)) (l .inv .1) (index .ensures .0) _ (sym (c .before .same .ensures) ∙ c .if1 .left)))
 
 returns-2 : tie.Need-returns-2 Inv-loop μ-loop
-returns-2 c = let e : c .before .loop .i ≡ c .before .before .before .before .args .n = omega arith in sym (first-none _ _ (rw e at (c .before .loop .inv .3)))
+returns-2 c =
+    let start = c .before .before .before .before in
+    let loop = c .before .loop in
+    let e : loop .i ≡ start .args .n = omega arith in sym (first-none _ _ (rw e at (loop .inv .3)))
 
 pub find-spec : {M : Type 1} → statement M
 find-spec =

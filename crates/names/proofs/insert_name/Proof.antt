@@ -16,50 +16,89 @@ is-name-requires : tie.Need-is-name-requires
 is-name-requires c κs = search needs
 
 count-requires : tie.Need-count-requires
-count-requires c κs = form (now (c .before .before .before .before .before .args .page)) (c .before .before .before .before .before .pre) .two
+count-requires c κs =
+    let start = c .before .before .before .before .before in
+    form (now (start .args .page)) (start .pre) .two
 
 find-requires : tie.Need-find-requires
-find-requires c κs = fits-to (now (c .before .before .before .before .before .before .before .args .page)) (form (now (c .before .before .before .before .before .before .before .args .page)) (c .before .before .before .before .before .before .before .pre)) (c .before .count .result) (le-of-eq (c .before .count .ensures .0))
+find-requires c κs =
+    let start = c .before .before .before .before .before .before .before in
+    let count = c .before .count in
+    fits-to (now (start .args .page)) (form (now (start .args .page)) (start .pre)) (count .result) (le-of-eq (count .ensures .0))
 
 same-length : tie.Need-same-length
 same-length c = search needs
 
 returns : tie.Need-returns
 returns c =
-    let page = now (c .before .before .before .before .before .before .before .before .before .args .page) in
-    let name = now (c .before .before .before .before .before .before .before .before .before .args .name) in
-    let w = sym (c .before .before .before .before .before .before .is-name .ensures) ∙ c .before .before .before .before .before .if1 .taken in
-    let n = c .before .before .before .count in
+    let is-name' = c .before .before .before .before .before .before .is-name in
+    let if1' = c .before .before .before .before .before .if1 in
+    let count' = c .before .before .before .count in
+    let start = c .before .before .before .before .before .before .before .before .before in
+    let is-name = is-name' in
+    let if1 = if1' in
+    let count = count' in
+    let page = now (start .args .page) in
+    let name = now (start .args .name) in
+    let w = sym (is-name .ensures) ∙ if1 .taken in
+    let n = count in
     let k = c .before .find in
-    add-known page name (c .before .before .before .before .before .before .before .before .before .pre) w (n .result) (k .result) (n .ensures .0) (k .ensures) (c .if2 .taken)
+    add-known page name (start .pre) w (n .result) (k .result) (n .ensures .0) (k .ensures) (c .if2 .taken)
 
 same-length-2 : tie.Need-same-length-2
 same-length-2 c = search needs
 
 returns-2 : tie.Need-returns-2
 returns-2 c =
-    let page = now (c .before .before .before .before .before .before .before .before .before .before .args .page) in
-    let name = now (c .before .before .before .before .before .before .before .before .before .before .args .name) in
-    let w = sym (c .before .before .before .before .before .before .before .is-name .ensures) ∙ c .before .before .before .before .before .before .if1 .taken in
-    let n = c .before .before .before .before .count in
-    let k = c .before .before .find in
-    add-many page name (c .before .before .before .before .before .before .before .before .before .before .pre) w (n .result) (k .result) (n .ensures .0) (k .ensures) (c .before .if2 .left) (c .if3 .taken)
+    let is-name' = c .before .before .before .before .before .before .before .is-name in
+    let if1' = c .before .before .before .before .before .before .if1 in
+    let count' = c .before .before .before .before .count in
+    let find' = c .before .before .find in
+    let start = c .before .before .before .before .before .before .before .before .before .before in
+    let is-name = is-name' in
+    let if1 = if1' in
+    let count = count' in
+    let find = find' in
+    let page = now (start .args .page) in
+    let name = now (start .args .name) in
+    let w = sym (is-name .ensures) ∙ if1 .taken in
+    let n = count in
+    let k = find in
+    add-many page name (start .pre) w (n .result) (k .result) (n .ensures .0) (k .ensures) (c .before .if2 .left) (c .if3 .taken)
 
 offset-of-requires : tie.Need-offset-of-requires
-offset-of-requires c κs = fits-to (now (c .before .before .before .before .before .before .before .before .before .before .before .args .page)) (form (now (c .before .before .before .before .before .before .before .before .before .before .before .args .page)) (c .before .before .before .before .before .before .before .before .before .before .before .pre)) (c .before .before .before .before .before .count .result) (le-of-eq (c .before .before .before .before .before .count .ensures .0))
+offset-of-requires c κs =
+    let count' = c .before .before .before .before .before .count in
+    let start = c .before .before .before .before .before .before .before .before .before .before .before in
+    let count = count' in
+    fits-to (now (start .args .page)) (form (now (start .args .page)) (start .pre)) (count .result) (le-of-eq (count .ensures .0))
 
 add-if4 : tie.Need-add-if4
 add-if4 c =
-    let page = now (c .before .before .before .before .before .before .before .before .before .before .before .before .args .page) in
-    let z : c .offset-of .result ≤ length page = rw (c .offset-of .ensures) (fits-to page (form page (c .before .before .before .before .before .before .before .before .before .before .before .before .pre)) (c .before .before .before .before .before .before .count .result) (le-of-eq (c .before .before .before .before .before .before .count .ensures .0))) in
-    let y = name-small (now (c .before .before .before .before .before .before .before .before .before .before .before .before .args .name)) (sym (c .before .before .before .before .before .before .before .before .before .is-name .ensures) ∙ c .before .before .before .before .before .before .before .before .if1 .taken) in
+    let is-name' = c .before .before .before .before .before .before .before .before .before .is-name in
+    let if1' = c .before .before .before .before .before .before .before .before .if1 in
+    let count' = c .before .before .before .before .before .before .count in
+    let start = c .before .before .before .before .before .before .before .before .before .before .before .before in
+    let is-name = is-name' in
+    let if1 = if1' in
+    let count = count' in
+    let page = now (start .args .page) in
+    let z : c .offset-of .result ≤ length page = rw (c .offset-of .ensures) (fits-to page (form page (start .pre)) (count .result) (le-of-eq (count .ensures .0))) in
+    let y = name-small (now (start .args .name)) (sym (is-name .ensures) ∙ if1 .taken) in
     omega arith
 
 add-if4-2 : tie.Need-add-if4-2
 add-if4-2 c =
-    let page = now (c .before .before .before .before .before .before .before .before .before .before .before .before .args .page) in
-    let z : c .offset-of .result ≤ length page = rw (c .offset-of .ensures) (fits-to page (form page (c .before .before .before .before .before .before .before .before .before .before .before .before .pre)) (c .before .before .before .before .before .before .count .result) (le-of-eq (c .before .before .before .before .before .before .count .ensures .0))) in
-    let y = name-small (now (c .before .before .before .before .before .before .before .before .before .before .before .before .args .name)) (sym (c .before .before .before .before .before .before .before .before .before .is-name .ensures) ∙ c .before .before .before .before .before .before .before .before .if1 .taken) in
+    let is-name' = c .before .before .before .before .before .before .before .before .before .is-name in
+    let if1' = c .before .before .before .before .before .before .before .before .if1 in
+    let count' = c .before .before .before .before .before .before .count in
+    let start = c .before .before .before .before .before .before .before .before .before .before .before .before in
+    let is-name = is-name' in
+    let if1 = if1' in
+    let count = count' in
+    let page = now (start .args .page) in
+    let z : c .offset-of .result ≤ length page = rw (c .offset-of .ensures) (fits-to page (form page (start .pre)) (count .result) (le-of-eq (count .ensures .0))) in
+    let y = name-small (now (start .args .name)) (sym (is-name .ensures) ∙ if1 .taken) in
     omega arith
 
 same-length-3 : tie.Need-same-length-3
@@ -67,15 +106,35 @@ same-length-3 c = search needs
 
 returns-3 : tie.Need-returns-3
 returns-3 c =
-    let page = now (c .before .before .before .before .before .before .before .before .before .before .before .before .before .args .page) in
-    let name = now (c .before .before .before .before .before .before .before .before .before .before .before .before .before .args .name) in
-    let w = sym (c .before .before .before .before .before .before .before .before .before .before .is-name .ensures) ∙ c .before .before .before .before .before .before .before .before .before .if1 .taken in
-    let n = c .before .before .before .before .before .before .before .count in
-    let k = c .before .before .before .before .before .find in
-    add-short page name (c .before .before .before .before .before .before .before .before .before .before .before .before .before .pre) w (n .result) (k .result) (n .ensures .0) (k .ensures) (c .before .before .before .before .if2 .left) (c .before .before .before .if3 .left) (c .before .offset-of .result) (c .before .offset-of .ensures) (c .if4 .taken)
+    let is-name' = c .before .before .before .before .before .before .before .before .before .before .is-name in
+    let if1' = c .before .before .before .before .before .before .before .before .before .if1 in
+    let count' = c .before .before .before .before .before .before .before .count in
+    let find' = c .before .before .before .before .before .find in
+    let if2' = c .before .before .before .before .if2 in
+    let if3' = c .before .before .before .if3 in
+    let start = c .before .before .before .before .before .before .before .before .before .before .before .before .before in
+    let is-name = is-name' in
+    let if1 = if1' in
+    let count = count' in
+    let find = find' in
+    let if2 = if2' in
+    let if3 = if3' in
+    let offset-of = c .before .offset-of in
+    let page = now (start .args .page) in
+    let name = now (start .args .name) in
+    let w = sym (is-name .ensures) ∙ if1 .taken in
+    let n = count in
+    let k = find in
+    add-short page name (start .pre) w (n .result) (k .result) (n .ensures .0) (k .ensures) (if2 .left) (if3 .left) (offset-of .result) (offset-of .ensures) (c .if4 .taken)
 
 cast-t23 : tie.Need-cast-t23
-cast-t23 c = let y = name-small (now (c .before .before .before .before .before .before .before .before .before .before .before .before .before .args .name)) (sym (c .before .before .before .before .before .before .before .before .before .before .is-name .ensures) ∙ c .before .before .before .before .before .before .before .before .before .if1 .taken) in omega arith
+cast-t23 c =
+    let is-name' = c .before .before .before .before .before .before .before .before .before .before .is-name in
+    let if1' = c .before .before .before .before .before .before .before .before .before .if1 in
+    let start = c .before .before .before .before .before .before .before .before .before .before .before .before .before in
+    let is-name = is-name' in
+    let if1 = if1' in
+    let y = name-small (now (start .args .name)) (sym (is-name .ensures) ∙ if1 .taken) in omega arith
 
 add-count-bytes : tie.Need-add-count-bytes
 add-count-bytes c = search needs
@@ -100,27 +159,61 @@ slice-aggregate-put-bytes-2 c = search needs
 
 put-bytes-requires-3 : tie.Need-put-bytes-requires-3
 put-bytes-requires-3 c κs =
-    let a = ap length (c .before .before .before .before .before .before .before .before .before .before .before .count-bytes .ensures) in
-    let t = form (now (c .before .before .before .before .before .before .before .before .before .before .before .before .before .before .before .before .before .before .before .before .before .before .before .before .before .args .page)) (c .before .before .before .before .before .before .before .before .before .before .before .before .before .before .before .before .before .before .before .before .before .before .before .before .before .pre) .two in
-    omega (arith, c .before .before .before .before .before .before .before .before .before .put-bytes .kept .0, c .before .before .before .before .put-bytes2 .kept .0, a, t)
+    let count-bytes' = c .before .before .before .before .before .before .before .before .before .before .before .count-bytes in
+    let put-bytes' = c .before .before .before .before .before .before .before .before .before .put-bytes in
+    let put-bytes2' = c .before .before .before .before .put-bytes2 in
+    let start = c .before .before .before .before .before .before .before .before .before .before .before .before .before .before .before .before .before .before .before .before .before .before .before .before .before in
+    let count-bytes = count-bytes' in
+    let put-bytes = put-bytes' in
+    let put-bytes2 = put-bytes2' in
+    let a = ap length (count-bytes .ensures) in
+    let t = form (now (start .args .page)) (start .pre) .two in
+    omega (arith, put-bytes .kept .0, put-bytes2 .kept .0, a, t)
 
 same-length-4 : tie.Need-same-length-4
 same-length-4 c = search needs
 
 returns-4 : tie.Need-returns-4
 returns-4 c =
-    let page = now (c .before .before .before .before .before .before .before .before .before .before .before .before .before .before .before .before .before .before .before .before .before .before .before .before .before .before .before .before .args .page) in
-    let name = now (c .before .before .before .before .before .before .before .before .before .before .before .before .before .before .before .before .before .before .before .before .before .before .before .before .before .before .before .before .args .name) in
-    let w = sym (c .before .before .before .before .before .before .before .before .before .before .before .before .before .before .before .before .before .before .before .before .before .before .before .before .before .is-name .ensures) ∙ c .before .before .before .before .before .before .before .before .before .before .before .before .before .before .before .before .before .before .before .before .before .before .before .before .if1 .taken in
-    let n = c .before .before .before .before .before .before .before .before .before .before .before .before .before .before .before .before .before .before .before .before .before .before .count in
-    let k = c .before .before .before .before .before .before .before .before .before .before .before .before .before .before .before .before .before .before .before .before .find in
+    let is-name' = c .before .before .before .before .before .before .before .before .before .before .before .before .before .before .before .before .before .before .before .before .before .before .before .before .before .is-name in
+    let if1' = c .before .before .before .before .before .before .before .before .before .before .before .before .before .before .before .before .before .before .before .before .before .before .before .before .if1 in
+    let count' = c .before .before .before .before .before .before .before .before .before .before .before .before .before .before .before .before .before .before .before .before .before .before .count in
+    let find' = c .before .before .before .before .before .before .before .before .before .before .before .before .before .before .before .before .before .before .before .before .find in
+    let if2' = c .before .before .before .before .before .before .before .before .before .before .before .before .before .before .before .before .before .before .before .if2 in
+    let if3' = c .before .before .before .before .before .before .before .before .before .before .before .before .before .before .before .before .before .before .if3 in
+    let offset-of' = c .before .before .before .before .before .before .before .before .before .before .before .before .before .before .before .before .offset-of in
+    let if4' = c .before .before .before .before .before .before .before .before .before .before .before .before .before .before .before .if4 in
+    let count-bytes' = c .before .before .before .before .before .before .before .before .before .before .before .before .before .before .count-bytes in
+    let put-bytes' = c .before .before .before .before .before .before .before .before .before .before .before .before .put-bytes in
+    let put-bytes2' = c .before .before .before .before .before .before .before .put-bytes2 in
+    let put-bytes3' = c .before .before .put-bytes3 in
+    let start = c .before .before .before .before .before .before .before .before .before .before .before .before .before .before .before .before .before .before .before .before .before .before .before .before .before .before .before .before in
+    let is-name = is-name' in
+    let if1 = if1' in
+    let count = count' in
+    let find = find' in
+    let if2 = if2' in
+    let if3 = if3' in
+    let offset-of = offset-of' in
+    let if4 = if4' in
+    let count-bytes = count-bytes' in
+    let put-bytes = put-bytes' in
+    let put-bytes2 = put-bytes2' in
+    let put-bytes3 = put-bytes3' in
+    let page = now (start .args .page) in
+    let name = now (start .args .name) in
+    let w = sym (is-name .ensures) ∙ if1 .taken in
+    let n = count in
+    let k = find in
     let m = first-le (named page name) (n .result) in
-    let e : k .result ≡ n .result = omega (arith, k .ensures, m, c .before .before .before .before .before .before .before .before .before .before .before .before .before .before .before .before .before .before .before .if2 .left) in
-    let d = add-new page name (c .before .before .before .before .before .before .before .before .before .before .before .before .before .before .before .before .before .before .before .before .before .before .before .before .before .before .before .before .pre) w (n .result) (k .result) (n .ensures .0) (k .ensures) (c .before .before .before .before .before .before .before .before .before .before .before .before .before .before .before .before .before .before .before .if2 .left) (c .before .before .before .before .before .before .before .before .before .before .before .before .before .before .before .before .before .before .if3 .left) (c .before .before .before .before .before .before .before .before .before .before .before .before .before .before .before .before .offset-of .result) (c .before .before .before .before .before .before .before .before .before .before .before .before .before .before .before .before .offset-of .ensures) e (c .before .before .before .before .before .before .before .before .before .before .before .before .before .before .before .if4 .left) in
-    (d .0, c .before .before .put-bytes3 .ensures ∙ rw (c .before .before .before .before .before .before .before .put-bytes2 .ensures, c .before .before .before .before .before .before .before .before .before .before .before .before .put-bytes .ensures, c .before .before .before .before .before .before .before .before .before .before .before .before .before .before .count-bytes .ensures) (d .1))
+    let e : k .result ≡ n .result = omega (arith, k .ensures, m, if2 .left) in
+    let d = add-new page name (start .pre) w (n .result) (k .result) (n .ensures .0) (k .ensures) (if2 .left) (if3 .left) (offset-of .result) (offset-of .ensures) e (if4 .left) in
+    (d .0, put-bytes3 .ensures ∙ rw (put-bytes2 .ensures, put-bytes .ensures, count-bytes .ensures) (d .1))
 
 returns-5 : tie.Need-returns-5
-returns-5 c = add-malformed (now (c .before .before .before .before .args .page)) (now (c .before .before .before .before .args .name)) (c .before .before .before .before .pre) (sym (c .before .is-name .ensures) ∙ c .if1 .left)
+returns-5 c =
+    let start = c .before .before .before .before in
+    add-malformed (now (start .args .page)) (now (start .args .name)) (start .pre) (sym (c .before .is-name .ensures) ∙ c .if1 .left)
 
 pub insert-name-spec : {M : Type 1} → statement M
 insert-name-spec = tie.close (tie.spec is-name-requires count-requires find-requires same-length returns same-length-2 returns-2 offset-of-requires add-if4 add-if4-2 same-length-3 returns-3 cast-t23 add-count-bytes count-bytes-requires add-put-bytes put-bytes-requires slice-aggregate-put-bytes put-bytes-requires-2 slice-aggregate-put-bytes-2 put-bytes-requires-3 same-length-4 returns-4 returns-5)

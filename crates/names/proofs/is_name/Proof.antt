@@ -32,7 +32,10 @@ is-digit-requires : tie.Need-is-digit-requires Inv-loop μ-loop
 is-digit-requires c κs = search needs
 
 returns-3 : tie.Need-returns-3 Inv-loop μ-loop
-returns-3 c = named-digit _ (c .before .before .before .before .if1 .left) (c .before .before .before .if2 .left) (sym (c .before .is-digit .ensures) ∙ c .if3 .taken)
+returns-3 c =
+    let if1 = c .before .before .before .before .if1 in
+    let if2 = c .before .before .before .if2 in
+    named-digit _ (if1 .left) (if2 .left) (sym (c .before .is-digit .ensures) ∙ c .if3 .taken)
 
 loop-holds : tie.Need-loop-holds Inv-loop μ-loop
 loop-holds c = (omega arith, all-none _)
@@ -50,14 +53,30 @@ loop-less : tie.Need-loop-less Inv-loop μ-loop
 loop-less c = search needs
 
 loop-again : tie.Need-loop-again Inv-loop μ-loop
-loop-again c = (omega arith, all-more _ _ (c .before .before .before .before .loop .inv .1) (sym (c .before .is-name-byte .ensures) ∙ c .if4 .taken))
+loop-again c =
+    let loop = c .before .before .before .before .loop in
+    (omega arith, all-more _ _ (loop .inv .1) (sym (c .before .is-name-byte .ensures) ∙ c .if4 .taken))
 
 returns-4 : tie.Need-returns-4 Inv-loop μ-loop
-returns-4 c = sym (all-failed _ _ (c .before .before .before .before .loop .i) (c .before .before .before .loop-test .taken) (sym (c .before .is-name-byte .ensures) ∙ c .if4 .left)) ∙ named-all _ (c .before .before .before .before .before .before .before .before .before .if1 .left) (c .before .before .before .before .before .before .before .before .if2 .left) (sym (c .before .before .before .before .before .before .is-digit .ensures) ∙ c .before .before .before .before .before .if3 .left)
+returns-4 c =
+    let if1 = c .before .before .before .before .before .before .before .before .before .if1 in
+    let if2 = c .before .before .before .before .before .before .before .before .if2 in
+    let is-digit = c .before .before .before .before .before .before .is-digit in
+    let if3 = c .before .before .before .before .before .if3 in
+    let loop = c .before .before .before .before .loop in
+    let loop-test = c .before .before .before .loop-test in
+    sym (all-failed _ _ (loop .i) (loop-test .taken) (sym (c .before .is-name-byte .ensures) ∙ c .if4 .left)) ∙ named-all _ (if1 .left) (if2 .left) (sym (is-digit .ensures) ∙ if3 .left)
 
 returns-5 : tie.Need-returns-5 Inv-loop μ-loop
-returns-5 c = let e : c .before .loop .i ≡ length (now (c .before .before .before .before .before .before .before .before .args .name)) = omega arith in
-    sym (rw e at (c .before .loop .inv .1)) ∙ named-all _ (c .before .before .before .before .before .before .if1 .left) (c .before .before .before .before .before .if2 .left) (sym (c .before .before .before .is-digit .ensures) ∙ c .before .before .if3 .left)
+returns-5 c =
+    let start = c .before .before .before .before .before .before .before .before in
+    let if1 = c .before .before .before .before .before .before .if1 in
+    let if2 = c .before .before .before .before .before .if2 in
+    let is-digit = c .before .before .before .is-digit in
+    let if3 = c .before .before .if3 in
+    let loop = c .before .loop in
+    let e : loop .i ≡ length (now (start .args .name)) = omega arith in
+    sym (rw e at (loop .inv .1)) ∙ named-all _ (if1 .left) (if2 .left) (sym (is-digit .ensures) ∙ if3 .left)
 
 pub is-name-spec : {M : Type 1} → statement M
 is-name-spec =

@@ -20,7 +20,9 @@ returns-5 : tie.Need-returns-5
 returns-5 c = byte-5 _ (c .if5 .taken)
 
 returns-6 : tie.Need-returns-6
-returns-6 c = byte-6 _ (c .before .before .if4 .left) (c .if6 .taken) (c .before .if5 .left)
+returns-6 c =
+    let if4 = c .before .before .if4 in
+    byte-6 _ (if4 .left) (c .if6 .taken) (c .before .if5 .left)
 
 returns-7 : tie.Need-returns-7
 returns-7 c = byte-7 _ (c .if6 .left)

@@ -25,10 +25,12 @@ add-start c = let g = c .before .before in
 
 shared-slice-read-index : tie.Need-shared-slice-read-index
 unfolding offset
-shared-slice-read-index c = let g = c .before .before .before in
+shared-slice-read-index c =
+    let offset-of = c .before .offset-of in
+    let g = c .before .before .before in
     let f = form (now (g .args .page)) (g .pre .0) in
     let z = fits-to (now (g .args .page)) f (suc (g .args .k)) (g .pre .1) in
-    let o : offset (now (g .args .page)) (suc (g .args .k)) ≡ c .before .offset-of .result + 1 + getD (now (g .args .page)) (c .before .offset-of .result) 0 = rw (c .before .offset-of .ensures) in
+    let o : offset (now (g .args .page)) (suc (g .args .k)) ≡ offset-of .result + 1 + getD (now (g .args .page)) (offset-of .result) 0 = rw (offset-of .ensures) in
     omega arith
 
 index-requires : tie.Need-index-requires
@@ -36,10 +38,12 @@ index-requires c κs = search needs
 
 add-end : tie.Need-add-end
 unfolding offset
-add-end c = let g = c .before .before .before .before in
+add-end c =
+    let offset-of = c .before .before .offset-of in
+    let g = c .before .before .before .before in
     let f = form (now (g .args .page)) (g .pre .0) in
     let z = fits-to (now (g .args .page)) f (suc (g .args .k)) (g .pre .1) in
-    let o : offset (now (g .args .page)) (suc (g .args .k)) ≡ c .before .before .offset-of .result + 1 + getD (now (g .args .page)) (c .before .before .offset-of .result) 0 = rw (c .before .before .offset-of .ensures) in
+    let o : offset (now (g .args .page)) (suc (g .args .k)) ≡ offset-of .result + 1 + getD (now (g .args .page)) (offset-of .result) 0 = rw (offset-of .ensures) in
     omega (arith, c .index .ensures .0)
 
 sub-result : tie.Need-sub-result
@@ -50,16 +54,20 @@ part-result-start c = search needs
 
 part-result-end : tie.Need-part-result-end
 unfolding offset
-part-result-end c = let g = c .before .before .before .before in
+part-result-end c =
+    let offset-of = c .before .before .offset-of in
+    let g = c .before .before .before .before in
     let f = form (now (g .args .page)) (g .pre .0) in
     let z = fits-to (now (g .args .page)) f (suc (g .args .k)) (g .pre .1) in
-    let o : offset (now (g .args .page)) (suc (g .args .k)) ≡ c .before .before .offset-of .result + 1 + getD (now (g .args .page)) (c .before .before .offset-of .result) 0 = rw (c .before .before .offset-of .ensures) in
+    let o : offset (now (g .args .page)) (suc (g .args .k)) ≡ offset-of .result + 1 + getD (now (g .args .page)) (offset-of .result) 0 = rw (offset-of .ensures) in
     omega (arith, c .index .ensures .0)
 
 returns : tie.Need-returns
 returns c =
+    let offset-of = c .before .before .before .offset-of in
+    let index = c .before .index in
     let g = c .before .before .before .before .before in
-    let e = part-is (now (g .args .page)) (g .args .k) (c .before .before .before .offset-of .result) (c .before .index .result) (c .before .before .before .offset-of .ensures) (c .before .index .ensures .0) in
+    let e = part-is (now (g .args .page)) (g .args .k) (offset-of .result) (index .result) (offset-of .ensures) (index .ensures .0) in
     let s = name-small _ (in-use-named (now (g .args .page)) (form (now (g .args .page)) (g .pre .0)) (g .args .k) (g .pre .1)) in
     (e, rw e (s .0), rw e (s .1))
 

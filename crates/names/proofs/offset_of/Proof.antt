@@ -18,19 +18,31 @@ abbrev μ-loop : tie.MeasureT-loop
 
 loop-holds : tie.Need-loop-holds Inv-loop μ-loop
 unfolding offset
-loop-holds c = (omega arith, refl, let z = offset-ge (now (c .before .args .page)) (c .before .args .n) in omega (arith, c .before .pre))
+loop-holds c =
+    let start = c .before in
+    (omega arith, refl, let z = offset-ge (now (start .args .page)) (start .args .n) in omega (arith, start .pre))
 
 add-at : tie.Need-add-at Inv-loop μ-loop
-add-at c = let z = step-in (now (c .before .before .before .args .page)) (c .before .loop .i) (c .before .loop .at) (c .before .before .before .args .n) (c .before .loop .inv .1) (c .loop-test .taken) (c .before .before .before .pre) in omega arith
+add-at c =
+    let start = c .before .before .before in
+    let loop = c .before .loop in
+    let z = step-in (now (start .args .page)) (loop .i) (loop .at) (start .args .n) (loop .inv .1) (c .loop-test .taken) (start .pre) in omega arith
 
 shared-slice-read-index : tie.Need-shared-slice-read-index Inv-loop μ-loop
-shared-slice-read-index c = let z = step-in (now (c .before .before .before .before .args .page)) (c .before .before .loop .i) (c .before .before .loop .at) (c .before .before .before .before .args .n) (c .before .before .loop .inv .1) (c .before .loop-test .taken) (c .before .before .before .before .pre) in omega arith
+shared-slice-read-index c =
+    let start = c .before .before .before .before in
+    let loop = c .before .before .loop in
+    let z = step-in (now (start .args .page)) (loop .i) (loop .at) (start .args .n) (loop .inv .1) (c .before .loop-test .taken) (start .pre) in omega arith
 
 index-requires : tie.Need-index-requires Inv-loop μ-loop
 index-requires c κs = search needs
 
 add-at-2 : tie.Need-add-at-2 Inv-loop μ-loop
-add-at-2 c = let z = step-in (now (c .before .before .before .before .before .args .page)) (c .before .before .before .loop .i) (c .before .before .before .loop .at) (c .before .before .before .before .before .args .n) (c .before .before .before .loop .inv .1) (c .before .before .loop-test .taken) (c .before .before .before .before .before .pre) in omega arith
+add-at-2 c =
+    let start = c .before .before .before .before .before in
+    let loop = c .before .before .before .loop in
+    let loop-test = c .before .before .loop-test in
+    let z = step-in (now (start .args .page)) (loop .i) (loop .at) (start .args .n) (loop .inv .1) (loop-test .taken) (start .pre) in omega arith
 
 add-i : tie.Need-add-i Inv-loop μ-loop
 add-i c = search needs
@@ -39,10 +51,17 @@ loop-less : tie.Need-loop-less Inv-loop μ-loop
 loop-less c = search needs
 
 loop-again : tie.Need-loop-again Inv-loop μ-loop
-loop-again c = (omega arith, step-at (now (c .before .before .before .before .before .args .page)) (c .before .before .before .loop .i) (c .before .before .before .loop .at) (c .before .before .before .before .before .args .n) (c .before .before .before .loop .inv .1) (c .before .before .loop-test .taken) (c .before .before .before .before .before .pre) _ (c .index .ensures .0), let z = step-in (now (c .before .before .before .before .before .args .page)) (c .before .before .before .loop .i) (c .before .before .before .loop .at) (c .before .before .before .before .before .args .n) (c .before .before .before .loop .inv .1) (c .before .before .loop-test .taken) (c .before .before .before .before .before .pre) in omega arith)
+loop-again c =
+    let start = c .before .before .before .before .before in
+    let loop = c .before .before .before .loop in
+    let loop-test = c .before .before .loop-test in
+    (omega arith, step-at (now (start .args .page)) (loop .i) (loop .at) (start .args .n) (loop .inv .1) (loop-test .taken) (start .pre) _ (c .index .ensures .0), let z = step-in (now (start .args .page)) (loop .i) (loop .at) (start .args .n) (loop .inv .1) (loop-test .taken) (start .pre) in omega arith)
 
 returns : tie.Need-returns Inv-loop μ-loop
-returns c = let e : c .before .loop .i ≡ c .before .before .before .args .n = omega arith in rw e at (c .before .loop .inv .1)
+returns c =
+    let start = c .before .before .before in
+    let loop = c .before .loop in
+    let e : loop .i ≡ start .args .n = omega arith in rw e at (loop .inv .1)
 
 pub offset-of-spec : {M : Type 1} → statement M
 offset-of-spec =

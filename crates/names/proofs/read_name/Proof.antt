@@ -15,25 +15,45 @@ no-name-requires : tie.Need-no-name-requires
 no-name-requires c κs = search needs
 
 returns : tie.Need-returns
-returns c = c .no-name .ensures ∙ read-broken (now (c .before .before .before .before .args .page)) (c .before .before .before .before .args .k) (sym (c .before .before .is-formed .ensures) ∙ not-true (c .before .before .is-formed .result) (c .before .if1 .taken))
+returns c =
+    let start = c .before .before .before .before in
+    let is-formed = c .before .before .is-formed in
+    c .no-name .ensures ∙ read-broken (now (start .args .page)) (start .args .k) (sym (is-formed .ensures) ∙ not-true (is-formed .result) (c .before .if1 .taken))
 
 count-requires : tie.Need-count-requires
-count-requires c κs = form (now (c .before .before .before .args .page)) (sym (c .before .is-formed .ensures) ∙ not-false (c .before .is-formed .result) (c .if1 .left)) .two
+count-requires c κs =
+    let start = c .before .before .before in
+    let is-formed = c .before .is-formed in
+    form (now (start .args .page)) (sym (is-formed .ensures) ∙ not-false (is-formed .result) (c .if1 .left)) .two
 
 no-name-requires-2 : tie.Need-no-name-requires-2
 no-name-requires-2 c κs = search needs
 
 returns-2 : tie.Need-returns-2
-returns-2 c = c .no-name2 .ensures ∙ read-unused (now (c .before .before .before .before .before .before .args .page)) (c .before .before .before .before .before .before .args .k) (sym (c .before .before .before .before .is-formed .ensures) ∙ not-false (c .before .before .before .before .is-formed .result) (c .before .before .before .if1 .left)) (c .before .before .count .result) (c .before .before .count .ensures .0) (c .before .if2 .taken)
+returns-2 c =
+    let start = c .before .before .before .before .before .before in
+    let is-formed = c .before .before .before .before .is-formed in
+    let if1 = c .before .before .before .if1 in
+    let count = c .before .before .count in
+    c .no-name2 .ensures ∙ read-unused (now (start .args .page)) (start .args .k) (sym (is-formed .ensures) ∙ not-false (is-formed .result) (if1 .left)) (count .result) (count .ensures .0) (c .before .if2 .taken)
 
 name-of-requires : tie.Need-name-of-requires
-name-of-requires c κs = (sym (c .before .before .before .is-formed .ensures) ∙ not-false (c .before .before .before .is-formed .result) (c .before .before .if1 .left), rw (← c .before .count .ensures .0) (c .if2 .left))
+name-of-requires c κs =
+    let is-formed = c .before .before .before .is-formed in
+    let if1 = c .before .before .if1 in
+    (sym (is-formed .ensures) ∙ not-false (is-formed .result) (if1 .left), rw (← c .before .count .ensures .0) (c .if2 .left))
 
 copied-requires : tie.Need-copied-requires
 copied-requires c κs = c .name-of .ensures .2
 
 returns-3 : tie.Need-returns-3
-returns-3 c = c .copied .ensures ∙ ap nameOf (c .before .name-of .ensures .0) ∙ read-name (now (c .before .before .before .before .before .before .before .args .page)) (c .before .before .before .before .before .before .before .args .k) (sym (c .before .before .before .before .before .is-formed .ensures) ∙ not-false (c .before .before .before .before .before .is-formed .result) (c .before .before .before .before .if1 .left)) (c .before .before .before .count .result) (c .before .before .before .count .ensures .0) (c .before .before .if2 .left)
+returns-3 c =
+    let start = c .before .before .before .before .before .before .before in
+    let is-formed = c .before .before .before .before .before .is-formed in
+    let if1 = c .before .before .before .before .if1 in
+    let count = c .before .before .before .count in
+    let if2 = c .before .before .if2 in
+    c .copied .ensures ∙ ap nameOf (c .before .name-of .ensures .0) ∙ read-name (now (start .args .page)) (start .args .k) (sym (is-formed .ensures) ∙ not-false (is-formed .result) (if1 .left)) (count .result) (count .ensures .0) (if2 .left)
 
 pub read-name-spec : {M : Type 1} → statement M
 read-name-spec = tie.close (tie.spec is-formed-requires no-name-requires returns count-requires no-name-requires-2 returns-2 name-of-requires copied-requires returns-3)

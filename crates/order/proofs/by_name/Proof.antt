@@ -25,7 +25,9 @@ dimensionless-requires : tie.Need-dimensionless-requires Inv-loop μ-loop
 dimensionless-requires c κs = search needs
 
 loop-holds : tie.Need-loop-holds Inv-loop μ-loop
-loop-holds c = sorting-start (now (c .before .before .args .page)) (countOf (now (c .before .before .args .page))) (c .before .before .args .t2) (c .dimensionless .result) (c .dimensionless .ensures) (c .before .before .pre .2)
+loop-holds c =
+    let start = c .before .before in
+    sorting-start (now (start .args .page)) (countOf (now (start .args .page))) (start .args .t2) (c .dimensionless .result) (c .dimensionless .ensures) (start .pre .2)
 
 element-copy-out-placed : tie.Need-element-copy-out-placed Inv-loop μ-loop
 element-copy-out-placed c = search needs
@@ -38,14 +40,17 @@ element-copy-out-placed-2 c = search needs
 
 placed-requires : tie.Need-placed-requires Inv-loop μ-loop
 placed-requires c κs =
-    let g = c .before .before .before .before .before .before .args in
+    let start = c .before .before .before .before .before .before in
+    let loop = c .before .before .before .loop in
+    let loop-test = c .before .before .loop-test in
+    let g = start .args in
     let page = now (g .page) in
-    let l = c .before .before .before .loop in
+    let l = loop in
     let z = sorting-count page (countOf page) (g .t2) (l .w) (l .i) (l .inv) in (
-      c .before .before .before .before .before .before .pre .0,
-      omega (arith, z, c .before .before .loop-test .taken, c .before .before .before .before .before .before .pre .1),
-      sorting-used page (countOf page) (g .t2) (l .w) (l .i) (l .inv) (c .before .before .loop-test .taken),
-      rw (l .inv .held, terms-unit (l .inv .done) (omega (arith, l .inv .size, c .before .before .loop-test .taken, c .before .before .before .before .before .before .pre .1))) (l .inv .used),
+      start .pre .0,
+      omega (arith, z, loop-test .taken, start .pre .1),
+      sorting-used page (countOf page) (g .t2) (l .w) (l .i) (l .inv) (loop-test .taken),
+      rw (l .inv .held, terms-unit (l .inv .done) (omega (arith, l .inv .size, loop-test .taken, start .pre .1))) (l .inv .used),
     )
 
 add-i : tie.Need-add-i Inv-loop μ-loop
@@ -56,18 +61,22 @@ loop-less c = search needs
 
 loop-again : tie.Need-loop-again Inv-loop μ-loop
 loop-again c =
-    let g = c .before .before .before .before .before .before .before .args in
+    let start = c .before .before .before .before .before .before .before in
+    let loop = c .before .before .before .before .loop in
+    let loop-test = c .before .before .before .loop-test in
+    let g = start .args in
     let page = now (g .page) in
-    let l = c .before .before .before .before .loop in
+    let l = loop in
     let d = l .inv .done in
-    sorting-next page (countOf page) (g .t2) (l .w) (l .i) (l .inv) (c .before .before .before .loop-test .taken) (c .placed .result)
+    sorting-next page (countOf page) (g .t2) (l .w) (l .i) (l .inv) (loop-test .taken) (c .placed .result)
     (c .placed .ensures
     ∙ ap (λ z. unitOf (place page (term (symAt (placesOf (g .t2)) (l .i)) z) (termsOf (l .w)))) (back (expAt (placesOf (g .t2)) (l .i)) (c .before .placed-arg2 .given))
-    ∙ ap (λ t. unitOf (place page (termAt (g .t2) (l .i)) t)) (ap termsOf (l .inv .held) ∙ terms-unit d (omega (arith, l .inv .size, c .before .before .before .loop-test .taken, c .before .before .before .before .before .before .before .pre .1))))
+    ∙ ap (λ t. unitOf (place page (termAt (g .t2) (l .i)) t)) (ap termsOf (l .inv .held) ∙ terms-unit d (omega (arith, l .inv .size, loop-test .taken, start .pre .1))))
 
 returns : tie.Need-returns Inv-loop μ-loop
 returns c =
-    let g = c .before .before .before .before .args in
+    let start = c .before .before .before .before in
+    let g = start .args in
     let page = now (g .page) in
     let l = c .before .loop in
     sorting-end page (countOf page) (g .t2) (l .w) (l .i) (l .inv) (c .loop-test .left)

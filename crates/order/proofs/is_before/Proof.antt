@@ -20,7 +20,10 @@ loop-holds : tie.Need-loop-holds Inv-loop μ-loop
 loop-holds c = (omega arith, refl)
 
 returns : tie.Need-returns Inv-loop μ-loop
-returns c = sym (c .before .before .loop .inv .1 ∙ comes-short (now (c .before .before .before .args .a)) (now (c .before .before .before .args .b)) (c .before .before .loop .i) (c .before .loop-test .taken) (c .if1 .taken))
+returns c =
+    let start = c .before .before .before in
+    let loop = c .before .before .loop in
+    sym (loop .inv .1 ∙ comes-short (now (start .args .a)) (now (start .args .b)) (loop .i) (c .before .loop-test .taken) (c .if1 .taken))
 
 shared-slice-read-if2 : tie.Need-shared-slice-read-if2 Inv-loop μ-loop
 shared-slice-read-if2 c = search needs
@@ -29,7 +32,12 @@ shared-slice-read-if2-2 : tie.Need-shared-slice-read-if2-2 Inv-loop μ-loop
 shared-slice-read-if2-2 c = search needs
 
 returns-2 : tie.Need-returns-2 Inv-loop μ-loop
-returns-2 c = sym (c .before .before .before .before .before .loop .inv .1 ∙ comes-less (now (c .before .before .before .before .before .before .args .a)) (now (c .before .before .before .before .before .before .args .b)) (c .before .before .before .before .before .loop .i) (c .before .before .before .before .loop-test .taken) (c .before .before .before .if1 .left) (c .if2 .taken))
+returns-2 c =
+    let start = c .before .before .before .before .before .before in
+    let loop = c .before .before .before .before .before .loop in
+    let loop-test = c .before .before .before .before .loop-test in
+    let if1 = c .before .before .before .if1 in
+    sym (loop .inv .1 ∙ comes-less (now (start .args .a)) (now (start .args .b)) (loop .i) (loop-test .taken) (if1 .left) (c .if2 .taken))
 
 shared-slice-read-if3 : tie.Need-shared-slice-read-if3 Inv-loop μ-loop
 shared-slice-read-if3 c = search needs
@@ -38,7 +46,13 @@ shared-slice-read-if3-2 : tie.Need-shared-slice-read-if3-2 Inv-loop μ-loop
 shared-slice-read-if3-2 c = search needs
 
 returns-3 : tie.Need-returns-3 Inv-loop μ-loop
-returns-3 c = sym (c .before .before .before .before .before .before .before .before .loop .inv .1 ∙ comes-more (now (c .before .before .before .before .before .before .before .before .before .args .a)) (now (c .before .before .before .before .before .before .before .before .before .args .b)) (c .before .before .before .before .before .before .before .before .loop .i) (c .before .before .before .before .before .before .before .loop-test .taken) (c .before .before .before .before .before .before .if1 .left) (c .before .before .before .if2 .left) (c .if3 .taken))
+returns-3 c =
+    let start = c .before .before .before .before .before .before .before .before .before in
+    let loop = c .before .before .before .before .before .before .before .before .loop in
+    let loop-test = c .before .before .before .before .before .before .before .loop-test in
+    let if1 = c .before .before .before .before .before .before .if1 in
+    let if2 = c .before .before .before .if2 in
+    sym (loop .inv .1 ∙ comes-more (now (start .args .a)) (now (start .args .b)) (loop .i) (loop-test .taken) (if1 .left) (if2 .left) (c .if3 .taken))
 
 add-i : tie.Need-add-i Inv-loop μ-loop
 add-i c = search needs
@@ -47,10 +61,19 @@ loop-less : tie.Need-loop-less Inv-loop μ-loop
 loop-less c = search needs
 
 loop-again : tie.Need-loop-again Inv-loop μ-loop
-loop-again c = (omega arith, c .before .before .before .before .before .before .before .before .loop .inv .1 ∙ comes-same (now (c .before .before .before .before .before .before .before .before .before .args .a)) (now (c .before .before .before .before .before .before .before .before .before .args .b)) (c .before .before .before .before .before .before .before .before .loop .i) (c .before .before .before .before .before .before .before .loop-test .taken) (c .before .before .before .before .before .before .if1 .left) (c .before .before .before .if2 .left) (c .if3 .left))
+loop-again c =
+    let start = c .before .before .before .before .before .before .before .before .before in
+    let loop = c .before .before .before .before .before .before .before .before .loop in
+    let loop-test = c .before .before .before .before .before .before .before .loop-test in
+    let if1 = c .before .before .before .before .before .before .if1 in
+    let if2 = c .before .before .before .if2 in
+    (omega arith, loop .inv .1 ∙ comes-same (now (start .args .a)) (now (start .args .b)) (loop .i) (loop-test .taken) (if1 .left) (if2 .left) (c .if3 .left))
 
 returns-4 : tie.Need-returns-4 Inv-loop μ-loop
-returns-4 c = sym (c .before .loop .inv .1 ∙ comes-done (now (c .before .before .args .a)) (now (c .before .before .args .b)) (c .before .loop .i) (omega arith))
+returns-4 c =
+    let start = c .before .before in
+    let loop = c .before .loop in
+    sym (loop .inv .1 ∙ comes-done (now (start .args .a)) (now (start .args .b)) (loop .i) (omega arith))
 
 pub is-before-spec : {M : Type 1} → statement M
 is-before-spec =

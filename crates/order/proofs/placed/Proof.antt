@@ -31,13 +31,17 @@ symbol-index-requires : tie.Need-symbol-index-requires Inv-loop μ-loop
 symbol-index-requires c κs = search needs
 
 name-of-requires : tie.Need-name-of-requires Inv-loop μ-loop
-name-of-requires c κs = (c .before .before .pre .0, rw (c .symbol-index .ensures .0) (c .before .before .pre .2))
+name-of-requires c κs =
+    let start = c .before .before in
+    (start .pre .0, rw (c .symbol-index .ensures .0) (start .pre .2))
 
 dimensionless-requires : tie.Need-dimensionless-requires Inv-loop μ-loop
 dimensionless-requires c κs = search needs
 
 loop-holds : tie.Need-loop-holds Inv-loop μ-loop
-loop-holds c = placing-start (now (c .before .before .before .before .args .page)) (c .before .before .before .before .args .t2) (term (c .before .before .before .before .args .s) (toZ w16 (ofZ w16 (c .before .before .before .before .args .e)))) (c .dimensionless .result) (c .dimensionless .ensures)
+loop-holds c =
+    let start = c .before .before .before .before in
+    placing-start (now (start .args .page)) (start .args .t2) (term (start .args .s) (toZ w16 (ofZ w16 (start .args .e)))) (c .dimensionless .result) (c .dimensionless .ensures)
 
 element-copy-out-t : tie.Need-element-copy-out-t Inv-loop μ-loop
 element-copy-out-t c = search needs
@@ -47,43 +51,62 @@ symbol-index-requires-2 c κs = search needs
 
 name-of-requires-2 : tie.Need-name-of-requires-2 Inv-loop μ-loop
 name-of-requires-2 c κs =
-    let g = c .before .before .before .before .before .before .before .before .args in
-    (c .before .before .before .before .before .before .before .before .pre .0, rw (c .symbol-index2 .ensures .0) (in-use-at (countOf (now (g .page))) (g .t2) (c .before .before .before .before .before .before .before .before .pre .3) (c .before .before .before .loop .j) (c .before .before .loop-test .taken)))
+    let start = c .before .before .before .before .before .before .before .before in
+    let loop = c .before .before .before .loop in
+    let loop-test = c .before .before .loop-test in
+    let g = start .args in
+    (start .pre .0, rw (c .symbol-index2 .ensures .0) (in-use-at (countOf (now (g .page))) (g .t2) (start .pre .3) (loop .j) (loop-test .taken)))
 
 is-before-requires : tie.Need-is-before-requires Inv-loop μ-loop
 is-before-requires c κs = search needs
 
 with-term-requires : tie.Need-with-term-requires Inv-loop μ-loop
 with-term-requires c κs =
-    let g = c .before .before .before .before .before .before .before .before .before .before .before .args in
+    let start = c .before .before .before .before .before .before .before .before .before .before .before in
+    let loop = c .before .before .before .before .before .before .loop in
+    let loop-test = c .before .before .before .before .before .loop-test in
+    let g = start .args in
     let page = now (g .page) in
     let x = term (g .s) (toZ w16 (ofZ w16 (g .e))) in
-    let l = c .before .before .before .before .before .before .loop in
-    let z = placing-count page (g .t2) x (l .v) (l .j) (l .inv) in omega (arith, z, c .before .before .before .before .before .loop-test .taken, c .before .before .before .before .before .before .before .before .before .before .before .pre .1)
+    let l = loop in
+    let z = placing-count page (g .t2) x (l .v) (l .j) (l .inv) in omega (arith, z, loop-test .taken, start .pre .1)
 
 with-rest-requires : tie.Need-with-rest-requires Inv-loop μ-loop
 with-rest-requires c κs =
-    let g = c .before .before .before .before .before .before .before .before .before .before .before .before .args in
+    let start = c .before .before .before .before .before .before .before .before .before .before .before .before in
+    let loop = c .before .before .before .before .before .before .before .loop in
+    let loop-test = c .before .before .before .before .before .before .loop-test in
+    let g = start .args in
     let page = now (g .page) in
     let x = term (g .s) (toZ w16 (ofZ w16 (g .e))) in
-    let l = c .before .before .before .before .before .before .before .loop in
+    let l = loop in
     let z = placing-count page (g .t2) x (l .v) (l .j) (l .inv) in
     let n = ap (λ (u : Unit). u .count) (c .with-term .ensures) in
-    let h = c .before .before .before .before .before .before .before .before .before .before .before .before .pre .1 in
-    let t = c .before .before .before .before .before .before .loop-test .taken in
+    let h = start .pre .1 in
+    let t = loop-test .taken in
     omega (arith, z, n, h, t)
 
 returns : tie.Need-returns Inv-loop μ-loop
 returns c =
-    let g = c .before .before .before .before .before .before .before .before .before .before .before .before .before .args in
+    let start = c .before .before .before .before .before .before .before .before .before .before .before .before .before in
+    let symbol-index = c .before .before .before .before .before .before .before .before .before .before .before .symbol-index in
+    let name-of = c .before .before .before .before .before .before .before .before .before .before .name-of in
+    let loop = c .before .before .before .before .before .before .before .before .loop in
+    let loop-test = c .before .before .before .before .before .before .before .loop-test in
+    let symbol-index2 = c .before .before .before .before .before .symbol-index2 in
+    let name-of2 = c .before .before .before .before .name-of2 in
+    let is-before = c .before .before .before .is-before in
+    let if1 = c .before .before .if1 in
+    let with-term = c .before .with-term in
+    let g = start .args in
     let page = now (g .page) in
     let x = term (g .s) (toZ w16 (ofZ w16 (g .e))) in
-    let l = c .before .before .before .before .before .before .before .before .loop in
-    let b : comes (nameAt page (x .symbol)) (nameAt page (symAt (placesOf (g .t2)) (l .j))) ≡ c .before .before .before .is-before .result =
-    rw (c .before .before .before .is-before .ensures, c .before .before .before .before .before .before .before .before .before .before .name-of .ensures .0, c .before .before .before .before .name-of2 .ensures .0, c .before .before .before .before .before .before .before .before .before .before .before .symbol-index .ensures .0, c .before .before .before .before .before .symbol-index2 .ensures .0) in
-    placing-here page (g .t2) x (l .v) (l .j) (l .inv) (c .before .before .before .before .before .before .before .loop-test .taken) (b ∙ c .before .before .if1 .taken) (c .before .with-term .result) (c .with-rest .result)
-    (λ k q. c .before .with-term .ensures ∙ grown _ _ _ k q) (c .with-rest .ensures)
-    ∙ ap (λ z. unitOf (place page (term (g .s) z) (termsOf (g .t2)))) (toZ-ofZ (c .before .before .before .before .before .before .before .before .before .before .before .before .before .fits .e))
+    let l = loop in
+    let b : comes (nameAt page (x .symbol)) (nameAt page (symAt (placesOf (g .t2)) (l .j))) ≡ is-before .result =
+    rw (is-before .ensures, name-of .ensures .0, name-of2 .ensures .0, symbol-index .ensures .0, symbol-index2 .ensures .0) in
+    placing-here page (g .t2) x (l .v) (l .j) (l .inv) (loop-test .taken) (b ∙ if1 .taken) (with-term .result) (c .with-rest .result)
+    (λ k q. with-term .ensures ∙ grown _ _ _ k q) (c .with-rest .ensures)
+    ∙ ap (λ z. unitOf (place page (term (g .s) z) (termsOf (g .t2)))) (toZ-ofZ (start .fits .e))
 
 mul-with-term : tie.Need-mul-with-term Inv-loop μ-loop
 mul-with-term c = search needs
@@ -93,11 +116,14 @@ element-copy-out-with-term c = search needs
 
 with-term-requires-2 : tie.Need-with-term-requires-2 Inv-loop μ-loop
 with-term-requires-2 c κs =
-    let g = c .before .before .before .before .before .before .before .before .before .before .before .before .args in
+    let start = c .before .before .before .before .before .before .before .before .before .before .before .before in
+    let loop = c .before .before .before .before .before .before .before .loop in
+    let loop-test = c .before .before .before .before .before .before .loop-test in
+    let g = start .args in
     let page = now (g .page) in
     let x = term (g .s) (toZ w16 (ofZ w16 (g .e))) in
-    let l = c .before .before .before .before .before .before .before .loop in
-    let z = placing-count page (g .t2) x (l .v) (l .j) (l .inv) in omega (arith, z, c .before .before .before .before .before .before .loop-test .taken, c .before .before .before .before .before .before .before .before .before .before .before .before .pre .1)
+    let l = loop in
+    let z = placing-count page (g .t2) x (l .v) (l .j) (l .inv) in omega (arith, z, loop-test .taken, start .pre .1)
 
 add-j : tie.Need-add-j Inv-loop μ-loop
 add-j c = search needs
@@ -107,32 +133,44 @@ loop-less c = search needs
 
 loop-again : tie.Need-loop-again Inv-loop μ-loop
 loop-again c =
-    let g = c .before .before .before .before .before .before .before .before .before .before .before .before .before .args in
+    let start = c .before .before .before .before .before .before .before .before .before .before .before .before .before in
+    let symbol-index = c .before .before .before .before .before .before .before .before .before .before .before .symbol-index in
+    let name-of = c .before .before .before .before .before .before .before .before .before .before .name-of in
+    let loop = c .before .before .before .before .before .before .before .before .loop in
+    let loop-test = c .before .before .before .before .before .before .before .loop-test in
+    let symbol-index2 = c .before .before .before .before .before .symbol-index2 in
+    let name-of2 = c .before .before .before .before .name-of2 in
+    let is-before = c .before .before .before .is-before in
+    let if1 = c .before .before .if1 in
+    let g = start .args in
     let page = now (g .page) in
     let x = term (g .s) (toZ w16 (ofZ w16 (g .e))) in
-    let l = c .before .before .before .before .before .before .before .before .loop in
-    let b : comes (nameAt page (x .symbol)) (nameAt page (symAt (placesOf (g .t2)) (l .j))) ≡ c .before .before .before .is-before .result =
-    rw (c .before .before .before .is-before .ensures, c .before .before .before .before .before .before .before .before .before .before .name-of .ensures .0, c .before .before .before .before .name-of2 .ensures .0, c .before .before .before .before .before .before .before .before .before .before .before .symbol-index .ensures .0, c .before .before .before .before .before .symbol-index2 .ensures .0) in
-    placing-next page (g .t2) x (l .v) (l .j) (l .inv) (c .before .before .before .before .before .before .before .loop-test .taken) (b ∙ c .before .before .if1 .left) (c .with-term2 .result)
+    let l = loop in
+    let b : comes (nameAt page (x .symbol)) (nameAt page (symAt (placesOf (g .t2)) (l .j))) ≡ is-before .result =
+    rw (is-before .ensures, name-of .ensures .0, name-of2 .ensures .0, symbol-index .ensures .0, symbol-index2 .ensures .0) in
+    placing-next page (g .t2) x (l .v) (l .j) (l .inv) (loop-test .taken) (b ∙ if1 .left) (c .with-term2 .result)
     (λ k q. c .with-term2 .ensures ∙ grown _ _ _ k q ∙ ap (λ z. unitOf (k ++ (term (symAt (placesOf (g .t2)) (l .j)) z ∷ []))) (back (expAt (placesOf (g .t2)) (l .j)) (c .before .with-term-arg .given)))
 
 with-term-requires-3 : tie.Need-with-term-requires-3 Inv-loop μ-loop
 with-term-requires-3 c κs =
-    let g = c .before .before .before .before .before .before .args in
+    let start = c .before .before .before .before .before .before in
+    let g = start .args in
     let page = now (g .page) in
     let x = term (g .s) (toZ w16 (ofZ w16 (g .e))) in
     let l = c .before .loop in
-    let z = placing-count page (g .t2) x (l .v) (l .j) (l .inv) in omega (arith, z, l .inv .j-in, c .before .before .before .before .before .before .pre .1)
+    let z = placing-count page (g .t2) x (l .v) (l .j) (l .inv) in omega (arith, z, l .inv .j-in, start .pre .1)
 
 returns-2 : tie.Need-returns-2 Inv-loop μ-loop
 returns-2 c =
-    let g = c .before .before .before .before .before .before .before .args in
+    let start = c .before .before .before .before .before .before .before in
+    let loop = c .before .before .loop in
+    let g = start .args in
     let page = now (g .page) in
     let x = term (g .s) (toZ w16 (ofZ w16 (g .e))) in
-    let l = c .before .before .loop in
+    let l = loop in
     placing-end page (g .t2) x (l .v) (l .j) (l .inv) (c .before .loop-test .left) (c .with-term3 .result)
     (λ k q. c .with-term3 .ensures ∙ grown _ _ _ k q)
-    ∙ ap (λ z. unitOf (place page (term (g .s) z) (termsOf (g .t2)))) (toZ-ofZ (c .before .before .before .before .before .before .before .fits .e))
+    ∙ ap (λ z. unitOf (place page (term (g .s) z) (termsOf (g .t2)))) (toZ-ofZ (start .fits .e))
 
 pub placed-spec : {M : Type 1} → statement M
 placed-spec =

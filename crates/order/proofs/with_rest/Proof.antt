@@ -33,7 +33,10 @@ element-copy-out-with-term-2 : tie.Need-element-copy-out-with-term-2 Inv-loop μ
 element-copy-out-with-term-2 c = search needs
 
 with-term-requires : tie.Need-with-term-requires Inv-loop μ-loop
-with-term-requires c κs = let z = c .before .before .before .loop .inv .size in omega (arith, z, c .before .before .before .before .pre .0)
+with-term-requires c κs =
+    let start = c .before .before .before .before in
+    let loop = c .before .before .before .loop in
+    let z = loop .inv .size in omega (arith, z, start .pre .0)
 
 add-i : tie.Need-add-i Inv-loop μ-loop
 add-i c = search needs
@@ -43,14 +46,18 @@ loop-less c = search needs
 
 loop-again : tie.Need-loop-again Inv-loop μ-loop
 loop-again c =
-    let g = c .before .before .before .before .before .args in
-    let l = c .before .before .before .before .loop in
-    resting-next (g .v) (g .t2) (g .j) (l .out) (l .i) (l .inv) (c .before .before .before .loop-test .taken) (c .with-term .result) (ap (λ (u : Unit). u .count) (c .with-term .ensures))
+    let start = c .before .before .before .before .before in
+    let loop = c .before .before .before .before .loop in
+    let loop-test = c .before .before .before .loop-test in
+    let g = start .args in
+    let l = loop in
+    resting-next (g .v) (g .t2) (g .j) (l .out) (l .i) (l .inv) (loop-test .taken) (c .with-term .result) (ap (λ (u : Unit). u .count) (c .with-term .ensures))
     (λ k e. c .with-term .ensures ∙ grown _ _ _ k e ∙ ap (λ z. unitOf (k ++ (term (symAt (placesOf (g .t2)) (l .i)) z ∷ []))) (back (expAt (placesOf (g .t2)) (l .i)) (c .before .with-term-arg2 .given)))
 
 returns : tie.Need-returns Inv-loop μ-loop
 returns c =
-    let g = c .before .before .args in
+    let start = c .before .before in
+    let g = start .args in
     let l = c .before .loop in
     resting-end (g .v) (g .t2) (g .j) (l .out) (l .i) (l .inv) (c .loop-test .left)
 

@@ -30,8 +30,9 @@ loop-less c = simp length-set (omega arith)
 
 loop-again : tie.Need-loop-again Inv-loop μ-loop
 loop-again c =
+    let start = c .before .before in
     let l = c .before .loop in
-    let p = now (c .before .before .args .page) in (
+    let p = now (start .args .page) in (
       simp length-set (omega arith),
       rw (l .inv .1) (fill-more (l .i) 0 p (omega arith)),
       length-set (l .page) (l .i) 0 ∙ l .inv .2,
@@ -42,8 +43,9 @@ same-length c = search needs
 
 returns : tie.Need-returns Inv-loop μ-loop
 returns c =
+    let start = c .before .before in
     let l = c .before .loop in
-    let p = now (c .before .before .args .page) in
+    let p = now (start .args .page) in
     let e : l .i ≡ length p = omega arith in
     let g : length p ≤ l .i = omega arith in
     let d : drop (l .i) p ≡ [] = drop-of-length-le p g in

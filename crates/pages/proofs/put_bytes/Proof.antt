@@ -42,10 +42,12 @@ loop-less c = search needs
 -- src/lib.rt:183:5
 loop-again : tie.Need-loop-again Inv-loop μ-loop
 loop-again c =
-    let l = c .before .before .loop in
-    let a = c .before .before .before .args in (
+    let start = c .before .before .before in
+    let loop = c .before .before .loop in
+    let l = loop in
+    let a = start .args in (
       omega arith,
-      rw (l .inv .1, add-one) (paste-suc (now (a .page)) (a .at) (now (a .bytes)) (l .i) 0 (omega (arith, c .before .before .before .pre)) (omega arith)),
+      rw (l .inv .1, add-one) (paste-suc (now (a .page)) (a .at) (now (a .bytes)) (l .i) 0 (omega (arith, start .pre)) (omega arith)),
       length-set (l .page) (a .at + l .i) (getD (now (a .bytes)) (l .i) 0) ∙ l .inv .2,
     )
 
@@ -56,8 +58,9 @@ same-length c = search needs
 -- src/lib.rt:178:1
 returns : tie.Need-returns Inv-loop μ-loop
 returns c =
+    let start = c .before .before in
     let l = c .before .loop in
-    let e : l .i ≡ length (now (c .before .before .args .bytes)) = omega arith in
+    let e : l .i ≡ length (now (start .args .bytes)) = omega arith in
     l .inv .1 ∙ rw e
 
 pub put-bytes-spec : {M : Type 1} → statement M

@@ -36,7 +36,10 @@ shared-slice-read-if2-2 c = search needs
 
 -- src/lib.rt:80:13
 returns-2 : tie.Need-returns-2 Inv-loop μ-loop
-returns-2 c = sym (c .before .before .before .before .loop .inv .1 ∙ eqs-off (now (c .before .before .before .before .before .before .args .a)) (now (c .before .before .before .before .before .before .args .b)) (c .before .before .before .before .loop .i) (omega arith) (omega arith) (c .if2 .taken))
+returns-2 c =
+    let start = c .before .before .before .before .before .before in
+    let loop = c .before .before .before .before .loop in
+    sym (loop .inv .1 ∙ eqs-off (now (start .args .a)) (now (start .args .b)) (loop .i) (omega arith) (omega arith) (c .if2 .taken))
 
 -- src/lib.rt:82:9
 add-i : tie.Need-add-i Inv-loop μ-loop
@@ -48,11 +51,17 @@ loop-less c = search needs
 
 -- src/lib.rt:78:5
 loop-again : tie.Need-loop-again Inv-loop μ-loop
-loop-again c = (omega arith, c .before .before .before .before .loop .inv .1 ∙ eqs-on (now (c .before .before .before .before .before .before .args .a)) (now (c .before .before .before .before .before .before .args .b)) (c .before .before .before .before .loop .i) (omega arith) (omega arith) (c .if2 .left))
+loop-again c =
+    let start = c .before .before .before .before .before .before in
+    let loop = c .before .before .before .before .loop in
+    (omega arith, loop .inv .1 ∙ eqs-on (now (start .args .a)) (now (start .args .b)) (loop .i) (omega arith) (omega arith) (c .if2 .left))
 
 -- src/lib.rt:71:1
 returns-3 : tie.Need-returns-3 Inv-loop μ-loop
-returns-3 c = sym (c .before .loop .inv .1 ∙ eqs-end (now (c .before .before .before .args .a)) (now (c .before .before .before .args .b)) (c .before .loop .i) (omega arith) (omega arith))
+returns-3 c =
+    let start = c .before .before .before in
+    let loop = c .before .loop in
+    sym (loop .inv .1 ∙ eqs-end (now (start .args .a)) (now (start .args .b)) (loop .i) (omega arith) (omega arith))
 
 pub same-spec : {M : Type 1} → statement M
 same-spec =

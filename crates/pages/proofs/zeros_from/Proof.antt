@@ -25,7 +25,10 @@ shared-slice-read-if1 c = search needs
 
 -- src/lib.rt:85:13
 returns : tie.Need-returns Inv-loop μ-loop
-returns c = sym (c .before .before .before .loop .inv .1 ∙ zeros-off (now (c .before .before .before .before .args .page)) (c .before .before .before .loop .i) (omega arith) (c .if1 .taken))
+returns c =
+    let start = c .before .before .before .before in
+    let loop = c .before .before .before .loop in
+    sym (loop .inv .1 ∙ zeros-off (now (start .args .page)) (loop .i) (omega arith) (c .if1 .taken))
 
 -- src/lib.rt:87:9
 add-i : tie.Need-add-i Inv-loop μ-loop
@@ -37,11 +40,17 @@ loop-less c = search needs
 
 -- src/lib.rt:83:5
 loop-again : tie.Need-loop-again Inv-loop μ-loop
-loop-again c = (omega arith, c .before .before .before .loop .inv .1 ∙ zeros-on (now (c .before .before .before .before .args .page)) (c .before .before .before .loop .i) (omega arith) (c .if1 .left))
+loop-again c =
+    let start = c .before .before .before .before in
+    let loop = c .before .before .before .loop in
+    (omega arith, loop .inv .1 ∙ zeros-on (now (start .args .page)) (loop .i) (omega arith) (c .if1 .left))
 
 -- src/lib.rt:78:1
 returns-2 : tie.Need-returns-2 Inv-loop μ-loop
-returns-2 c = sym (c .before .loop .inv .1 ∙ zeros-end (now (c .before .before .args .page)) (c .before .loop .i) (omega arith))
+returns-2 c =
+    let start = c .before .before in
+    let loop = c .before .loop in
+    sym (loop .inv .1 ∙ zeros-end (now (start .args .page)) (loop .i) (omega arith))
 
 pub zeros-from-spec : {M : Type 1} → statement M
 zeros-from-spec =

@@ -21,7 +21,11 @@ array-borrow-prefix-copy : tie.Need-array-borrow-prefix-copy
 array-borrow-prefix-copy c = search needs
 
 slice-aggregate-is-page-same : tie.Need-slice-aggregate-is-page-same
-slice-aggregate-is-page-same c = sym (length-take-le (length (now (c .before .before .before .before .before .before .before .before .args .page))) (c .before .before .put-bytes .last .0) (omega (arith, c .before .before .put-bytes .kept .0, c .before .before .before .before .if1 .left)))
+slice-aggregate-is-page-same c =
+    let start = c .before .before .before .before .before .before .before .before in
+    let if1 = c .before .before .before .before .if1 in
+    let put-bytes = c .before .before .put-bytes in
+    sym (length-take-le (length (now (start .args .page))) (put-bytes .last .0) (omega (arith, put-bytes .kept .0, if1 .left)))
 
 is-page-same-requires : tie.Need-is-page-same-requires
 is-page-same-requires c κs = search needs

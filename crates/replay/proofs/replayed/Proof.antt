@@ -37,16 +37,32 @@ add-differ : tie.Need-add-differ Inv-loop μ-loop
 add-differ c = search needs
 
 loop-less : tie.Need-loop-less Inv-loop μ-loop
-loop-less c = let f = c .before .before .before .field .ensures in let p = f .2 (c .before .before .before .before .loop-test .taken) in omega (arith, f .0, f .1, p, c .before .before .before .before .before .loop .inv .0, c .before .before .before .before .before .loop .inv .1, c .before .before .before .before .before .loop .inv .2)
+loop-less c =
+    let loop = c .before .before .before .before .before .loop in
+    let loop-test = c .before .before .before .before .loop-test in
+    let field = c .before .before .before .field in
+    let f = field .ensures in let p = f .2 (loop-test .taken) in omega (arith, f .0, f .1, p, loop .inv .0, loop .inv .1, loop .inv .2)
 
 loop-again : tie.Need-loop-again Inv-loop μ-loop
-loop-again c = let f = c .before .before .before .field .ensures in let p = f .2 (c .before .before .before .before .loop-test .taken) in omega (arith, f .0, f .1, p, c .before .before .before .before .before .loop .inv .0, c .before .before .before .before .before .loop .inv .1, c .before .before .before .before .before .loop .inv .2)
+loop-again c =
+    let loop = c .before .before .before .before .before .loop in
+    let loop-test = c .before .before .before .before .loop-test in
+    let field = c .before .before .before .field in
+    let f = field .ensures in let p = f .2 (loop-test .taken) in omega (arith, f .0, f .1, p, loop .inv .0, loop .inv .1, loop .inv .2)
 
 loop-less-2 : tie.Need-loop-less-2 Inv-loop μ-loop
-loop-less-2 c = let f = c .before .before .before .field .ensures in let p = f .2 (c .before .before .before .before .loop-test .taken) in omega (arith, f .0, f .1, p, c .before .before .before .before .before .loop .inv .0, c .before .before .before .before .before .loop .inv .1, c .before .before .before .before .before .loop .inv .2)
+loop-less-2 c =
+    let loop = c .before .before .before .before .before .loop in
+    let loop-test = c .before .before .before .before .loop-test in
+    let field = c .before .before .before .field in
+    let f = field .ensures in let p = f .2 (loop-test .taken) in omega (arith, f .0, f .1, p, loop .inv .0, loop .inv .1, loop .inv .2)
 
 loop-again-2 : tie.Need-loop-again-2 Inv-loop μ-loop
-loop-again-2 c = let f = c .before .before .before .field .ensures in let p = f .2 (c .before .before .before .before .loop-test .taken) in omega (arith, f .0, f .1, p, c .before .before .before .before .before .loop .inv .0, c .before .before .before .before .before .loop .inv .1, c .before .before .before .before .before .loop .inv .2)
+loop-again-2 c =
+    let loop = c .before .before .before .before .before .loop in
+    let loop-test = c .before .before .before .before .loop-test in
+    let field = c .before .before .before .field in
+    let f = field .ensures in let p = f .2 (loop-test .taken) in omega (arith, f .0, f .1, p, loop .inv .0, loop .inv .1, loop .inv .2)
 
 returns : tie.Need-returns Inv-loop μ-loop
 returns c = search needs

@@ -12,10 +12,14 @@ abbrev μ-loop : tie.MeasureT-loop
 μ-loop n u k i₀ i = k - i
 
 returns : tie.Need-returns Inv-loop μ-loop
-returns c = looked-none (c .before .args .n) (c .before .args .t1) (c .if1 .taken)
+returns c =
+    let start = c .before in
+    looked-none (start .args .n) (start .args .t1) (c .if1 .taken)
 
 loop-holds : tie.Need-loop-holds Inv-loop μ-loop
-loop-holds c = looking-start (c .before .args .n) (c .before .args .t1) (c .if1 .left)
+loop-holds c =
+    let start = c .before in
+    looking-start (start .args .n) (start .args .t1) (c .if1 .left)
 
 element-copy-out-symbol-index : tie.Need-element-copy-out-symbol-index Inv-loop μ-loop
 element-copy-out-symbol-index c = search needs
@@ -24,7 +28,11 @@ symbol-index-requires : tie.Need-symbol-index-requires Inv-loop μ-loop
 symbol-index-requires c κs = search needs
 
 returns-2 : tie.Need-returns-2 Inv-loop μ-loop
-returns-2 c = looked-unused (c .before .before .before .before .before .before .args .n) (c .before .before .before .before .before .before .args .t1) (c .before .before .before .before .loop .i) (c .before .before .before .before .loop .inv) (c .before .before .before .loop-test .taken) (rw (c .before .symbol-index .ensures .0) at (c .if2 .taken))
+returns-2 c =
+    let start = c .before .before .before .before .before .before in
+    let loop = c .before .before .before .before .loop in
+    let loop-test = c .before .before .before .loop-test in
+    looked-unused (start .args .n) (start .args .t1) (loop .i) (loop .inv) (loop-test .taken) (rw (c .before .symbol-index .ensures .0) at (c .if2 .taken))
 
 add-i : tie.Need-add-i Inv-loop μ-loop
 add-i c = search needs
@@ -33,10 +41,17 @@ loop-less : tie.Need-loop-less Inv-loop μ-loop
 loop-less c = search needs
 
 loop-again : tie.Need-loop-again Inv-loop μ-loop
-loop-again c = looking-next (c .before .before .before .before .before .before .args .n) (c .before .before .before .before .before .before .args .t1) (c .before .before .before .before .loop .i) (c .before .before .before .before .loop .inv) (c .before .before .before .loop-test .taken) (rw (c .before .symbol-index .ensures .0) at (c .if2 .left))
+loop-again c =
+    let start = c .before .before .before .before .before .before in
+    let loop = c .before .before .before .before .loop in
+    let loop-test = c .before .before .before .loop-test in
+    looking-next (start .args .n) (start .args .t1) (loop .i) (loop .inv) (loop-test .taken) (rw (c .before .symbol-index .ensures .0) at (c .if2 .left))
 
 returns-3 : tie.Need-returns-3 Inv-loop μ-loop
-returns-3 c = looked-all (c .before .before .before .args .n) (c .before .before .before .args .t1) (c .before .loop .i) (c .before .loop .inv) (c .loop-test .left)
+returns-3 c =
+    let start = c .before .before .before in
+    let loop = c .before .loop in
+    looked-all (start .args .n) (start .args .t1) (loop .i) (loop .inv) (c .loop-test .left)
 
 pub is-used-spec : {M : Type 1} → statement M
 is-used-spec =

@@ -10,24 +10,29 @@ use Rattle.text.proofs.size.Statement.{statement}
 use Rattle.text.proofs.size.Tie as tie
 
 sub-result : tie.Need-sub-result
-sub-result c = rw (toZ-ofZ (c .before .fits .e), +ℤ-idl) (neg-fits (c .before .args .e) (small (c .before .args .e) (c .before .pre)))
+sub-result c =
+    let start = c .before in
+    rw (toZ-ofZ (start .fits .e), +ℤ-idl) (neg-fits (start .args .e) (small (start .args .e) (start .pre)))
 
 cast-result : tie.Need-cast-result
 cast-result c =
-    let e = c .before .args .e in
-    let z = small e (c .before .pre) in
-    rw (turned-back e (c .before .fits .e) (c .before .pre)) (turned-up e (rw (toZ-ofZ (c .before .fits .e)) at (c .if1 .taken)), rw (abs-turn true e) (record { fits = omega arith }))
+    let start = c .before in
+    let e = start .args .e in
+    let z = small e (start .pre) in
+    rw (turned-back e (start .fits .e) (start .pre)) (turned-up e (rw (toZ-ofZ (start .fits .e)) at (c .if1 .taken)), rw (abs-turn true e) (record { fits = omega arith }))
 
 returns : tie.Need-returns
 returns c =
-    let e = c .before .args .e in
-    rw (turned-back e (c .before .fits .e) (c .before .pre)) (abs-turn true e, rw (abs-turn true e) (small e (c .before .pre)))
+    let start = c .before in
+    let e = start .args .e in
+    rw (turned-back e (start .fits .e) (start .pre)) (abs-turn true e, rw (abs-turn true e) (small e (start .pre)))
 
 cast-result-2 : tie.Need-cast-result-2
 cast-result-2 c =
-    let e = c .before .args .e in
-    let z = small e (c .before .pre) in
-    rw (toZ-ofZ (c .before .fits .e)) (stands-up e (rw (toZ-ofZ (c .before .fits .e)) at (c .if1 .left)), record { fits = omega arith })
+    let start = c .before in
+    let e = start .args .e in
+    let z = small e (start .pre) in
+    rw (toZ-ofZ (start .fits .e)) (stands-up e (rw (toZ-ofZ (start .fits .e)) at (c .if1 .left)), record { fits = omega arith })
 
 returns-2 : tie.Need-returns-2
 returns-2 c = search needs

@@ -14,7 +14,10 @@ same-length : tie.Need-same-length
 same-length c = search needs
 
 returns : tie.Need-returns
-returns c = power-plain (now (c .before .before .before .before .before .before .before .args .name)) (c .before .before .before .before .before .before .before .args .n) (now (c .before .before .before .before .before .before .before .args .out)) (c .before .before .before .before .before .before .before .args .at) _ _ (c .before .before .before .push .ensures) (c .if1 .taken)
+returns c =
+    let start = c .before .before .before .before .before .before .before in
+    let push = c .before .before .before .push in
+    power-plain (now (start .args .name)) (start .args .n) (now (start .args .out)) (start .args .at) _ _ (push .ensures) (c .if1 .taken)
 
 slice-aggregate-push : tie.Need-slice-aggregate-push
 slice-aggregate-push c = search needs
@@ -23,15 +26,24 @@ push-requires-2 : tie.Need-push-requires-2
 push-requires-2 c κs = search needs
 
 decimal-requires : tie.Need-decimal-requires
-decimal-requires c κs = (omega (arith, c .before .before .before .before .before .before .before .before .before .before .before .before .before .pre .1), omega (arith, decimal-short (c .before .before .before .before .before .before .before .before .before .before .before .before .before .args .n) (omega (arith, c .before .before .before .before .before .before .before .before .before .before .before .before .before .pre .1)), c .before .before .before .before .before .before .before .before .before .before .before .before .before .pre .0, c .before .before .before .before .before .before .before .before .before .before .before .before .before .pre .2, c .before .before .before .before .before .before .before .before .before .push .ensures .0, c .before .before .before .before .before .before .before .before .before .push .kept .0, c .before .before .before .push2 .ensures .0, c .before .before .before .push2 .kept .0))
+decimal-requires c κs =
+    let start = c .before .before .before .before .before .before .before .before .before .before .before .before .before in
+    let push = c .before .before .before .before .before .before .before .before .before .push in
+    let push2 = c .before .before .before .push2 in
+    (omega (arith, start .pre .1), omega (arith, decimal-short (start .args .n) (omega (arith, start .pre .1)), start .pre .0, start .pre .2, push .ensures .0, push .kept .0, push2 .ensures .0, push2 .kept .0))
 
 same-length-2 : tie.Need-same-length-2
 same-length-2 c = search needs
 
 returns-2 : tie.Need-returns-2
 returns-2 c =
-    let z = decimal-short (c .before .before .before .before .before .before .before .before .before .before .before .before .before .before .before .before .args .n) (omega (arith, c .before .before .before .before .before .before .before .before .before .before .before .before .before .before .before .before .pre .1)) in
-    power-more (now (c .before .before .before .before .before .before .before .before .before .before .before .before .before .before .before .before .args .name)) (c .before .before .before .before .before .before .before .before .before .before .before .before .before .before .before .before .args .n) (now (c .before .before .before .before .before .before .before .before .before .before .before .before .before .before .before .before .args .out)) (c .before .before .before .before .before .before .before .before .before .before .before .before .before .before .before .before .args .at) _ _ (c .before .before .before .before .before .before .before .before .before .before .before .before .push .ensures) _ _ _ _ (c .before .before .before .before .before .before .before .before .before .if1 .left) (omega (arith, c .before .before .before .before .before .before .before .before .before .before .before .before .before .before .before .before .pre .0, c .before .before .before .before .before .before .before .before .before .before .before .before .before .before .before .before .pre .2)) (c .before .before .before .before .before .before .push2 .ensures) (c .before .before .decimal .ensures)
+    let start = c .before .before .before .before .before .before .before .before .before .before .before .before .before .before .before .before in
+    let push = c .before .before .before .before .before .before .before .before .before .before .before .before .push in
+    let if1 = c .before .before .before .before .before .before .before .before .before .if1 in
+    let push2 = c .before .before .before .before .before .before .push2 in
+    let decimal = c .before .before .decimal in
+    let z = decimal-short (start .args .n) (omega (arith, start .pre .1)) in
+    power-more (now (start .args .name)) (start .args .n) (now (start .args .out)) (start .args .at) _ _ (push .ensures) _ _ _ _ (if1 .left) (omega (arith, start .pre .0, start .pre .2)) (push2 .ensures) (decimal .ensures)
 
 pub write-power-spec : {M : Type 1} → statement M
 write-power-spec =

@@ -41,10 +41,13 @@ is-on-requires c κs = search needs
 
 write-separator-requires : tie.Need-write-separator-requires Inv-loop μ-loop
 write-separator-requires c κs =
-    let g = c .before .before .before .before .before .before .before .before .args in
-    let l = c .before .before .before .before .before .loop in
+    let start = c .before .before .before .before .before .before .before .before in
+    let loop = c .before .before .before .before .before .loop in
+    let loop-test = c .before .before .before .before .loop-test in
+    let g = start .args in
+    let l = loop in
     let w = writing-length (now (g .page)) (g .above) (placesOf (g .t4)) (now (g .out)) (g .start) (l .out) (l .at) (l .i) (l .inv) in
-    let r = here-room (now (g .page)) (g .above) (placesOf (g .t4)) (now (g .out)) (g .start) (l .out) (l .at) (l .i) (l .inv) (c .before .before .before .before .loop-test .taken) (sym (on-is (c .before .before)) ∙ c .before .if1 .taken) in
+    let r = here-room (now (g .page)) (g .above) (placesOf (g .t4)) (now (g .out)) (g .start) (l .out) (l .at) (l .i) (l .inv) (loop-test .taken) (sym (on-is (c .before .before)) ∙ c .before .if1 .taken) in
     omega (arith, w, r)
 
 element-copy-out-symbol-index : tie.Need-element-copy-out-symbol-index Inv-loop μ-loop
@@ -55,25 +58,37 @@ symbol-index-requires c κs = search needs
 
 name-of-requires : tie.Need-name-of-requires Inv-loop μ-loop
 name-of-requires c κs =
-    let g = c .before .before .before .before .before .before .before .before .before .before .before .before .before .before .args in
-    let l = c .before .before .before .before .before .before .before .before .before .before .before .loop in
-    (c .before .before .before .before .before .before .before .before .before .before .before .before .before .before .pre .0 .form, rw (c .symbol-index .ensures .0) (here-used (now (g .page)) (g .above) (placesOf (g .t4)) (now (g .out)) (g .start) (l .out) (l .at) (l .i) (l .inv) (c .before .before .before .before .before .before .before .before .before .before .loop-test .taken)))
+    let start = c .before .before .before .before .before .before .before .before .before .before .before .before .before .before in
+    let loop = c .before .before .before .before .before .before .before .before .before .before .before .loop in
+    let loop-test = c .before .before .before .before .before .before .before .before .before .before .loop-test in
+    let g = start .args in
+    let l = loop in
+    (start .pre .0 .form, rw (c .symbol-index .ensures .0) (here-used (now (g .page)) (g .above) (placesOf (g .t4)) (now (g .out)) (g .start) (l .out) (l .at) (l .i) (l .inv) (loop-test .taken)))
 
 size-requires : tie.Need-size-requires Inv-loop μ-loop
 size-requires c κs =
-    let g = c .before .before .before .before .before .before .before .before .before .before .before .before .before .before .before .args in
-    let l = c .before .before .before .before .before .before .before .before .before .before .before .before .loop in
-    rw (back (expAt (placesOf (g .t4)) (l .i)) (c .before .before .before .before .before .before .before .before .before .before .e .given)) (here-inside (now (g .page)) (g .above) (placesOf (g .t4)) (now (g .out)) (g .start) (l .out) (l .at) (l .i) (l .inv) (c .before .before .before .before .before .before .before .before .before .before .before .loop-test .taken))
+    let start = c .before .before .before .before .before .before .before .before .before .before .before .before .before .before .before in
+    let loop = c .before .before .before .before .before .before .before .before .before .before .before .before .loop in
+    let loop-test = c .before .before .before .before .before .before .before .before .before .before .before .loop-test in
+    let e = c .before .before .before .before .before .before .before .before .before .before .e in
+    let g = start .args in
+    let l = loop in
+    rw (back (expAt (placesOf (g .t4)) (l .i)) (e .given)) (here-inside (now (g .page)) (g .above) (placesOf (g .t4)) (now (g .out)) (g .start) (l .out) (l .at) (l .i) (l .inv) (loop-test .taken))
 
 write-power-requires : tie.Need-write-power-requires Inv-loop μ-loop
 write-power-requires c κs =
-    let g = c .before .before .before .before .before .before .before .before .before .before .before .before .before .before .before .before .args in
-    let l = c .before .before .before .before .before .before .before .before .before .before .before .before .before .loop in
+    let start = c .before .before .before .before .before .before .before .before .before .before .before .before .before .before .before .before in
+    let loop = c .before .before .before .before .before .before .before .before .before .before .before .before .before .loop in
+    let loop-test = c .before .before .before .before .before .before .before .before .before .before .before .before .loop-test in
+    let if1 = c .before .before .before .before .before .before .before .before .before .if1 in
+    let write-separator = c .before .before .before .before .before .before .before .write-separator in
+    let g = start .args in
+    let l = loop in
     let w = writing-length (now (g .page)) (g .above) (placesOf (g .t4)) (now (g .out)) (g .start) (l .out) (l .at) (l .i) (l .inv) in
-    let r = here-room (now (g .page)) (g .above) (placesOf (g .t4)) (now (g .out)) (g .start) (l .out) (l .at) (l .i) (l .inv) (c .before .before .before .before .before .before .before .before .before .before .before .before .loop-test .taken) (sym (on-is (c .before .before .before .before .before .before .before .before .before .before)) ∙ c .before .before .before .before .before .before .before .before .before .if1 .taken) in
-    let z = c .before .before .before .before .before .before .before .write-separator .ensures (l .inv .text) (l .inv .wrote .0) in
+    let r = here-room (now (g .page)) (g .above) (placesOf (g .t4)) (now (g .out)) (g .start) (l .out) (l .at) (l .i) (l .inv) (loop-test .taken) (sym (on-is (c .before .before .before .before .before .before .before .before .before .before)) ∙ if1 .taken) in
+    let z = write-separator .ensures (l .inv .text) (l .inv .wrote .0) in
     let y = separator-short (g .above) (l .inv .text) in
-    (c .before .name-of .ensures .2, c .size .ensures .1, omega (arith, w, r, z .0, y, c .before .before .before .before .before .before .before .write-separator .kept .0))
+    (c .before .name-of .ensures .2, c .size .ensures .1, omega (arith, w, r, z .0, y, write-separator .kept .0))
 
 add-i : tie.Need-add-i Inv-loop μ-loop
 add-i c = search needs
@@ -83,11 +98,21 @@ loop-less c = search needs
 
 loop-again : tie.Need-loop-again Inv-loop μ-loop
 loop-again c =
-    let g = c .before .before .before .before .before .before .before .before .before .before .before .before .before .before .before .before .before .before .before .args in
-    let l = c .before .before .before .before .before .before .before .before .before .before .before .before .before .before .before .before .loop in
-    writing-on (now (g .page)) (g .above) (placesOf (g .t4)) (now (g .out)) (g .start) (l .out) (l .at) (l .i) (l .inv) (c .before .before .before .before .before .before .before .before .before .before .before .before .before .before .before .loop-test .taken) (sym (on-is (c .before .before .before .before .before .before .before .before .before .before .before .before .before)) ∙ c .before .before .before .before .before .before .before .before .before .before .before .before .if1 .taken) (c .before .before .before .before .before .before .before .before .before .before .before .before .before .before .before .before .before .before .before .pre .0 .form) _ _ _ _
-    (c .before .before .before .before .before .before .before .before .before .before .write-separator .ensures (l .inv .text) (l .inv .wrote .0))
-    (rw (c .before .before .before .before .name-of .ensures .0, c .before .before .before .before .before .symbol-index .ensures .0, c .before .before .before .size .ensures .0, back (expAt (placesOf (g .t4)) (l .i)) (c .before .before .before .before .before .before .before .before .before .before .before .before .before .before .e .given)) at (c .before .before .write-power .ensures))
+    let start = c .before .before .before .before .before .before .before .before .before .before .before .before .before .before .before .before .before .before .before in
+    let loop = c .before .before .before .before .before .before .before .before .before .before .before .before .before .before .before .before .loop in
+    let loop-test = c .before .before .before .before .before .before .before .before .before .before .before .before .before .before .before .loop-test in
+    let e = c .before .before .before .before .before .before .before .before .before .before .before .before .before .before .e in
+    let if1 = c .before .before .before .before .before .before .before .before .before .before .before .before .if1 in
+    let write-separator = c .before .before .before .before .before .before .before .before .before .before .write-separator in
+    let symbol-index = c .before .before .before .before .before .symbol-index in
+    let name-of = c .before .before .before .before .name-of in
+    let size = c .before .before .before .size in
+    let write-power = c .before .before .write-power in
+    let g = start .args in
+    let l = loop in
+    writing-on (now (g .page)) (g .above) (placesOf (g .t4)) (now (g .out)) (g .start) (l .out) (l .at) (l .i) (l .inv) (loop-test .taken) (sym (on-is (c .before .before .before .before .before .before .before .before .before .before .before .before .before)) ∙ if1 .taken) (start .pre .0 .form) _ _ _ _
+    (write-separator .ensures (l .inv .text) (l .inv .wrote .0))
+    (rw (name-of .ensures .0, symbol-index .ensures .0, size .ensures .0, back (expAt (placesOf (g .t4)) (l .i)) (e .given)) at (write-power .ensures))
 
 add-i-2 : tie.Need-add-i-2 Inv-loop μ-loop
 add-i-2 c = search needs
@@ -97,19 +122,24 @@ loop-less-2 c = search needs
 
 loop-again-2 : tie.Need-loop-again-2 Inv-loop μ-loop
 loop-again-2 c =
-    let g = c .before .before .before .before .before .before .before .args in
-    let l = c .before .before .before .before .loop in
-    writing-off (now (g .page)) (g .above) (placesOf (g .t4)) (now (g .out)) (g .start) (l .out) (l .at) (l .i) (l .inv) (c .before .before .before .loop-test .taken) (sym (on-is (c .before)) ∙ c .if1 .left)
+    let start = c .before .before .before .before .before .before .before in
+    let loop = c .before .before .before .before .loop in
+    let loop-test = c .before .before .before .loop-test in
+    let g = start .args in
+    let l = loop in
+    writing-off (now (g .page)) (g .above) (placesOf (g .t4)) (now (g .out)) (g .start) (l .out) (l .at) (l .i) (l .inv) (loop-test .taken) (sym (on-is (c .before)) ∙ c .if1 .left)
 
 same-length : tie.Need-same-length Inv-loop μ-loop
 same-length c =
-    let g = c .before .before .before .before .args in
+    let start = c .before .before .before .before in
+    let g = start .args in
     let l = c .before .loop in
     writing-length (now (g .page)) (g .above) (placesOf (g .t4)) (now (g .out)) (g .start) (l .out) (l .at) (l .i) (l .inv)
 
 returns : tie.Need-returns Inv-loop μ-loop
 returns c =
-    let g = c .before .before .before .before .args in
+    let start = c .before .before .before .before in
+    let g = start .args in
     let l = c .before .loop in
     writing-end (now (g .page)) (g .above) (placesOf (g .t4)) (now (g .out)) (g .start) (l .out) (l .at) (l .i) (l .inv) (c .loop-test .left)
 

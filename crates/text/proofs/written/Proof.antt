@@ -17,8 +17,10 @@ write-line-requires c κs = search needs
 
 returns : tie.Need-returns
 returns c =
+    let start = c .before .before .before .before in
+    let write-line = c .before .write-line in
     rw
-    (c .before .write-line .ensures .0, c .before .write-line .ensures .1, put-pad textMax (lineOf (now (c .before .before .before .before .args .page)) (termsOf (c .before .before .before .before .args .v))) (line-short (now (c .before .before .before .before .args .page)) (c .before .before .before .before .args .v) (c .before .before .before .before .pre)))
+    (write-line .ensures .0, write-line .ensures .1, put-pad textMax (lineOf (now (start .args .page)) (termsOf (start .args .v))) (line-short (now (start .args .page)) (start .args .v) (start .pre)))
 
 pub written-spec : {M : Type 1} → statement M
 written-spec = tie.close (tie.spec slice-aggregate-write-line write-line-requires returns)

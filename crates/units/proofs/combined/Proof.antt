@@ -19,16 +19,24 @@ fits d c =
     sum-fits (c .args .e) (turn d (c .args .f)) (small (c .args .e) (c .pre .0)) h
 
 sub-result : tie.Need-sub-result
-sub-result c = rw (toZ-ofZ (c .before .fits .e), toZ-ofZ (c .before .fits .f)) (fits true (c .before))
+sub-result c =
+    let start = c .before in
+    rw (toZ-ofZ (start .fits .e), toZ-ofZ (start .fits .f)) (fits true (c .before))
 
 returns : tie.Need-returns
-returns c = rw (toZ-ofZ (c .before .fits .e), toZ-ofZ (c .before .fits .f), c .if1 .taken) (toZ-ofZ (fits true (c .before)))
+returns c =
+    let start = c .before in
+    rw (toZ-ofZ (start .fits .e), toZ-ofZ (start .fits .f), c .if1 .taken) (toZ-ofZ (fits true (c .before)))
 
 add-result : tie.Need-add-result
-add-result c = rw (toZ-ofZ (c .before .fits .e), toZ-ofZ (c .before .fits .f)) (fits false (c .before))
+add-result c =
+    let start = c .before in
+    rw (toZ-ofZ (start .fits .e), toZ-ofZ (start .fits .f)) (fits false (c .before))
 
 returns-2 : tie.Need-returns-2
-returns-2 c = rw (toZ-ofZ (c .before .fits .e), toZ-ofZ (c .before .fits .f), c .if1 .left) (toZ-ofZ (fits false (c .before)))
+returns-2 c =
+    let start = c .before in
+    rw (toZ-ofZ (start .fits .e), toZ-ofZ (start .fits .f), c .if1 .left) (toZ-ofZ (fits false (c .before)))
 
 pub combined-spec : {M : Type 1} → statement M
 combined-spec = tie.close (tie.spec sub-result add-result returns returns-2)

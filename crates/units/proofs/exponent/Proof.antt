@@ -22,10 +22,16 @@ is-formed-requires : tie.Need-is-formed-requires Inv-loop μ-loop
 is-formed-requires c κs = search needs
 
 returns : tie.Need-returns Inv-loop μ-loop
-returns c = exponent-refused (c .before .before .args .t1) (c .before .before .args .symbol) (sym (c .before .is-formed .ensures) ∙ not-true (c .before .is-formed .result) (c .if1 .taken))
+returns c =
+    let start = c .before .before in
+    let is-formed = c .before .is-formed in
+    exponent-refused (start .args .t1) (start .args .symbol) (sym (is-formed .ensures) ∙ not-true (is-formed .result) (c .if1 .taken))
 
 loop-holds : tie.Need-loop-holds Inv-loop μ-loop
-loop-holds c = seeking-start placesMax namesMax (placesOf (c .before .before .args .t1)) (c .before .before .args .symbol) (sym (c .before .is-formed .ensures) ∙ not-false (c .before .is-formed .result) (c .if1 .left))
+loop-holds c =
+    let start = c .before .before in
+    let is-formed = c .before .is-formed in
+    seeking-start placesMax namesMax (placesOf (start .args .t1)) (start .args .symbol) (sym (is-formed .ensures) ∙ not-false (is-formed .result) (c .if1 .left))
 
 element-copy-out-if2 : tie.Need-element-copy-out-if2 Inv-loop μ-loop
 element-copy-out-if2 c = search needs
@@ -38,10 +44,15 @@ element-copy-out-t17 c = search needs
 
 returns-2 : tie.Need-returns-2 Inv-loop μ-loop
 returns-2 c =
-    let u = placesOf (c .before .before .before .before .before .before .before .args .t1) in
-    let l = c .before .before .before .before .loop in
-    exponent-given (c .before .before .before .before .before .before .before .args .t1) (c .before .before .before .before .before .before .before .args .symbol) _ (sym (c .before .before .before .before .before .before .is-formed .ensures) ∙ not-false (c .before .before .before .before .before .before .is-formed .result) (c .before .before .before .before .before .if1 .left))
-    (back (expAt u (l .i)) (c .t17 .given) ∙ sought-found placesMax u (c .before .before .before .before .before .before .before .args .symbol) (l .i) (l .inv) (c .before .before .before .loop-test .taken) (c .before .if2 .taken))
+    let start = c .before .before .before .before .before .before .before in
+    let is-formed = c .before .before .before .before .before .before .is-formed in
+    let if1 = c .before .before .before .before .before .if1 in
+    let loop = c .before .before .before .before .loop in
+    let loop-test = c .before .before .before .loop-test in
+    let u = placesOf (start .args .t1) in
+    let l = loop in
+    exponent-given (start .args .t1) (start .args .symbol) _ (sym (is-formed .ensures) ∙ not-false (is-formed .result) (if1 .left))
+    (back (expAt u (l .i)) (c .t17 .given) ∙ sought-found placesMax u (start .args .symbol) (l .i) (l .inv) (loop-test .taken) (c .before .if2 .taken))
 
 add-i : tie.Need-add-i Inv-loop μ-loop
 add-i c = search needs
@@ -51,14 +62,20 @@ loop-less c = search needs
 
 loop-again : tie.Need-loop-again Inv-loop μ-loop
 loop-again c =
-    let l = c .before .before .before .loop in
-    seeking-next placesMax (placesOf (c .before .before .before .before .before .before .args .t1)) (c .before .before .before .before .before .before .args .symbol) (l .i) (l .inv) (c .before .before .loop-test .taken) (c .if2 .left)
+    let start = c .before .before .before .before .before .before in
+    let loop = c .before .before .before .loop in
+    let loop-test = c .before .before .loop-test in
+    let l = loop in
+    seeking-next placesMax (placesOf (start .args .t1)) (start .args .symbol) (l .i) (l .inv) (loop-test .taken) (c .if2 .left)
 
 returns-3 : tie.Need-returns-3 Inv-loop μ-loop
 returns-3 c =
+    let start = c .before .before .before .before in
+    let is-formed = c .before .before .before .is-formed in
+    let if1 = c .before .before .if1 in
     let l = c .before .loop in
-    exponent-given (c .before .before .before .before .args .t1) (c .before .before .before .before .args .symbol) _ (sym (c .before .before .before .is-formed .ensures) ∙ not-false (c .before .before .before .is-formed .result) (c .before .before .if1 .left))
-    (sought-absent placesMax (placesOf (c .before .before .before .before .args .t1)) (c .before .before .before .before .args .symbol) (l .i) (l .inv) (c .loop-test .left))
+    exponent-given (start .args .t1) (start .args .symbol) _ (sym (is-formed .ensures) ∙ not-false (is-formed .result) (if1 .left))
+    (sought-absent placesMax (placesOf (start .args .t1)) (start .args .symbol) (l .i) (l .inv) (c .loop-test .left))
 
 pub exponent-spec : {M : Type 1} → statement M
 exponent-spec =

@@ -52,36 +52,50 @@ element-copy-out-e c = search needs
 
 returns-2 : tie.Need-returns-2 Inv-loop μ-loop
 returns-2 c =
-    let u = placesOf (c .before .before .before .before .before .before .args .t1) in
-    let l = c .before .before .before .before .loop in
-    judged-low placesMax namesMax u (l .lo) (l .i) (l .inv) (c .before .before .before .loop-test .taken) (c .if2 .taken)
+    let start = c .before .before .before .before .before .before in
+    let loop = c .before .before .before .before .loop in
+    let loop-test = c .before .before .before .loop-test in
+    let u = placesOf (start .args .t1) in
+    let l = loop in
+    judged-low placesMax namesMax u (l .lo) (l .i) (l .inv) (loop-test .taken) (c .if2 .taken)
 
 is-zero-requires : tie.Need-is-zero-requires Inv-loop μ-loop
 is-zero-requires c κs = search needs
 
 returns-3 : tie.Need-returns-3 Inv-loop μ-loop
 returns-3 c =
-    let u = placesOf (c .before .before .before .before .before .before .before .before .args .t1) in
-    let l = c .before .before .before .before .before .before .loop in
+    let start = c .before .before .before .before .before .before .before .before in
+    let loop = c .before .before .before .before .before .before .loop in
+    let loop-test = c .before .before .before .before .before .loop-test in
+    let if2 = c .before .before .if2 in
+    let u = placesOf (start .args .t1) in
+    let l = loop in
     let h : Fits w8 (symAt u (l .i)) = search needs in
     let b : symAt u (l .i) < namesMax = omega arith in
-    judged-zero placesMax namesMax u (l .lo) (l .i) (l .inv) (c .before .before .before .before .before .loop-test .taken) (c .before .before .if2 .left) b (sym (zero-is (c .before)) ∙ c .if3 .taken)
+    judged-zero placesMax namesMax u (l .lo) (l .i) (l .inv) (loop-test .taken) (if2 .left) b (sym (zero-is (c .before)) ∙ c .if3 .taken)
 
 is-outside-requires : tie.Need-is-outside-requires Inv-loop μ-loop
 is-outside-requires c κs = search needs
 
 returns-4 : tie.Need-returns-4 Inv-loop μ-loop
 returns-4 c =
-    let u = placesOf (c .before .before .before .before .before .before .before .before .before .before .args .t1) in
-    let l = c .before .before .before .before .before .before .before .before .loop in
+    let start = c .before .before .before .before .before .before .before .before .before .before in
+    let loop = c .before .before .before .before .before .before .before .before .loop in
+    let loop-test = c .before .before .before .before .before .before .before .loop-test in
+    let if2 = c .before .before .before .before .if2 in
+    let if3 = c .before .before .if3 in
+    let u = placesOf (start .args .t1) in
+    let l = loop in
     let h : Fits w8 (symAt u (l .i)) = search needs in
     let b : symAt u (l .i) < namesMax = omega arith in
-    judged-outside placesMax namesMax u (l .lo) (l .i) (l .inv) (c .before .before .before .before .before .before .before .loop-test .taken) (c .before .before .before .before .if2 .left) b (sym (zero-is (c .before .before .before)) ∙ c .before .before .if3 .left) (sym (wide-is (c .before)) ∙ c .if4 .taken)
+    judged-outside placesMax namesMax u (l .lo) (l .i) (l .inv) (loop-test .taken) (if2 .left) b (sym (zero-is (c .before .before .before)) ∙ if3 .left) (sym (wide-is (c .before)) ∙ c .if4 .taken)
 
 add-lo : tie.Need-add-lo Inv-loop μ-loop
 add-lo c =
-    let u = placesOf (c .before .before .before .before .before .before .before .before .before .before .args .t1) in
-    let l = c .before .before .before .before .before .before .before .before .loop in
+    let start = c .before .before .before .before .before .before .before .before .before .before in
+    let loop = c .before .before .before .before .before .before .before .before .loop in
+    let u = placesOf (start .args .t1) in
+    let l = loop in
     let h : Fits w8 (symAt u (l .i)) = search needs in
     omega arith
 
@@ -93,14 +107,21 @@ loop-less c = search needs
 
 loop-again : tie.Need-loop-again Inv-loop μ-loop
 loop-again c =
-    let u = placesOf (c .before .before .before .before .before .before .before .before .before .before .args .t1) in
-    let l = c .before .before .before .before .before .before .before .before .loop in
+    let start = c .before .before .before .before .before .before .before .before .before .before in
+    let loop = c .before .before .before .before .before .before .before .before .loop in
+    let loop-test = c .before .before .before .before .before .before .before .loop-test in
+    let if2 = c .before .before .before .before .if2 in
+    let if3 = c .before .before .if3 in
+    let u = placesOf (start .args .t1) in
+    let l = loop in
     let h : Fits w8 (symAt u (l .i)) = search needs in
     let b : symAt u (l .i) < namesMax = omega arith in
-    judging-next placesMax namesMax u (l .lo) (l .i) (l .inv) (c .before .before .before .before .before .before .before .loop-test .taken) (c .before .before .before .before .if2 .left) b (sym (zero-is (c .before .before .before)) ∙ c .before .before .if3 .left) (sym (wide-is (c .before)) ∙ c .if4 .left)
+    judging-next placesMax namesMax u (l .lo) (l .i) (l .inv) (loop-test .taken) (if2 .left) b (sym (zero-is (c .before .before .before)) ∙ if3 .left) (sym (wide-is (c .before)) ∙ c .if4 .left)
 
 returns-5 : tie.Need-returns-5 Inv-loop μ-loop
-returns-5 c = let l = c .before .loop in judging-end placesMax namesMax (placesOf (c .before .before .before .args .t1)) (l .lo) (l .i) (l .inv) (c .loop-test .left)
+returns-5 c =
+    let start = c .before .before .before in
+    let l = c .before .loop in judging-end placesMax namesMax (placesOf (start .args .t1)) (l .lo) (l .i) (l .inv) (c .loop-test .left)
 
 pub is-formed-spec : {M : Type 1} → statement M
 is-formed-spec =

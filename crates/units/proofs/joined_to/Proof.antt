@@ -14,7 +14,8 @@ is-zero-requires c κs = search needs
 
 returns : tie.Need-returns
 returns c =
-    let z : isZero (c .before .before .args .g) ≡ true = ap isZero (sym (toZ-ofZ (c .before .before .fits .g))) ∙ sym (c .before .is-zero .ensures) ∙ c .if1 .taken in
+    let start = c .before .before in
+    let z : isZero (start .args .g) ≡ true = ap isZero (sym (toZ-ofZ (start .fits .g))) ∙ sym (c .before .is-zero .ensures) ∙ c .if1 .taken in
     λ l p. p ∙ rw z (ap sumOf (sym (append-nil l)))
 
 pushed-requires : tie.Need-pushed-requires
@@ -22,8 +23,10 @@ pushed-requires c κs = search needs
 
 returns-2 : tie.Need-returns-2
 returns-2 c =
-    let z : isZero (c .before .before .before .args .g) ≡ false = ap isZero (sym (toZ-ofZ (c .before .before .before .fits .g))) ∙ sym (c .before .before .is-zero .ensures) ∙ c .before .if1 .left in
-    λ l p. rw z (rw (toZ-ofZ (c .before .before .before .fits .g)) at (c .pushed .ensures l p))
+    let start = c .before .before .before in
+    let is-zero = c .before .before .is-zero in
+    let z : isZero (start .args .g) ≡ false = ap isZero (sym (toZ-ofZ (start .fits .g))) ∙ sym (is-zero .ensures) ∙ c .before .if1 .left in
+    λ l p. rw z (rw (toZ-ofZ (start .fits .g)) at (c .pushed .ensures l p))
 
 pub joined-to-spec : {M : Type 1} → statement M
 joined-to-spec = tie.close (tie.spec is-zero-requires returns pushed-requires returns-2)

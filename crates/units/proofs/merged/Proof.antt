@@ -26,7 +26,8 @@ empty-sum-requires c κs = search needs
 
 loop-holds : tie.Need-loop-holds Inv-loop μ-loop
 loop-holds c =
-    stand-start kind placesMax (c .before .args .quotient) (placesOf (c .before .args .t1)) (placesOf (c .before .args .t2)) namesMax (c .empty-sum .result) (c .empty-sum .ensures) (c .before .pre .0) (c .before .pre .1)
+    let start = c .before in
+    stand-start kind placesMax (start .args .quotient) (placesOf (start .args .t1)) (placesOf (start .args .t2)) namesMax (c .empty-sum .result) (c .empty-sum .ensures) (start .pre .0) (start .pre .1)
 
 element-copy-out-s : tie.Need-element-copy-out-s Inv-loop μ-loop
 element-copy-out-s c = search needs
@@ -57,21 +58,30 @@ loop-less c = search needs
 
 loop-again : tie.Need-loop-again Inv-loop μ-loop
 loop-again c =
-    let g = c .before .before .before .before .before .before .before .before .before .before .args in
+    let start = c .before .before .before .before .before .before .before .before .before .before in
+    let loop = c .before .before .before .before .before .before .before .before .loop in
+    let if1 = c .before .before .before .before .before .before .before .if1 in
+    let e = c .before .before .before .before .before .e in
+    let if2 = c .before .before .before .before .if2 in
+    let g = start .args in
     let a = placesOf (g .t1) in
     let b = placesOf (g .t2) in
-    let l = c .before .before .before .before .before .before .before .before .loop in
-    left-low kind placesMax (g .quotient) a b (l .w) (c .pushed .result) (l .i) (l .j) (l .inv) (c .before .before .before .before .before .before .before .if1 .taken)
-    (subst (λ z. Pushed kind (l .w) (c .pushed .result) (symAt a (l .i)) z) (back (expAt a (l .i)) (c .before .before .before .before .before .e .given)) (c .pushed .ensures))
-    (c .before .before .before .before .if2 .taken) (c .before .if3 .taken)
+    let l = loop in
+    left-low kind placesMax (g .quotient) a b (l .w) (c .pushed .result) (l .i) (l .j) (l .inv) (if1 .taken)
+    (subst (λ z. Pushed kind (l .w) (c .pushed .result) (symAt a (l .i)) z) (back (expAt a (l .i)) (e .given)) (c .pushed .ensures))
+    (if2 .taken) (c .before .if3 .taken)
 
 turned-by-requires : tie.Need-turned-by-requires Inv-loop μ-loop
 turned-by-requires c κs =
-    let g = c .before .before .before .before .before .before .before .before .before .before .args in
+    let start = c .before .before .before .before .before .before .before .before .before .before in
+    let loop = c .before .before .before .before .before .before .before .before .loop in
+    let if2 = c .before .before .before .before .if2 in
+    let f = c .before .before .f in
+    let g = start .args in
     let a = placesOf (g .t1) in
     let b = placesOf (g .t2) in
-    let l = c .before .before .before .before .before .before .before .before .loop in
-    rw (back (expAt b (l .j)) (c .before .before .f .given)) (formed-inside placesMax namesMax b (c .before .before .before .before .before .before .before .before .before .before .pre .1) (l .j) (c .before .before .before .before .if2 .taken))
+    let l = loop in
+    rw (back (expAt b (l .j)) (f .given)) (formed-inside placesMax namesMax b (start .pre .1) (l .j) (if2 .taken))
 
 pushed-requires-2 : tie.Need-pushed-requires-2 Inv-loop μ-loop
 pushed-requires-2 c κs = search needs
@@ -84,23 +94,36 @@ loop-less-2 c = search needs
 
 loop-again-2 : tie.Need-loop-again-2 Inv-loop μ-loop
 loop-again-2 c =
-    let g = c .before .before .before .before .before .before .before .before .before .before .before .before .args in
+    let start = c .before .before .before .before .before .before .before .before .before .before .before .before in
+    let loop = c .before .before .before .before .before .before .before .before .before .before .loop in
+    let if1 = c .before .before .before .before .before .before .before .before .before .if1 in
+    let if2 = c .before .before .before .before .before .before .if2 in
+    let f' = c .before .before .before .before .f in
+    let if4 = c .before .before .if4 in
+    let turned-by = c .before .turned-by in
+    let g = start .args in
     let a = placesOf (g .t1) in
     let b = placesOf (g .t2) in
-    let l = c .before .before .before .before .before .before .before .before .before .before .loop in
-    let f = back (c .before .turned-by .result) (c .before .turned-by .ok) ∙ c .before .turned-by .ensures ∙ ap (turn (g .quotient)) (back (expAt b (l .j)) (c .before .before .before .before .f .given)) in
-    right-low kind placesMax (g .quotient) a b (l .w) (c .pushed2 .result) (l .i) (l .j) (l .inv) (c .before .before .before .before .before .before .if2 .taken)
+    let l = loop in
+    let f = back (turned-by .result) (turned-by .ok) ∙ turned-by .ensures ∙ ap (turn (g .quotient)) (back (expAt b (l .j)) (f' .given)) in
+    right-low kind placesMax (g .quotient) a b (l .w) (c .pushed2 .result) (l .i) (l .j) (l .inv) (if2 .taken)
     (subst (λ z. Pushed kind (l .w) (c .pushed2 .result) (symAt b (l .j)) z) f (c .pushed2 .ensures))
-    (c .before .before .before .before .before .before .before .before .before .if1 .taken) (c .before .before .if4 .taken)
+    (if1 .taken) (if4 .taken)
 
 combined-requires : tie.Need-combined-requires Inv-loop μ-loop
 combined-requires c κs =
-    let g = c .before .before .before .before .before .before .before .before .before .before .args in
+    let start = c .before .before .before .before .before .before .before .before .before .before in
+    let loop = c .before .before .before .before .before .before .before .before .loop in
+    let if1 = c .before .before .before .before .before .before .before .if1 in
+    let e = c .before .before .before .before .before .e in
+    let if2 = c .before .before .before .before .if2 in
+    let f = c .before .before .f in
+    let g = start .args in
     let a = placesOf (g .t1) in
     let b = placesOf (g .t2) in
-    let l = c .before .before .before .before .before .before .before .before .loop in (
-      rw (back (expAt a (l .i)) (c .before .before .before .before .before .e .given)) (formed-inside placesMax namesMax a (c .before .before .before .before .before .before .before .before .before .before .pre .0) (l .i) (c .before .before .before .before .before .before .before .if1 .taken)),
-      rw (back (expAt b (l .j)) (c .before .before .f .given)) (formed-inside placesMax namesMax b (c .before .before .before .before .before .before .before .before .before .before .pre .1) (l .j) (c .before .before .before .before .if2 .taken)),
+    let l = loop in (
+      rw (back (expAt a (l .i)) (e .given)) (formed-inside placesMax namesMax a (start .pre .0) (l .i) (if1 .taken)),
+      rw (back (expAt b (l .j)) (f .given)) (formed-inside placesMax namesMax b (start .pre .1) (l .j) (if2 .taken)),
     )
 
 add-i-2 : tie.Need-add-i-2 Inv-loop μ-loop
@@ -117,12 +140,21 @@ loop-less-3 c = search needs
 
 loop-again-3 : tie.Need-loop-again-3 Inv-loop μ-loop
 loop-again-3 c =
-    let g = c .before .before .before .before .before .before .before .before .before .before .before .before .args in
+    let start = c .before .before .before .before .before .before .before .before .before .before .before .before in
+    let loop = c .before .before .before .before .before .before .before .before .before .before .loop in
+    let if1 = c .before .before .before .before .before .before .before .before .before .if1 in
+    let e = c .before .before .before .before .before .before .before .e in
+    let if2 = c .before .before .before .before .before .before .if2 in
+    let f = c .before .before .before .before .f in
+    let if3 = c .before .before .before .if3 in
+    let if4 = c .before .before .if4 in
+    let combined = c .before .combined in
+    let g = start .args in
     let a = placesOf (g .t1) in
     let b = placesOf (g .t2) in
-    let l = c .before .before .before .before .before .before .before .before .before .before .loop in
-    let h = back (c .before .combined .result) (c .before .combined .ok) ∙ c .before .combined .ensures ∙ ap₂ (combine (g .quotient)) (back (expAt a (l .i)) (c .before .before .before .before .before .before .before .e .given)) (back (expAt b (l .j)) (c .before .before .before .before .f .given)) ∙ combine-turn (g .quotient) (expAt a (l .i)) (expAt b (l .j)) in
-    both-next kind placesMax (g .quotient) a b (l .w) (c .joined-to .result) (l .i) (l .j) (l .inv) (c .before .before .before .before .before .before .before .before .before .if1 .taken) (c .before .before .before .before .before .before .if2 .taken) (c .before .before .if4 .left) (c .before .before .before .if3 .left)
+    let l = loop in
+    let h = back (combined .result) (combined .ok) ∙ combined .ensures ∙ ap₂ (combine (g .quotient)) (back (expAt a (l .i)) (e .given)) (back (expAt b (l .j)) (f .given)) ∙ combine-turn (g .quotient) (expAt a (l .i)) (expAt b (l .j)) in
+    both-next kind placesMax (g .quotient) a b (l .w) (c .joined-to .result) (l .i) (l .j) (l .inv) (if1 .taken) (if2 .taken) (if4 .left) (if3 .left)
     (subst (λ z. Joined kind (l .w) (c .joined-to .result) (symAt a (l .i)) z) h (c .joined-to .ensures))
 
 pushed-requires-3 : tie.Need-pushed-requires-3 Inv-loop μ-loop
@@ -136,12 +168,16 @@ loop-less-4 c = search needs
 
 loop-again-4 : tie.Need-loop-again-4 Inv-loop μ-loop
 loop-again-4 c =
-    let g = c .before .before .before .before .before .before .before .args in
+    let start = c .before .before .before .before .before .before .before in
+    let loop = c .before .before .before .before .before .loop in
+    let if1 = c .before .before .before .before .if1 in
+    let e = c .before .before .e in
+    let g = start .args in
     let a = placesOf (g .t1) in
     let b = placesOf (g .t2) in
-    let l = c .before .before .before .before .before .loop in
-    left-last kind placesMax (g .quotient) a b (l .w) (c .pushed3 .result) (l .i) (l .j) (l .inv) (c .before .before .before .before .if1 .taken)
-    (subst (λ z. Pushed kind (l .w) (c .pushed3 .result) (symAt a (l .i)) z) (back (expAt a (l .i)) (c .before .before .e .given)) (c .pushed3 .ensures))
+    let l = loop in
+    left-last kind placesMax (g .quotient) a b (l .w) (c .pushed3 .result) (l .i) (l .j) (l .inv) (if1 .taken)
+    (subst (λ z. Pushed kind (l .w) (c .pushed3 .result) (symAt a (l .i)) z) (back (expAt a (l .i)) (e .given)) (c .pushed3 .ensures))
     (c .before .if2 .left)
 
 element-copy-out-pushed : tie.Need-element-copy-out-pushed Inv-loop μ-loop
@@ -155,11 +191,14 @@ element-copy-out-turned-by c = search needs
 
 turned-by-requires-2 : tie.Need-turned-by-requires-2 Inv-loop μ-loop
 turned-by-requires-2 c κs =
-    let g = c .before .before .before .before .before .before .args in
+    let start = c .before .before .before .before .before .before in
+    let loop = c .before .before .before .before .loop in
+    let if5 = c .before .before .if5 in
+    let g = start .args in
     let a = placesOf (g .t1) in
     let b = placesOf (g .t2) in
-    let l = c .before .before .before .before .loop in
-    rw (back (expAt b (l .j)) (c .turned-by-arg .given)) (formed-inside placesMax namesMax b (c .before .before .before .before .before .before .pre .1) (l .j) (c .before .before .if5 .taken))
+    let l = loop in
+    rw (back (expAt b (l .j)) (c .turned-by-arg .given)) (formed-inside placesMax namesMax b (start .pre .1) (l .j) (if5 .taken))
 
 pushed-requires-4 : tie.Need-pushed-requires-4 Inv-loop μ-loop
 pushed-requires-4 c κs = search needs
@@ -172,21 +211,29 @@ loop-less-5 c = search needs
 
 loop-again-5 : tie.Need-loop-again-5 Inv-loop μ-loop
 loop-again-5 c =
-    let g = c .before .before .before .before .before .before .before .before .args in
+    let start = c .before .before .before .before .before .before .before .before in
+    let loop = c .before .before .before .before .before .before .loop in
+    let if1 = c .before .before .before .before .before .if1 in
+    let if5 = c .before .before .before .before .if5 in
+    let turned-by-arg = c .before .before .turned-by-arg in
+    let turned-by2 = c .before .turned-by2 in
+    let g = start .args in
     let a = placesOf (g .t1) in
     let b = placesOf (g .t2) in
-    let l = c .before .before .before .before .before .before .loop in
-    let f = back (c .before .turned-by2 .result) (c .before .turned-by2 .ok) ∙ c .before .turned-by2 .ensures ∙ ap (turn (g .quotient)) (back (expAt b (l .j)) (c .before .before .turned-by-arg .given)) in
-    right-last kind placesMax (g .quotient) a b (l .w) (c .pushed4 .result) (l .i) (l .j) (l .inv) (c .before .before .before .before .if5 .taken)
+    let l = loop in
+    let f = back (turned-by2 .result) (turned-by2 .ok) ∙ turned-by2 .ensures ∙ ap (turn (g .quotient)) (back (expAt b (l .j)) (turned-by-arg .given)) in
+    right-last kind placesMax (g .quotient) a b (l .w) (c .pushed4 .result) (l .i) (l .j) (l .inv) (if5 .taken)
     (subst (λ z. Pushed kind (l .w) (c .pushed4 .result) (symAt b (l .j)) z) f (c .pushed4 .ensures))
-    (c .before .before .before .before .before .if1 .left)
+    (if1 .left)
 
 returns : tie.Need-returns Inv-loop μ-loop
 returns c =
-    let g = c .before .before .before .before .args in
+    let start = c .before .before .before .before in
+    let loop = c .before .before .loop in
+    let g = start .args in
     let a = placesOf (g .t1) in
     let b = placesOf (g .t2) in
-    let l = c .before .before .loop in
+    let l = loop in
     stand-end kind placesMax (g .quotient) a b (l .w) (l .w) (l .i) (l .j) (l .inv) (c .before .if1 .left) (c .if5 .left)
 
 pub merged-spec : {M : Type 1} → statement M

@@ -21,8 +21,10 @@ no-product-requires c κs = search needs
 
 returns : tie.Need-returns
 returns c =
-    let g = c .before .before .before .args in
-    c .no-product .ensures ∙ product-left (g .quotient) (g .a) (g .b) (sym (c .before .before .is-formed .ensures) ∙ not-true (c .before .before .is-formed .result) (c .before .if1 .taken))
+    let start = c .before .before .before in
+    let is-formed = c .before .before .is-formed in
+    let g = start .args in
+    c .no-product .ensures ∙ product-left (g .quotient) (g .a) (g .b) (sym (is-formed .ensures) ∙ not-true (is-formed .result) (c .before .if1 .taken))
 
 is-formed-requires-2 : tie.Need-is-formed-requires-2
 is-formed-requires-2 c κs = search needs
@@ -32,32 +34,61 @@ no-product-requires-2 c κs = search needs
 
 returns-2 : tie.Need-returns-2
 returns-2 c =
-    let g = c .before .before .before .before .before .args in
-    c .no-product2 .ensures ∙ product-right (g .quotient) (g .a) (g .b) (sym (c .before .before .before .before .is-formed .ensures) ∙ not-false (c .before .before .before .before .is-formed .result) (c .before .before .before .if1 .left)) (sym (c .before .before .is-formed2 .ensures) ∙ not-true (c .before .before .is-formed2 .result) (c .before .if2 .taken))
+    let start = c .before .before .before .before .before in
+    let is-formed = c .before .before .before .before .is-formed in
+    let if1 = c .before .before .before .if1 in
+    let is-formed2 = c .before .before .is-formed2 in
+    let g = start .args in
+    c .no-product2 .ensures ∙ product-right (g .quotient) (g .a) (g .b) (sym (is-formed .ensures) ∙ not-false (is-formed .result) (if1 .left)) (sym (is-formed2 .ensures) ∙ not-true (is-formed2 .result) (c .before .if2 .taken))
 
 merged-requires : tie.Need-merged-requires
-merged-requires c κs = ((sym (c .before .before .before .is-formed .ensures) ∙ not-false (c .before .before .before .is-formed .result) (c .before .before .if1 .left)), (sym (c .before .is-formed2 .ensures) ∙ not-false (c .before .is-formed2 .result) (c .if2 .left)))
+merged-requires c κs =
+    let is-formed = c .before .before .before .is-formed in
+    let if1 = c .before .before .if1 in
+    let is-formed2 = c .before .is-formed2 in
+    ((sym (is-formed .ensures) ∙ not-false (is-formed .result) (if1 .left)), (sym (is-formed2 .ensures) ∙ not-false (is-formed2 .result) (c .if2 .left)))
 
 no-product-requires-3 : tie.Need-no-product-requires-3
 no-product-requires-3 c κs = search needs
 
 returns-3 : tie.Need-returns-3
 returns-3 c =
-    let g = c .before .before .before .before .before .before .before .args in
-    c .no-product3 .ensures ∙ product-large (g .quotient) (g .a) (g .b) (sym (c .before .before .before .before .before .before .is-formed .ensures) ∙ not-false (c .before .before .before .before .before .before .is-formed .result) (c .before .before .before .before .before .if1 .left)) (sym (c .before .before .before .before .is-formed2 .ensures) ∙ not-false (c .before .before .before .before .is-formed2 .result) (c .before .before .before .if2 .left)) (ap (λ (w : Sum). w .wide) (sym (c .before .before .merged .ensures)) ∙ c .before .if3 .taken)
+    let start = c .before .before .before .before .before .before .before in
+    let is-formed = c .before .before .before .before .before .before .is-formed in
+    let if1 = c .before .before .before .before .before .if1 in
+    let is-formed2 = c .before .before .before .before .is-formed2 in
+    let if2 = c .before .before .before .if2 in
+    let merged = c .before .before .merged in
+    let g = start .args in
+    c .no-product3 .ensures ∙ product-large (g .quotient) (g .a) (g .b) (sym (is-formed .ensures) ∙ not-false (is-formed .result) (if1 .left)) (sym (is-formed2 .ensures) ∙ not-false (is-formed2 .result) (if2 .left)) (ap (λ (w : Sum). w .wide) (sym (merged .ensures)) ∙ c .before .if3 .taken)
 
 no-product-requires-4 : tie.Need-no-product-requires-4
 no-product-requires-4 c κs = search needs
 
 returns-4 : tie.Need-returns-4
 returns-4 c =
-    let g = c .before .before .before .before .before .before .before .before .args in
-    c .no-product4 .ensures ∙ product-many (g .quotient) (g .a) (g .b) (sym (c .before .before .before .before .before .before .before .is-formed .ensures) ∙ not-false (c .before .before .before .before .before .before .before .is-formed .result) (c .before .before .before .before .before .before .if1 .left)) (sym (c .before .before .before .before .before .is-formed2 .ensures) ∙ not-false (c .before .before .before .before .before .is-formed2 .result) (c .before .before .before .before .if2 .left)) (ap (λ (w : Sum). w .wide) (sym (c .before .before .before .merged .ensures)) ∙ c .before .before .if3 .left) (rw (c .before .before .before .merged .ensures) at (c .before .if4 .taken))
+    let start = c .before .before .before .before .before .before .before .before in
+    let is-formed = c .before .before .before .before .before .before .before .is-formed in
+    let if1 = c .before .before .before .before .before .before .if1 in
+    let is-formed2 = c .before .before .before .before .before .is-formed2 in
+    let if2 = c .before .before .before .before .if2 in
+    let merged = c .before .before .before .merged in
+    let if3 = c .before .before .if3 in
+    let g = start .args in
+    c .no-product4 .ensures ∙ product-many (g .quotient) (g .a) (g .b) (sym (is-formed .ensures) ∙ not-false (is-formed .result) (if1 .left)) (sym (is-formed2 .ensures) ∙ not-false (is-formed2 .result) (if2 .left)) (ap (λ (w : Sum). w .wide) (sym (merged .ensures)) ∙ if3 .left) (rw (merged .ensures) at (c .before .if4 .taken))
 
 returns-5 : tie.Need-returns-5
 returns-5 c =
-    let g = c .before .before .before .before .before .before .before .before .before .args in
-    ap result (c .before .before .before .before .merged .ensures) ∙ product-done (g .quotient) (g .a) (g .b) (sym (c .before .before .before .before .before .before .before .before .is-formed .ensures) ∙ not-false (c .before .before .before .before .before .before .before .before .is-formed .result) (c .before .before .before .before .before .before .before .if1 .left)) (sym (c .before .before .before .before .before .before .is-formed2 .ensures) ∙ not-false (c .before .before .before .before .before .before .is-formed2 .result) (c .before .before .before .before .before .if2 .left)) (ap (λ (w : Sum). w .wide) (sym (c .before .before .before .before .merged .ensures)) ∙ c .before .before .before .if3 .left) (rw (c .before .before .before .before .merged .ensures) at (c .before .before .if4 .left))
+    let start = c .before .before .before .before .before .before .before .before .before in
+    let is-formed = c .before .before .before .before .before .before .before .before .is-formed in
+    let if1 = c .before .before .before .before .before .before .before .if1 in
+    let is-formed2 = c .before .before .before .before .before .before .is-formed2 in
+    let if2 = c .before .before .before .before .before .if2 in
+    let merged = c .before .before .before .before .merged in
+    let if3 = c .before .before .before .if3 in
+    let if4 = c .before .before .if4 in
+    let g = start .args in
+    ap result (merged .ensures) ∙ product-done (g .quotient) (g .a) (g .b) (sym (is-formed .ensures) ∙ not-false (is-formed .result) (if1 .left)) (sym (is-formed2 .ensures) ∙ not-false (is-formed2 .result) (if2 .left)) (ap (λ (w : Sum). w .wide) (sym (merged .ensures)) ∙ if3 .left) (rw (merged .ensures) at (if4 .left))
 
 pub product-spec : {M : Type 1} → statement M
 product-spec =

@@ -6,11 +6,14 @@ use Rattle.units.proofs.turned_by.Statement.{statement}
 use Rattle.units.proofs.turned_by.Tie as tie
 
 sub-result : tie.Need-sub-result
-sub-result c = rw (toZ-ofZ (c .before .fits .e), +ℤ-idl) (neg-fits (c .before .args .e) (small (c .before .args .e) (c .before .pre)))
+sub-result c =
+    let start = c .before in
+    rw (toZ-ofZ (start .fits .e), +ℤ-idl) (neg-fits (start .args .e) (small (start .args .e) (start .pre)))
 
 returns : tie.Need-returns
 returns c =
-    rw (toZ-ofZ (c .before .fits .e), +ℤ-idl, c .if1 .taken) (toZ-ofZ (neg-fits (c .before .args .e) (small (c .before .args .e) (c .before .pre))))
+    let start = c .before in
+    rw (toZ-ofZ (start .fits .e), +ℤ-idl, c .if1 .taken) (toZ-ofZ (neg-fits (start .args .e) (small (start .args .e) (start .pre))))
 
 returns-2 : tie.Need-returns-2
 returns-2 c = rw (c .if1 .left) (toZ-ofZ (c .before .fits .e))

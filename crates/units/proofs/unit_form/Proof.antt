@@ -9,10 +9,14 @@ is-formed-requires : tie.Need-is-formed-requires
 is-formed-requires c κs = search needs
 
 returns : tie.Need-returns
-returns c = sym (form-passed (c .before .before .args .u) (sym (c .before .is-formed .ensures) ∙ c .if1 .taken))
+returns c =
+    let start = c .before .before in
+    sym (form-passed (start .args .u) (sym (c .before .is-formed .ensures) ∙ c .if1 .taken))
 
 returns-2 : tie.Need-returns-2
-returns-2 c = sym (form-refused (c .before .before .args .u) (sym (c .before .is-formed .ensures) ∙ c .if1 .left))
+returns-2 c =
+    let start = c .before .before in
+    sym (form-refused (start .args .u) (sym (c .before .is-formed .ensures) ∙ c .if1 .left))
 
 pub unit-form-spec : {M : Type 1} → statement M
 unit-form-spec =

@@ -14,51 +14,57 @@ use Rattle.values.proofs.raw.Tie as tie
 
 sub-result : tie.Need-sub-result
 sub-result c =
-    let z = c .before .args .e in
-    let m = c .before .fits .e .sfits in
-    let neg : ltZ z (pos 0) ≡ true = rw (toZ-ofZ (c .before .fits .e)) at (c .if1 .taken) in
+    let start = c .before in
+    let z = start .args .e in
+    let m = start .fits .e .sfits in
+    let neg : ltZ z (pos 0) ≡ true = rw (toZ-ofZ (start .fits .e)) at (c .if1 .taken) in
     let fits : SFits w16 (pos (mag z)) = record { sfits = m } in
-    rw (toZ-ofZ (c .before .fits .e), flip z neg) fits
+    rw (toZ-ofZ (start .fits .e), flip z neg) fits
 
 cast-result : tie.Need-cast-result
 cast-result c =
-    let z = c .before .args .e in
-    let m = c .before .fits .e .sfits in
-    let neg : ltZ z (pos 0) ≡ true = rw (toZ-ofZ (c .before .fits .e)) at (c .if1 .taken) in
+    let start = c .before in
+    let z = start .args .e in
+    let m = start .fits .e .sfits in
+    let neg : ltZ z (pos 0) ≡ true = rw (toZ-ofZ (start .fits .e)) at (c .if1 .taken) in
     let fits : SFits w16 (pos (mag z)) = record { sfits = m } in
-    rw (toZ-ofZ (c .before .fits .e), flip z neg, toZ-ofZ fits) (tt, record { fits = omega arith })
+    rw (toZ-ofZ (start .fits .e), flip z neg, toZ-ofZ fits) (tt, record { fits = omega arith })
 
 sub-result-2 : tie.Need-sub-result-2
 sub-result-2 c =
-    let z = c .before .args .e in
-    let m = c .before .fits .e .sfits in
-    let neg : ltZ z (pos 0) ≡ true = rw (toZ-ofZ (c .before .fits .e)) at (c .if1 .taken) in
+    let start = c .before in
+    let z = start .args .e in
+    let m = start .fits .e .sfits in
+    let neg : ltZ z (pos 0) ≡ true = rw (toZ-ofZ (start .fits .e)) at (c .if1 .taken) in
     let fits : SFits w16 (pos (mag z)) = record { sfits = m } in
-    rw (toZ-ofZ (c .before .fits .e), flip z neg, toZ-ofZ fits) (omega arith)
+    rw (toZ-ofZ (start .fits .e), flip z neg, toZ-ofZ fits) (omega arith)
 
 returns : tie.Need-returns
 returns c =
-    let z = c .before .args .e in
-    let m = c .before .fits .e .sfits in
-    let neg : ltZ z (pos 0) ≡ true = rw (toZ-ofZ (c .before .fits .e)) at (c .if1 .taken) in
+    let start = c .before in
+    let z = start .args .e in
+    let m = start .fits .e .sfits in
+    let neg : ltZ z (pos 0) ≡ true = rw (toZ-ofZ (start .fits .e)) at (c .if1 .taken) in
     let fits : SFits w16 (pos (mag z)) = record { sfits = m } in
-    rw (toZ-ofZ (c .before .fits .e), flip z neg, toZ-ofZ fits) (raw-below z neg, omega arith)
+    rw (toZ-ofZ (start .fits .e), flip z neg, toZ-ofZ fits) (raw-below z neg, omega arith)
 
 cast-result-2 : tie.Need-cast-result-2
 cast-result-2 c =
-    let z = c .before .args .e in
-    let m = c .before .fits .e .sfits in
-    let e : z ≡ pos (mag z) = raw-above z (rw (toZ-ofZ (c .before .fits .e)) at (c .if1 .left)) in
+    let start = c .before in
+    let z = start .args .e in
+    let m = start .fits .e .sfits in
+    let e : z ≡ pos (mag z) = raw-above z (rw (toZ-ofZ (start .fits .e)) at (c .if1 .left)) in
     let k : natAbs z ≡ mag z = ap natAbs e in
-    rw (toZ-ofZ (c .before .fits .e)) (rw e tt, record { fits = omega arith })
+    rw (toZ-ofZ (start .fits .e)) (rw e tt, record { fits = omega arith })
 
 returns-2 : tie.Need-returns-2
 returns-2 c =
-    let z = c .before .args .e in
-    let m = c .before .fits .e .sfits in
-    let e : z ≡ pos (mag z) = raw-above z (rw (toZ-ofZ (c .before .fits .e)) at (c .if1 .left)) in
+    let start = c .before in
+    let z = start .args .e in
+    let m = start .fits .e .sfits in
+    let e : z ≡ pos (mag z) = raw-above z (rw (toZ-ofZ (start .fits .e)) at (c .if1 .left)) in
     let k : natAbs z ≡ mag z = ap natAbs e in
-    rw (toZ-ofZ (c .before .fits .e)) (k ∙ sym (ap rawOf e), omega arith)
+    rw (toZ-ofZ (start .fits .e)) (k ∙ sym (ap rawOf e), omega arith)
 
 pub raw-spec : {M : Type 1} → statement M
 raw-spec =

@@ -22,7 +22,9 @@ cast-result : tie.Need-cast-result
 cast-result c = search needs
 
 returns : tie.Need-returns
-returns c = low-half _ _ _ _ (c .before .before .index .ensures .0) (c .before .index2 .ensures .0) (c .if1 .taken)
+returns c =
+    let index = c .before .before .index in
+    low-half _ _ _ _ (index .ensures .0) (c .before .index2 .ensures .0) (c .if1 .taken)
 
 sub-below : tie.Need-sub-below
 sub-below c = search needs
@@ -31,10 +33,15 @@ cast-below : tie.Need-cast-below
 cast-below c = search needs
 
 sub-result : tie.Need-sub-result
-sub-result c = minus-fits (65535 - (c .before .before .index .result * 256 + c .before .index2 .result)) (omega (arith, c .if1 .left))
+sub-result c =
+    let index = c .before .before .index in
+    minus-fits (65535 - (index .result * 256 + c .before .index2 .result)) (omega (arith, c .if1 .left))
 
 returns-2 : tie.Need-returns-2
-returns-2 c = high-half _ _ _ _ (c .before .before .index .ensures .0) (c .before .index2 .ensures .0) (c .if1 .left) (omega (arith, c .before .before .index .ensures .1, c .before .index2 .ensures .1))
+returns-2 c =
+    let index = c .before .before .index in
+    let index2 = c .before .index2 in
+    high-half _ _ _ _ (index .ensures .0) (index2 .ensures .0) (c .if1 .left) (omega (arith, index .ensures .1, index2 .ensures .1))
 
 pub signed-spec : {M : Type 1} → statement M
 signed-spec =

@@ -26,31 +26,59 @@ dimensionless-requires : tie.Need-dimensionless-requires Inv-loop μ-loop
 dimensionless-requires c κs = search needs
 
 loop-holds : tie.Need-loop-holds Inv-loop μ-loop
-loop-holds c = reading-start (now (c .before .before .args .bytes)) (c .before .before .args .n) (c .dimensionless .result) (c .dimensionless .ensures)
+loop-holds c =
+    let start = c .before .before in
+    reading-start (now (start .args .bytes)) (start .args .n) (c .dimensionless .result) (c .dimensionless .ensures)
 
 shared-slice-read-with-term : tie.Need-shared-slice-read-with-term Inv-loop μ-loop
-shared-slice-read-with-term c = let p = c .before .before .loop .inv .place in omega (arith, p, c .before .loop-test .taken, c .before .before .before .before .before .pre .1)
+shared-slice-read-with-term c =
+    let start = c .before .before .before .before .before in
+    let loop = c .before .before .loop in
+    let p = loop .inv .place in omega (arith, p, c .before .loop-test .taken, start .pre .1)
 
 add-signed : tie.Need-add-signed Inv-loop μ-loop
-add-signed c = let p = c .before .before .loop .inv .place in omega (arith, p, c .before .loop-test .taken, c .before .before .before .before .before .pre .1)
+add-signed c =
+    let start = c .before .before .before .before .before in
+    let loop = c .before .before .loop in
+    let p = loop .inv .place in omega (arith, p, c .before .loop-test .taken, start .pre .1)
 
 shared-slice-read-signed : tie.Need-shared-slice-read-signed Inv-loop μ-loop
-shared-slice-read-signed c = let p = c .before .before .before .loop .inv .place in omega (arith, p, c .before .before .loop-test .taken, c .before .before .before .before .before .before .pre .1)
+shared-slice-read-signed c =
+    let start = c .before .before .before .before .before .before in
+    let loop = c .before .before .before .loop in
+    let loop-test = c .before .before .loop-test in
+    let p = loop .inv .place in omega (arith, p, loop-test .taken, start .pre .1)
 
 add-signed-2 : tie.Need-add-signed-2 Inv-loop μ-loop
-add-signed-2 c = let p = c .before .before .before .loop .inv .place in omega (arith, p, c .before .before .loop-test .taken, c .before .before .before .before .before .before .pre .1)
+add-signed-2 c =
+    let start = c .before .before .before .before .before .before in
+    let loop = c .before .before .before .loop in
+    let loop-test = c .before .before .loop-test in
+    let p = loop .inv .place in omega (arith, p, loop-test .taken, start .pre .1)
 
 shared-slice-read-signed-2 : tie.Need-shared-slice-read-signed-2 Inv-loop μ-loop
-shared-slice-read-signed-2 c = let p = c .before .before .before .before .loop .inv .place in omega (arith, p, c .before .before .before .loop-test .taken, c .before .before .before .before .before .before .before .pre .1)
+shared-slice-read-signed-2 c =
+    let start = c .before .before .before .before .before .before .before in
+    let loop = c .before .before .before .before .loop in
+    let loop-test = c .before .before .before .loop-test in
+    let p = loop .inv .place in omega (arith, p, loop-test .taken, start .pre .1)
 
 signed-requires : tie.Need-signed-requires Inv-loop μ-loop
 signed-requires c κs = search needs
 
 with-term-requires : tie.Need-with-term-requires Inv-loop μ-loop
-with-term-requires c κs = let z = reading-count (now (c .before .before .before .before .before .before .before .before .args .bytes)) (c .before .before .before .before .before .before .before .before .args .n) (c .before .before .before .before .before .loop .u) (c .before .before .before .before .before .loop .at) (c .before .before .before .before .before .loop .i) (c .before .before .before .before .before .loop .inv) in omega (arith, z, c .before .before .before .before .loop-test .taken, c .before .before .before .before .before .before .before .before .pre .0)
+with-term-requires c κs =
+    let start = c .before .before .before .before .before .before .before .before in
+    let loop = c .before .before .before .before .before .loop in
+    let loop-test = c .before .before .before .before .loop-test in
+    let z = reading-count (now (start .args .bytes)) (start .args .n) (loop .u) (loop .at) (loop .i) (loop .inv) in omega (arith, z, loop-test .taken, start .pre .0)
 
 add-at : tie.Need-add-at Inv-loop μ-loop
-add-at c = let p = c .before .before .before .before .before .before .loop .inv .place in omega (arith, p, c .before .before .before .before .before .loop-test .taken, c .before .before .before .before .before .before .before .before .before .pre .1)
+add-at c =
+    let start = c .before .before .before .before .before .before .before .before .before in
+    let loop = c .before .before .before .before .before .before .loop in
+    let loop-test = c .before .before .before .before .before .loop-test in
+    let p = loop .inv .place in omega (arith, p, loop-test .taken, start .pre .1)
 
 add-i : tie.Need-add-i Inv-loop μ-loop
 add-i c = search needs
@@ -60,15 +88,21 @@ loop-less c = search needs
 
 loop-again : tie.Need-loop-again Inv-loop μ-loop
 loop-again c =
-    let bytes = now (c .before .before .before .before .before .before .before .before .before .args .bytes) in
-    let l = c .before .before .before .before .before .before .loop in
+    let start = c .before .before .before .before .before .before .before .before .before in
+    let loop = c .before .before .before .before .before .before .loop in
+    let loop-test = c .before .before .before .before .before .loop-test in
+    let signed = c .before .signed in
+    let bytes = now (start .args .bytes) in
+    let l = loop in
     let e : signedOf (getD bytes (l .at + 1) 0 * 256 + getD bytes (l .at + 2) 0) ≡ signedOf (wordAt bytes (l .at + 1)) =
     let z : l .at + 2 ≡ l .at + 1 + 1 = omega arith in ap (λ k. signedOf (getD bytes (l .at + 1) 0 * 256 + getD bytes k 0)) z in
-    reading-next bytes (c .before .before .before .before .before .before .before .before .before .args .n) (l .u) (l .at) (l .i) (l .inv) (c .before .before .before .before .before .loop-test .taken) (c .with-term .result)
-    (λ k q. c .with-term .ensures ∙ grown _ _ _ k q ∙ ap (λ z. unitOf (k ++ (term (getD bytes (l .at) 0) z ∷ []))) (back (c .before .signed .result) (c .before .signed .ok) ∙ c .before .signed .ensures ∙ e))
+    reading-next bytes (start .args .n) (l .u) (l .at) (l .i) (l .inv) (loop-test .taken) (c .with-term .result)
+    (λ k q. c .with-term .ensures ∙ grown _ _ _ k q ∙ ap (λ z. unitOf (k ++ (term (getD bytes (l .at) 0) z ∷ []))) (back (signed .result) (signed .ok) ∙ signed .ensures ∙ e))
 
 returns : tie.Need-returns Inv-loop μ-loop
-returns c = let l = c .before .loop in reading-end (now (c .before .before .before .before .args .bytes)) (c .before .before .before .before .args .n) (l .u) (l .at) (l .i) (l .inv) (c .loop-test .left)
+returns c =
+    let start = c .before .before .before .before in
+    let l = c .before .loop in reading-end (now (start .args .bytes)) (start .args .n) (l .u) (l .at) (l .i) (l .inv) (c .loop-test .left)
 
 pub unit-at-spec : {M : Type 1} → statement M
 unit-at-spec =

@@ -22,10 +22,17 @@ slice-aggregate-write-terms : tie.Need-slice-aggregate-write-terms
 slice-aggregate-write-terms c = search needs
 
 write-terms-requires : tie.Need-write-terms-requires
-write-terms-requires c κs = (c .before .before .before .before .before .before .pre, omega (arith, c .before .before .put-bytes .kept .0))
+write-terms-requires c κs =
+    let start = c .before .before .before .before .before .before in
+    let put-bytes = c .before .before .put-bytes in
+    (start .pre, omega (arith, put-bytes .kept .0))
 
 returns : tie.Need-returns
-returns c = whole-bytes (c .before .before .before .before .before .before .before .before .args .u) (c .before .write-terms .last .0) (c .before .before .before .before .before .before .before .before .pre) (c .before .write-terms .ensures ∙ rw (c .before .before .before .before .put-bytes .ensures))
+returns c =
+    let start = c .before .before .before .before .before .before .before .before in
+    let put-bytes = c .before .before .before .before .put-bytes in
+    let write-terms = c .before .write-terms in
+    whole-bytes (start .args .u) (write-terms .last .0) (start .pre) (write-terms .ensures ∙ rw (put-bytes .ensures))
 
 pub value-bytes-spec : {M : Type 1} → statement M
 value-bytes-spec =

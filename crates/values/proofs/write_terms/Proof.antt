@@ -19,7 +19,9 @@ abbrev μ-loop : tie.MeasureT-loop
 μ-loop out₀ u n at₀ i₀ out at i = n - i
 
 loop-holds : tie.Need-loop-holds Inv-loop μ-loop
-loop-holds c = writing-start (now (c .before .args .out)) (c .before .args .t2)
+loop-holds c =
+    let start = c .before in
+    writing-start (now (start .args .out)) (start .args .t2)
 
 mul-raw : tie.Need-mul-raw Inv-loop μ-loop
 mul-raw c = search needs
@@ -46,10 +48,18 @@ slice-aggregate-put-bytes : tie.Need-slice-aggregate-put-bytes Inv-loop μ-loop
 slice-aggregate-put-bytes c = search needs
 
 put-bytes-requires : tie.Need-put-bytes-requires Inv-loop μ-loop
-put-bytes-requires c κs = let p = c .before .before .before .before .before .before .before .loop .inv .place in let q = c .before .before .before .before .before .before .before .loop .inv .long in omega (arith, p, q, c .before .before .before .before .before .before .loop-test .taken, c .before .before .before .before .before .before .before .before .before .pre .0, c .before .before .before .before .before .before .before .before .before .pre .1)
+put-bytes-requires c κs =
+    let start = c .before .before .before .before .before .before .before .before .before in
+    let loop = c .before .before .before .before .before .before .before .loop in
+    let loop-test = c .before .before .before .before .before .before .loop-test in
+    let p = loop .inv .place in let q = loop .inv .long in omega (arith, p, q, loop-test .taken, start .pre .0, start .pre .1)
 
 add-at : tie.Need-add-at Inv-loop μ-loop
-add-at c = let p = c .before .before .before .before .before .before .before .before .before .before .loop .inv .place in omega (arith, p, c .before .before .before .before .before .before .before .before .before .loop-test .taken, c .before .before .before .before .before .before .before .before .before .before .before .before .pre .0)
+add-at c =
+    let start = c .before .before .before .before .before .before .before .before .before .before .before .before in
+    let loop = c .before .before .before .before .before .before .before .before .before .before .loop in
+    let loop-test = c .before .before .before .before .before .before .before .before .before .loop-test in
+    let p = loop .inv .place in omega (arith, p, loop-test .taken, start .pre .0)
 
 add-i : tie.Need-add-i Inv-loop μ-loop
 add-i c = search needs
@@ -59,18 +69,27 @@ loop-less c = search needs
 
 loop-again : tie.Need-loop-again Inv-loop μ-loop
 loop-again c =
-    let page = now (c .before .before .before .before .before .before .before .before .before .before .before .before .args .out) in
-    let u = c .before .before .before .before .before .before .before .before .before .before .before .before .args .t2 in
-    let l = c .before .before .before .before .before .before .before .before .before .before .loop in
-    let r : c .before .before .before .before .before .before .before .raw .result ≡ rawOf (expAt (placesOf u) (l .i)) = c .before .before .before .before .before .before .before .raw .ensures .0 ∙ ap rawOf (back (expAt (placesOf u) (l .i)) (c .before .before .before .before .before .before .before .before .raw-arg .given)) in
-    writing-next page u (l .out) (l .at) (l .i) (l .inv) (c .before .before .before .before .before .before .before .before .before .loop-test .taken) (c .before .before .before .before .before .before .before .before .before .before .before .before .pre .0) (c .before .before .before .before .before .before .before .before .before .before .before .before .pre .1) _
-    (c .before .before .put-bytes .ensures ∙ rw (c .before .before .before .before .before .before .count-bytes .ensures, r))
+    let start = c .before .before .before .before .before .before .before .before .before .before .before .before in
+    let loop = c .before .before .before .before .before .before .before .before .before .before .loop in
+    let loop-test = c .before .before .before .before .before .before .before .before .before .loop-test in
+    let raw-arg = c .before .before .before .before .before .before .before .before .raw-arg in
+    let raw = c .before .before .before .before .before .before .before .raw in
+    let count-bytes = c .before .before .before .before .before .before .count-bytes in
+    let put-bytes = c .before .before .put-bytes in
+    let page = now (start .args .out) in
+    let u = start .args .t2 in
+    let l = loop in
+    let r : raw .result ≡ rawOf (expAt (placesOf u) (l .i)) = raw .ensures .0 ∙ ap rawOf (back (expAt (placesOf u) (l .i)) (raw-arg .given)) in
+    writing-next page u (l .out) (l .at) (l .i) (l .inv) (loop-test .taken) (start .pre .0) (start .pre .1) _
+    (put-bytes .ensures ∙ rw (count-bytes .ensures, r))
 
 same-length : tie.Need-same-length Inv-loop μ-loop
 same-length c = search needs
 
 returns : tie.Need-returns Inv-loop μ-loop
-returns c = let l = c .before .loop in writing-end (now (c .before .before .before .args .out)) (c .before .before .before .args .t2) (l .out) (l .at) (l .i) (l .inv) (c .loop-test .left)
+returns c =
+    let start = c .before .before .before in
+    let l = c .before .loop in writing-end (now (start .args .out)) (start .args .t2) (l .out) (l .at) (l .i) (l .inv) (c .loop-test .left)
 
 pub write-terms-spec : {M : Type 1} → statement M
 write-terms-spec =
