@@ -38,7 +38,8 @@ returns c =
     let power = c .before .before .before .power in
     let known-told = c .before .before .known-told in
     let u = ap (λ v. exponentAnswer v (start .args .symbol)) (unit-or-broken .ensures) in
-    c .packed-as .ensures ∙ ap (packed Passed) (c .before .raw .ensures .0 ∙ ap rawOf (back (power .given .0 .0) (known-told .given .0 .1))) ∙ ap powerCode (sym (power .given .1) ∙ exponent .ensures ∙ u)
+    c .packed-as .ensures ∙ ap (packed Passed) (c .before .raw .ensures .0 ∙ ap rawOf (back (power .given .0 .0) (known-told .given .0 .1))) ∙ ap
+    powerCode (sym (power .given .1) ∙ exponent .ensures ∙ u)
 
 returns-2 : tie.Need-returns-2
 returns-2 c =

@@ -60,7 +60,8 @@ returns-2 c =
     let digit2 = c .before .before .before .before .before .before .digit2 in
     let digit3 = c .before .before .before .before .before .digit3 in
     let push2 = c .before .before .push2 in
-    spelled _ _ (digit2 .result ∷ digit3 .result ∷ []) (decimalOf (start .args .n)) _ _ (rw (digit2 .ensures, digit3 .ensures) (decimal-2 (start .args .n) (if1 .left) (if2 .taken))) (push2 .ensures)
+    spelled _ _ (digit2 .result ∷ digit3 .result ∷ []) (decimalOf (start .args .n)) _ _
+    (rw (digit2 .ensures, digit3 .ensures) (decimal-2 (start .args .n) (if1 .left) (if2 .taken))) (push2 .ensures)
 
 digit-requires-4 : tie.Need-digit-requires-4
 digit-requires-4 c κs = search needs
@@ -93,7 +94,8 @@ returns-3 c =
     let digit5 = c .before .before .before .before .before .before .digit5 in
     let digit6 = c .before .before .before .before .before .digit6 in
     let push3 = c .before .before .push3 in
-    spelled _ _ (digit4 .result ∷ digit5 .result ∷ digit6 .result ∷ []) (decimalOf (start .args .n)) _ _ (rw (digit4 .ensures, digit5 .ensures, digit6 .ensures) (decimal-3 (start .args .n) (if2 .left) (if3 .taken))) (push3 .ensures)
+    spelled _ _ (digit4 .result ∷ digit5 .result ∷ digit6 .result ∷ []) (decimalOf (start .args .n)) _ _
+    (rw (digit4 .ensures, digit5 .ensures, digit6 .ensures) (decimal-3 (start .args .n) (if2 .left) (if3 .taken))) (push3 .ensures)
 
 digit-requires-7 : tie.Need-digit-requires-7
 digit-requires-7 c κs = search needs
@@ -130,7 +132,8 @@ returns-4 c =
     let digit9 = c .before .before .before .before .before .before .digit9 in
     let digit10 = c .before .before .before .before .before .digit10 in
     let push4 = c .before .before .push4 in
-    spelled _ _ (digit7 .result ∷ digit8 .result ∷ digit9 .result ∷ digit10 .result ∷ []) (decimalOf (start .args .n)) _ _ (rw (digit7 .ensures, digit8 .ensures, digit9 .ensures, digit10 .ensures) (decimal-4 (start .args .n) (if3 .left) (if4 .taken))) (push4 .ensures)
+    spelled _ _ (digit7 .result ∷ digit8 .result ∷ digit9 .result ∷ digit10 .result ∷ []) (decimalOf (start .args .n)) _ _
+    (rw (digit7 .ensures, digit8 .ensures, digit9 .ensures, digit10 .ensures) (decimal-4 (start .args .n) (if3 .left) (if4 .taken))) (push4 .ensures)
 
 digit-requires-11 : tie.Need-digit-requires-11
 digit-requires-11 c κs = search needs
@@ -169,7 +172,9 @@ returns-5 c =
     let digit14 = c .before .before .before .before .before .before .digit14 in
     let digit15 = c .before .before .before .before .before .digit15 in
     let push5 = c .before .before .push5 in
-    spelled _ _ (digit11 .result ∷ digit12 .result ∷ digit13 .result ∷ digit14 .result ∷ digit15 .result ∷ []) (decimalOf (start .args .n)) _ _ (rw (digit11 .ensures, digit12 .ensures, digit13 .ensures, digit14 .ensures, digit15 .ensures) (decimal-5 (start .args .n) (if4 .left) (start .pre .0))) (push5 .ensures)
+    spelled _ _ (digit11 .result ∷ digit12 .result ∷ digit13 .result ∷ digit14 .result ∷ digit15 .result ∷ []) (decimalOf (start .args .n)) _ _
+    (rw (digit11 .ensures, digit12 .ensures, digit13 .ensures, digit14 .ensures, digit15 .ensures) (decimal-5 (start .args .n) (if4 .left) (start .pre .0)))
+    (push5 .ensures)
 
 pub decimal-spec : {M : Type 1} → statement M
 decimal-spec =

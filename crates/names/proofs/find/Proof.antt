@@ -1,3 +1,4 @@
+-- `names::find` meets its contract. Assumes nothing.
 use Prim.Native.Nat.{_-_, _≤_}
 use mathlib.Core.Path.{_≡_, refl, sym, _∙_}
 use mathlib.Core.Bool.{false}
@@ -70,7 +71,8 @@ returns c =
     let loop-test = c .before .before .before .before .before .loop-test in
     let index = c .before .before .before .index in
     let p = now (start .args .page) in let l = loop in
-    sym (first-at _ _ (l .i) (loop-test .taken) (l .inv .3) (found-at p (l .i) (l .at) _ (now (start .args .name)) (l .inv .1) (index .ensures .0) _ (sym (c .before .same .ensures) ∙ c .if1 .taken)))
+    sym
+    (first-at _ _ (l .i) (loop-test .taken) (l .inv .3) (found-at p (l .i) (l .at) _ (now (start .args .name)) (l .inv .1) (index .ensures .0) _ (sym (c .before .same .ensures) ∙ c .if1 .taken)))
 
 add-i : tie.Need-add-i Inv-loop μ-loop
 add-i c = search needs

@@ -43,7 +43,8 @@ find-requires c κs =
     let start = c .before .before .before .before .before .before .before in
     let is-formed = c .before .before .before .before .is-formed in
     let if1 = c .before .before .before .if1 in
-    fits-to (now (start .args .page)) (form (now (start .args .page)) (sym (is-formed .ensures) ∙ not-false (is-formed .result) (if1 .left))) (c .count .result) (le-of-eq (c .count .ensures .0))
+    fits-to (now (start .args .page)) (form (now (start .args .page)) (sym (is-formed .ensures) ∙ not-false (is-formed .result) (if1 .left)))
+    (c .count .result) (le-of-eq (c .count .ensures .0))
 
 returns-3 : tie.Need-returns-3
 returns-3 c =
@@ -57,7 +58,8 @@ returns-3 c =
     let page = now (start .args .page) in
     let name = now (start .args .name) in
     let f = sym (is-formed .ensures) ∙ not-false (is-formed .result) (if1 .left) in
-    find-known page name f (sym (is-name .ensures) ∙ not-false (is-name .result) (if2 .left)) (count .result) (find .result) (count .ensures .0) (find .ensures) (c .if3 .taken)
+    find-known page name f (sym (is-name .ensures) ∙ not-false (is-name .result) (if2 .left)) (count .result) (find .result) (count .ensures .0)
+    (find .ensures) (c .if3 .taken)
 
 returns-4 : tie.Need-returns-4
 returns-4 c =
@@ -71,7 +73,8 @@ returns-4 c =
     let page = now (start .args .page) in
     let name = now (start .args .name) in
     let f = sym (is-formed .ensures) ∙ not-false (is-formed .result) (if1 .left) in
-    find-absent page name f (sym (is-name .ensures) ∙ not-false (is-name .result) (if2 .left)) (count .result) (find .result) (count .ensures .0) (find .ensures) (c .if3 .left)
+    find-absent page name f (sym (is-name .ensures) ∙ not-false (is-name .result) (if2 .left)) (count .result) (find .result) (count .ensures .0)
+    (find .ensures) (c .if3 .left)
 
 pub find-name-spec : {M : Type 1} → statement M
 find-name-spec = tie.close (tie.spec is-formed-requires returns is-name-requires returns-2 count-requires find-requires returns-3 returns-4)

@@ -31,13 +31,10 @@ same-length c = search needs
 
 returns : tie.Need-returns
 returns c =
-    let is-name' = c .before .before .before .before .before .before .is-name in
-    let if1' = c .before .before .before .before .before .if1 in
-    let count' = c .before .before .before .count in
     let start = c .before .before .before .before .before .before .before .before .before in
-    let is-name = is-name' in
-    let if1 = if1' in
-    let count = count' in
+    let is-name = c .before .before .before .before .before .before .is-name in
+    let if1 = c .before .before .before .before .before .if1 in
+    let count = c .before .before .before .count in
     let page = now (start .args .page) in
     let name = now (start .args .name) in
     let w = sym (is-name .ensures) ∙ if1 .taken in
@@ -50,15 +47,11 @@ same-length-2 c = search needs
 
 returns-2 : tie.Need-returns-2
 returns-2 c =
-    let is-name' = c .before .before .before .before .before .before .before .is-name in
-    let if1' = c .before .before .before .before .before .before .if1 in
-    let count' = c .before .before .before .before .count in
-    let find' = c .before .before .find in
     let start = c .before .before .before .before .before .before .before .before .before .before in
-    let is-name = is-name' in
-    let if1 = if1' in
-    let count = count' in
-    let find = find' in
+    let is-name = c .before .before .before .before .before .before .before .is-name in
+    let if1 = c .before .before .before .before .before .before .if1 in
+    let count = c .before .before .before .before .count in
+    let find = c .before .before .find in
     let page = now (start .args .page) in
     let name = now (start .args .name) in
     let w = sym (is-name .ensures) ∙ if1 .taken in
@@ -68,20 +61,16 @@ returns-2 c =
 
 offset-of-requires : tie.Need-offset-of-requires
 offset-of-requires c κs =
-    let count' = c .before .before .before .before .before .count in
     let start = c .before .before .before .before .before .before .before .before .before .before .before in
-    let count = count' in
+    let count = c .before .before .before .before .before .count in
     fits-to (now (start .args .page)) (form (now (start .args .page)) (start .pre)) (count .result) (le-of-eq (count .ensures .0))
 
 add-if4 : tie.Need-add-if4
 add-if4 c =
-    let is-name' = c .before .before .before .before .before .before .before .before .before .is-name in
-    let if1' = c .before .before .before .before .before .before .before .before .if1 in
-    let count' = c .before .before .before .before .before .before .count in
     let start = c .before .before .before .before .before .before .before .before .before .before .before .before in
-    let is-name = is-name' in
-    let if1 = if1' in
-    let count = count' in
+    let is-name = c .before .before .before .before .before .before .before .before .before .is-name in
+    let if1 = c .before .before .before .before .before .before .before .before .if1 in
+    let count = c .before .before .before .before .before .before .count in
     let page = now (start .args .page) in
     let z : c .offset-of .result ≤ length page = rw (c .offset-of .ensures) (fits-to page (form page (start .pre)) (count .result) (le-of-eq (count .ensures .0))) in
     let y = name-small (now (start .args .name)) (sym (is-name .ensures) ∙ if1 .taken) in
@@ -89,13 +78,10 @@ add-if4 c =
 
 add-if4-2 : tie.Need-add-if4-2
 add-if4-2 c =
-    let is-name' = c .before .before .before .before .before .before .before .before .before .is-name in
-    let if1' = c .before .before .before .before .before .before .before .before .if1 in
-    let count' = c .before .before .before .before .before .before .count in
     let start = c .before .before .before .before .before .before .before .before .before .before .before .before in
-    let is-name = is-name' in
-    let if1 = if1' in
-    let count = count' in
+    let is-name = c .before .before .before .before .before .before .before .before .before .is-name in
+    let if1 = c .before .before .before .before .before .before .before .before .if1 in
+    let count = c .before .before .before .before .before .before .count in
     let page = now (start .args .page) in
     let z : c .offset-of .result ≤ length page = rw (c .offset-of .ensures) (fits-to page (form page (start .pre)) (count .result) (le-of-eq (count .ensures .0))) in
     let y = name-small (now (start .args .name)) (sym (is-name .ensures) ∙ if1 .taken) in
@@ -106,34 +92,27 @@ same-length-3 c = search needs
 
 returns-3 : tie.Need-returns-3
 returns-3 c =
-    let is-name' = c .before .before .before .before .before .before .before .before .before .before .is-name in
-    let if1' = c .before .before .before .before .before .before .before .before .before .if1 in
-    let count' = c .before .before .before .before .before .before .before .count in
-    let find' = c .before .before .before .before .before .find in
-    let if2' = c .before .before .before .before .if2 in
-    let if3' = c .before .before .before .if3 in
     let start = c .before .before .before .before .before .before .before .before .before .before .before .before .before in
-    let is-name = is-name' in
-    let if1 = if1' in
-    let count = count' in
-    let find = find' in
-    let if2 = if2' in
-    let if3 = if3' in
+    let is-name = c .before .before .before .before .before .before .before .before .before .before .is-name in
+    let if1 = c .before .before .before .before .before .before .before .before .before .if1 in
+    let count = c .before .before .before .before .before .before .before .count in
+    let find = c .before .before .before .before .before .find in
+    let if2 = c .before .before .before .before .if2 in
+    let if3 = c .before .before .before .if3 in
     let offset-of = c .before .offset-of in
     let page = now (start .args .page) in
     let name = now (start .args .name) in
     let w = sym (is-name .ensures) ∙ if1 .taken in
     let n = count in
     let k = find in
-    add-short page name (start .pre) w (n .result) (k .result) (n .ensures .0) (k .ensures) (if2 .left) (if3 .left) (offset-of .result) (offset-of .ensures) (c .if4 .taken)
+    add-short page name (start .pre) w (n .result) (k .result) (n .ensures .0) (k .ensures) (if2 .left) (if3 .left) (offset-of .result)
+    (offset-of .ensures) (c .if4 .taken)
 
 cast-t23 : tie.Need-cast-t23
 cast-t23 c =
-    let is-name' = c .before .before .before .before .before .before .before .before .before .before .is-name in
-    let if1' = c .before .before .before .before .before .before .before .before .before .if1 in
     let start = c .before .before .before .before .before .before .before .before .before .before .before .before .before in
-    let is-name = is-name' in
-    let if1 = if1' in
+    let is-name = c .before .before .before .before .before .before .before .before .before .before .is-name in
+    let if1 = c .before .before .before .before .before .before .before .before .before .if1 in
     let y = name-small (now (start .args .name)) (sym (is-name .ensures) ∙ if1 .taken) in omega arith
 
 add-count-bytes : tie.Need-add-count-bytes
@@ -159,13 +138,10 @@ slice-aggregate-put-bytes-2 c = search needs
 
 put-bytes-requires-3 : tie.Need-put-bytes-requires-3
 put-bytes-requires-3 c κs =
-    let count-bytes' = c .before .before .before .before .before .before .before .before .before .before .before .count-bytes in
-    let put-bytes' = c .before .before .before .before .before .before .before .before .before .put-bytes in
-    let put-bytes2' = c .before .before .before .before .put-bytes2 in
     let start = c .before .before .before .before .before .before .before .before .before .before .before .before .before .before .before .before .before .before .before .before .before .before .before .before .before in
-    let count-bytes = count-bytes' in
-    let put-bytes = put-bytes' in
-    let put-bytes2 = put-bytes2' in
+    let count-bytes = c .before .before .before .before .before .before .before .before .before .before .before .count-bytes in
+    let put-bytes = c .before .before .before .before .before .before .before .before .before .put-bytes in
+    let put-bytes2 = c .before .before .before .before .put-bytes2 in
     let a = ap length (count-bytes .ensures) in
     let t = form (now (start .args .page)) (start .pre) .two in
     omega (arith, put-bytes .kept .0, put-bytes2 .kept .0, a, t)
@@ -175,31 +151,19 @@ same-length-4 c = search needs
 
 returns-4 : tie.Need-returns-4
 returns-4 c =
-    let is-name' = c .before .before .before .before .before .before .before .before .before .before .before .before .before .before .before .before .before .before .before .before .before .before .before .before .before .is-name in
-    let if1' = c .before .before .before .before .before .before .before .before .before .before .before .before .before .before .before .before .before .before .before .before .before .before .before .before .if1 in
-    let count' = c .before .before .before .before .before .before .before .before .before .before .before .before .before .before .before .before .before .before .before .before .before .before .count in
-    let find' = c .before .before .before .before .before .before .before .before .before .before .before .before .before .before .before .before .before .before .before .before .find in
-    let if2' = c .before .before .before .before .before .before .before .before .before .before .before .before .before .before .before .before .before .before .before .if2 in
-    let if3' = c .before .before .before .before .before .before .before .before .before .before .before .before .before .before .before .before .before .before .if3 in
-    let offset-of' = c .before .before .before .before .before .before .before .before .before .before .before .before .before .before .before .before .offset-of in
-    let if4' = c .before .before .before .before .before .before .before .before .before .before .before .before .before .before .before .if4 in
-    let count-bytes' = c .before .before .before .before .before .before .before .before .before .before .before .before .before .before .count-bytes in
-    let put-bytes' = c .before .before .before .before .before .before .before .before .before .before .before .before .put-bytes in
-    let put-bytes2' = c .before .before .before .before .before .before .before .put-bytes2 in
-    let put-bytes3' = c .before .before .put-bytes3 in
     let start = c .before .before .before .before .before .before .before .before .before .before .before .before .before .before .before .before .before .before .before .before .before .before .before .before .before .before .before .before in
-    let is-name = is-name' in
-    let if1 = if1' in
-    let count = count' in
-    let find = find' in
-    let if2 = if2' in
-    let if3 = if3' in
-    let offset-of = offset-of' in
-    let if4 = if4' in
-    let count-bytes = count-bytes' in
-    let put-bytes = put-bytes' in
-    let put-bytes2 = put-bytes2' in
-    let put-bytes3 = put-bytes3' in
+    let is-name = c .before .before .before .before .before .before .before .before .before .before .before .before .before .before .before .before .before .before .before .before .before .before .before .before .before .is-name in
+    let if1 = c .before .before .before .before .before .before .before .before .before .before .before .before .before .before .before .before .before .before .before .before .before .before .before .before .if1 in
+    let count = c .before .before .before .before .before .before .before .before .before .before .before .before .before .before .before .before .before .before .before .before .before .before .count in
+    let find = c .before .before .before .before .before .before .before .before .before .before .before .before .before .before .before .before .before .before .before .before .find in
+    let if2 = c .before .before .before .before .before .before .before .before .before .before .before .before .before .before .before .before .before .before .before .if2 in
+    let if3 = c .before .before .before .before .before .before .before .before .before .before .before .before .before .before .before .before .before .before .if3 in
+    let offset-of = c .before .before .before .before .before .before .before .before .before .before .before .before .before .before .before .before .offset-of in
+    let if4 = c .before .before .before .before .before .before .before .before .before .before .before .before .before .before .before .if4 in
+    let count-bytes = c .before .before .before .before .before .before .before .before .before .before .before .before .before .before .count-bytes in
+    let put-bytes = c .before .before .before .before .before .before .before .before .before .before .before .before .put-bytes in
+    let put-bytes2 = c .before .before .before .before .before .before .before .put-bytes2 in
+    let put-bytes3 = c .before .before .put-bytes3 in
     let page = now (start .args .page) in
     let name = now (start .args .name) in
     let w = sym (is-name .ensures) ∙ if1 .taken in

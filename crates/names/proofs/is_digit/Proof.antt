@@ -1,3 +1,4 @@
+-- `names::is_digit` meets its contract. Assumes nothing.
 use Prim.Native.Nat.{_-_}
 use Rattle.names.proofs.Table.{digit-low, digit-high}
 use Prim.Native.Nat.{_-_}

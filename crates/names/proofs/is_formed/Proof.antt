@@ -1,3 +1,4 @@
+-- `names::is_formed` meets its contract. Assumes nothing.
 use Prim.Native.Nat.{_-_, _≤_}
 use mathlib.Core.Path.{_≡_, refl, sym, _∙_}
 use mathlib.Core.Bool.{true}
@@ -27,29 +28,24 @@ count-requires c κs = search needs
 
 returns-2 : tie.Need-returns-2 Inv-loop μ-loop
 returns-2 c =
-    let if1' = c .before .before .if1 in
-    let if1 = if1' in
+    let if1 = c .before .before .if1 in
     unformed-many _ _ (c .before .count .ensures .0) (if1 .left) (c .if2 .taken)
 
 loop-holds : tie.Need-loop-holds Inv-loop μ-loop
 unfolding offset
 loop-holds c =
-    let if1' = c .before .before .if1 in
-    let if1 = if1' in
+    let if1 = c .before .before .if1 in
     (omega arith, refl, omega (arith, if1 .left), all-none _)
 
 returns-3 : tie.Need-returns-3 Inv-loop μ-loop
 returns-3 c =
-    let if1' = c .before .before .before .before .before .if1 in
-    let count' = c .before .before .before .before .count in
-    let if2' = c .before .before .before .if2 in
-    let loop' = c .before .before .loop in
     let start = c .before .before .before .before .before .before .before in
-    let if1 = if1' in
-    let count = count' in
-    let if2 = if2' in
-    let loop = loop' in
-    (unformed-at (now (start .args .page)) _ (count .ensures .0) (if1 .left) (if2 .left) (loop .i) (c .before .loop-test .taken)) (bad-past (now (start .args .page)) (loop .i) (loop .at) (loop .inv .1) (c .if3 .taken))
+    let if1 = c .before .before .before .before .before .if1 in
+    let count = c .before .before .before .before .count in
+    let if2 = c .before .before .before .if2 in
+    let loop = c .before .before .loop in
+    (unformed-at (now (start .args .page)) _ (count .ensures .0) (if1 .left) (if2 .left) (loop .i) (c .before .loop-test .taken))
+    (bad-past (now (start .args .page)) (loop .i) (loop .at) (loop .inv .1) (c .if3 .taken))
 
 add-start : tie.Need-add-start Inv-loop μ-loop
 add-start c = search needs
@@ -65,19 +61,15 @@ add-end c = search needs
 
 returns-4 : tie.Need-returns-4 Inv-loop μ-loop
 returns-4 c =
-    let if1' = c .before .before .before .before .before .before .before .before .if1 in
-    let count' = c .before .before .before .before .before .before .before .count in
-    let if2' = c .before .before .before .before .before .before .if2 in
-    let loop' = c .before .before .before .before .before .loop in
-    let loop-test' = c .before .before .before .before .loop-test in
     let start = c .before .before .before .before .before .before .before .before .before .before in
-    let if1 = if1' in
-    let count = count' in
-    let if2 = if2' in
-    let loop = loop' in
-    let loop-test = loop-test' in
+    let if1 = c .before .before .before .before .before .before .before .before .if1 in
+    let count = c .before .before .before .before .before .before .before .count in
+    let if2 = c .before .before .before .before .before .before .if2 in
+    let loop = c .before .before .before .before .before .loop in
+    let loop-test = c .before .before .before .before .loop-test in
     let index = c .before .index in
-    (unformed-at (now (start .args .page)) _ (count .ensures .0) (if1 .left) (if2 .left) (loop .i) (loop-test .taken)) (bad-long (now (start .args .page)) (loop .i) (loop .at) (index .result) (loop .inv .1) (index .ensures .0) (c .if4 .taken))
+    (unformed-at (now (start .args .page)) _ (count .ensures .0) (if1 .left) (if2 .left) (loop .i) (loop-test .taken))
+    (bad-long (now (start .args .page)) (loop .i) (loop .at) (index .result) (loop .inv .1) (index .ensures .0) (c .if4 .taken))
 
 sub-is-name : tie.Need-sub-is-name Inv-loop μ-loop
 sub-is-name c = search needs
@@ -102,32 +94,23 @@ part-find-end c = search needs
 
 find-requires : tie.Need-find-requires Inv-loop μ-loop
 find-requires c κs =
-    let loop' = c .before .before .before .before .before .before .before .before .before .loop in
-    let loop = loop' in
+    let loop = c .before .before .before .before .before .before .before .before .before .loop in
     rw (← loop .inv .1) (loop .inv .2)
 
 returns-5 : tie.Need-returns-5 Inv-loop μ-loop
 returns-5 c =
-    let if1' = c .before .before .before .before .before .before .before .before .before .before .before .before .before .before .if1 in
-    let count' = c .before .before .before .before .before .before .before .before .before .before .before .before .before .count in
-    let if2' = c .before .before .before .before .before .before .before .before .before .before .before .before .if2 in
-    let loop' = c .before .before .before .before .before .before .before .before .before .before .before .loop in
-    let loop-test' = c .before .before .before .before .before .before .before .before .before .before .loop-test in
-    let index' = c .before .before .before .before .before .before .before .index in
-    let if4' = c .before .before .before .before .before .before .if4 in
-    let is-name' = c .before .before .before .before .is-name in
-    let if5' = c .before .before .before .if5 in
     let start = c .before .before .before .before .before .before .before .before .before .before .before .before .before .before .before .before in
-    let if1 = if1' in
-    let count = count' in
-    let if2 = if2' in
-    let loop = loop' in
-    let loop-test = loop-test' in
-    let index = index' in
-    let if4 = if4' in
-    let is-name = is-name' in
-    let if5 = if5' in
-    (unformed-at (now (start .args .page)) _ (count .ensures .0) (if1 .left) (if2 .left) (loop .i) (loop-test .taken)) (good-name (now (start .args .page)) (loop .i) (loop .at) (index .result) (loop .inv .1) (index .ensures .0) (if4 .left) (sym (is-name .ensures) ∙ if5 .taken) _ (c .before .find .ensures) ∙ lt-leb _ _ (c .if6 .taken))
+    let if1 = c .before .before .before .before .before .before .before .before .before .before .before .before .before .before .if1 in
+    let count = c .before .before .before .before .before .before .before .before .before .before .before .before .before .count in
+    let if2 = c .before .before .before .before .before .before .before .before .before .before .before .before .if2 in
+    let loop = c .before .before .before .before .before .before .before .before .before .before .before .loop in
+    let loop-test = c .before .before .before .before .before .before .before .before .before .before .loop-test in
+    let index = c .before .before .before .before .before .before .before .index in
+    let if4 = c .before .before .before .before .before .before .if4 in
+    let is-name = c .before .before .before .before .is-name in
+    let if5 = c .before .before .before .if5 in
+    (unformed-at (now (start .args .page)) _ (count .ensures .0) (if1 .left) (if2 .left) (loop .i) (loop-test .taken))
+    (good-name (now (start .args .page)) (loop .i) (loop .at) (index .result) (loop .inv .1) (index .ensures .0) (if4 .left) (sym (is-name .ensures) ∙ if5 .taken) _ (c .before .find .ensures) ∙ lt-leb _ _ (c .if6 .taken))
 
 add-i : tie.Need-add-i Inv-loop μ-loop
 add-i c = search needs
@@ -137,52 +120,37 @@ loop-less c = search needs
 
 loop-again : tie.Need-loop-again Inv-loop μ-loop
 loop-again c =
-    let loop' = c .before .before .before .before .before .before .before .before .before .before .before .loop in
-    let index' = c .before .before .before .before .before .before .before .index in
-    let if4' = c .before .before .before .before .before .before .if4 in
-    let is-name' = c .before .before .before .before .is-name in
-    let if5' = c .before .before .before .if5 in
     let start = c .before .before .before .before .before .before .before .before .before .before .before .before .before .before .before .before in
-    let loop = loop' in
-    let index = index' in
-    let if4 = if4' in
-    let is-name = is-name' in
-    let if5 = if5' in
+    let loop = c .before .before .before .before .before .before .before .before .before .before .before .loop in
+    let index = c .before .before .before .before .before .before .before .index in
+    let if4 = c .before .before .before .before .before .before .if4 in
+    let is-name = c .before .before .before .before .is-name in
+    let if5 = c .before .before .before .if5 in
     (omega arith, sym (offset-suc _ _ ∙ rw (← loop .inv .1, ← index .ensures .0)), if4 .left, all-more _ _ (loop .inv .3) (good-name (now (start .args .page)) (loop .i) (loop .at) (index .result) (loop .inv .1) (index .ensures .0) (if4 .left) (sym (is-name .ensures) ∙ if5 .taken) _ (c .before .find .ensures) ∙ le-leb _ _ (c .if6 .left)))
 
 returns-6 : tie.Need-returns-6 Inv-loop μ-loop
 returns-6 c =
-    let if1' = c .before .before .before .before .before .before .before .before .before .before .before .if1 in
-    let count' = c .before .before .before .before .before .before .before .before .before .before .count in
-    let if2' = c .before .before .before .before .before .before .before .before .before .if2 in
-    let loop' = c .before .before .before .before .before .before .before .before .loop in
-    let loop-test' = c .before .before .before .before .before .before .before .loop-test in
-    let index' = c .before .before .before .before .index in
-    let if4' = c .before .before .before .if4 in
     let start = c .before .before .before .before .before .before .before .before .before .before .before .before .before in
-    let if1 = if1' in
-    let count = count' in
-    let if2 = if2' in
-    let loop = loop' in
-    let loop-test = loop-test' in
-    let index = index' in
-    let if4 = if4' in
-    (unformed-at (now (start .args .page)) _ (count .ensures .0) (if1 .left) (if2 .left) (loop .i) (loop-test .taken)) (bad-name (now (start .args .page)) (loop .i) (loop .at) (index .result) (loop .inv .1) (index .ensures .0) (if4 .left) (sym (c .before .is-name .ensures) ∙ c .if5 .left))
+    let if1 = c .before .before .before .before .before .before .before .before .before .before .before .if1 in
+    let count = c .before .before .before .before .before .before .before .before .before .before .count in
+    let if2 = c .before .before .before .before .before .before .before .before .before .if2 in
+    let loop = c .before .before .before .before .before .before .before .before .loop in
+    let loop-test = c .before .before .before .before .before .before .before .loop-test in
+    let index = c .before .before .before .before .index in
+    let if4 = c .before .before .before .if4 in
+    (unformed-at (now (start .args .page)) _ (count .ensures .0) (if1 .left) (if2 .left) (loop .i) (loop-test .taken))
+    (bad-name (now (start .args .page)) (loop .i) (loop .at) (index .result) (loop .inv .1) (index .ensures .0) (if4 .left) (sym (c .before .is-name .ensures) ∙ c .if5 .left))
 
 zeros-from-requires : tie.Need-zeros-from-requires Inv-loop μ-loop
 zeros-from-requires c κs = search needs
 
 returns-7 : tie.Need-returns-7 Inv-loop μ-loop
 returns-7 c =
-    let if1' = c .before .before .before .before .before .if1 in
-    let count' = c .before .before .before .before .count in
-    let if2' = c .before .before .before .if2 in
-    let loop' = c .before .before .loop in
     let start = c .before .before .before .before .before .before .before in
-    let if1 = if1' in
-    let count = count' in
-    let if2 = if2' in
-    let loop = loop' in
+    let if1 = c .before .before .before .before .before .if1 in
+    let count = c .before .before .before .before .count in
+    let if2 = c .before .before .before .if2 in
+    let loop = c .before .before .loop in
     let e : loop .i ≡ count .result = omega arith in
     c .zeros-from .ensures ∙ formed-when (now (start .args .page)) _ (count .ensures .0) (if1 .left) (if2 .left) (rw e at (loop .inv .3)) _ (rw e at (loop .inv .1))
 

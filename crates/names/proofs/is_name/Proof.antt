@@ -1,3 +1,4 @@
+-- `names::is_name` meets its contract. Assumes nothing.
 use Prim.Native.Nat.{_-_, _≤_}
 use mathlib.Core.Path.{_≡_, sym, _∙_}
 use mathlib.Core.Bool.{true}
@@ -65,7 +66,8 @@ returns-4 c =
     let if3 = c .before .before .before .before .before .if3 in
     let loop = c .before .before .before .before .loop in
     let loop-test = c .before .before .before .loop-test in
-    sym (all-failed _ _ (loop .i) (loop-test .taken) (sym (c .before .is-name-byte .ensures) ∙ c .if4 .left)) ∙ named-all _ (if1 .left) (if2 .left) (sym (is-digit .ensures) ∙ if3 .left)
+    sym (all-failed _ _ (loop .i) (loop-test .taken) (sym (c .before .is-name-byte .ensures) ∙ c .if4 .left)) ∙ named-all _ (if1 .left) (if2 .left)
+    (sym (is-digit .ensures) ∙ if3 .left)
 
 returns-5 : tie.Need-returns-5 Inv-loop μ-loop
 returns-5 c =

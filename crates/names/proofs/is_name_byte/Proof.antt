@@ -1,3 +1,4 @@
+-- `names::is_name_byte` meets its contract. Assumes nothing.
 use Prim.Native.Nat.{_-_}
 use Rattle.names.proofs.Table.{byte-1, byte-2, byte-3, byte-4, byte-5, byte-6, byte-7}
 use Prim.Native.Nat.{_-_}

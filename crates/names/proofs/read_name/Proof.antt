@@ -35,7 +35,8 @@ returns-2 c =
     let is-formed = c .before .before .before .before .is-formed in
     let if1 = c .before .before .before .if1 in
     let count = c .before .before .count in
-    c .no-name2 .ensures ∙ read-unused (now (start .args .page)) (start .args .k) (sym (is-formed .ensures) ∙ not-false (is-formed .result) (if1 .left)) (count .result) (count .ensures .0) (c .before .if2 .taken)
+    c .no-name2 .ensures ∙ read-unused (now (start .args .page)) (start .args .k)
+    (sym (is-formed .ensures) ∙ not-false (is-formed .result) (if1 .left)) (count .result) (count .ensures .0) (c .before .if2 .taken)
 
 name-of-requires : tie.Need-name-of-requires
 name-of-requires c κs =
@@ -53,7 +54,8 @@ returns-3 c =
     let if1 = c .before .before .before .before .if1 in
     let count = c .before .before .before .count in
     let if2 = c .before .before .if2 in
-    c .copied .ensures ∙ ap nameOf (c .before .name-of .ensures .0) ∙ read-name (now (start .args .page)) (start .args .k) (sym (is-formed .ensures) ∙ not-false (is-formed .result) (if1 .left)) (count .result) (count .ensures .0) (if2 .left)
+    c .copied .ensures ∙ ap nameOf (c .before .name-of .ensures .0) ∙ read-name (now (start .args .page)) (start .args .k)
+    (sym (is-formed .ensures) ∙ not-false (is-formed .result) (if1 .left)) (count .result) (count .ensures .0) (if2 .left)
 
 pub read-name-spec : {M : Type 1} → statement M
 read-name-spec = tie.close (tie.spec is-formed-requires no-name-requires returns count-requires no-name-requires-2 returns-2 name-of-requires copied-requires returns-3)

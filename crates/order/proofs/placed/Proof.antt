@@ -41,7 +41,8 @@ dimensionless-requires c κs = search needs
 loop-holds : tie.Need-loop-holds Inv-loop μ-loop
 loop-holds c =
     let start = c .before .before .before .before in
-    placing-start (now (start .args .page)) (start .args .t2) (term (start .args .s) (toZ w16 (ofZ w16 (start .args .e)))) (c .dimensionless .result) (c .dimensionless .ensures)
+    placing-start (now (start .args .page)) (start .args .t2) (term (start .args .s) (toZ w16 (ofZ w16 (start .args .e)))) (c .dimensionless .result)
+    (c .dimensionless .ensures)
 
 element-copy-out-t : tie.Need-element-copy-out-t Inv-loop μ-loop
 element-copy-out-t c = search needs

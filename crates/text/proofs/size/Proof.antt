@@ -19,7 +19,8 @@ cast-result c =
     let start = c .before in
     let e = start .args .e in
     let z = small e (start .pre) in
-    rw (turned-back e (start .fits .e) (start .pre)) (turned-up e (rw (toZ-ofZ (start .fits .e)) at (c .if1 .taken)), rw (abs-turn true e) (record { fits = omega arith }))
+    rw (turned-back e (start .fits .e) (start .pre))
+    (turned-up e (rw (toZ-ofZ (start .fits .e)) at (c .if1 .taken)), rw (abs-turn true e) (record { fits = omega arith }))
 
 returns : tie.Need-returns
 returns c =

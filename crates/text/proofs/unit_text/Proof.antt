@@ -39,7 +39,9 @@ returns-2 c =
     let if1 = c .before .before .before .before .if1 in
     let count = c .before .before .before .count in
     let is-used = c .before .before .is-used in
-    c .no-text2 .ensures ∙ text-unused (now (start .args .page)) (start .args .u) (sym (is-formed .ensures) ∙ not-false (is-formed .result) (if1 .left)) (count .result) (count .ensures .0) (sym (is-used .ensures) ∙ not-true (is-used .result) (c .before .if2 .taken))
+    c .no-text2 .ensures ∙ text-unused (now (start .args .page)) (start .args .u)
+    (sym (is-formed .ensures) ∙ not-false (is-formed .result) (if1 .left)) (count .result) (count .ensures .0)
+    (sym (is-used .ensures) ∙ not-true (is-used .result) (c .before .if2 .taken))
 
 is-formed-requires-2 : tie.Need-is-formed-requires-2
 is-formed-requires-2 c κs = search needs
@@ -56,7 +58,10 @@ returns-3 c =
     let is-used = c .before .before .before .before .is-used in
     let if2 = c .before .before .before .if2 in
     let is-formed2 = c .before .before .is-formed2 in
-    c .no-text3 .ensures ∙ text-bad-unit (now (start .args .page)) (start .args .u) (sym (is-formed .ensures) ∙ not-false (is-formed .result) (if1 .left)) (count .result) (count .ensures .0) (sym (is-used .ensures) ∙ not-false (is-used .result) (if2 .left)) (sym (is-formed2 .ensures) ∙ not-true (is-formed2 .result) (c .before .if3 .taken))
+    c .no-text3 .ensures ∙ text-bad-unit (now (start .args .page)) (start .args .u)
+    (sym (is-formed .ensures) ∙ not-false (is-formed .result) (if1 .left)) (count .result) (count .ensures .0)
+    (sym (is-used .ensures) ∙ not-false (is-used .result) (if2 .left))
+    (sym (is-formed2 .ensures) ∙ not-true (is-formed2 .result) (c .before .if3 .taken))
 
 by-name-requires : tie.Need-by-name-requires
 by-name-requires c κs =
@@ -78,7 +83,9 @@ written-requires c κs =
     let is-used = c .before .before .before .before .is-used in
     let if2 = c .before .before .before .if2 in
     let is-formed2 = c .before .before .is-formed2 in
-    sorted-writable (now (start .args .page)) (start .args .u) (sym (is-formed .ensures) ∙ not-false (is-formed .result) (if1 .left)) (count .result) (count .ensures .0) (sym (is-used .ensures) ∙ not-false (is-used .result) (if2 .left)) (sym (is-formed2 .ensures) ∙ not-false (is-formed2 .result) (c .before .if3 .left)) (c .by-name .result) (c .by-name .ensures)
+    sorted-writable (now (start .args .page)) (start .args .u) (sym (is-formed .ensures) ∙ not-false (is-formed .result) (if1 .left)) (count .result)
+    (count .ensures .0) (sym (is-used .ensures) ∙ not-false (is-used .result) (if2 .left))
+    (sym (is-formed2 .ensures) ∙ not-false (is-formed2 .result) (c .before .if3 .left)) (c .by-name .result) (c .by-name .ensures)
 
 returns-4 : tie.Need-returns-4
 returns-4 c =
@@ -91,7 +98,9 @@ returns-4 c =
     let is-formed2 = c .before .before .before .is-formed2 in
     let if3 = c .before .before .if3 in
     let by-name = c .before .by-name in
-    c .written .ensures ∙ text-given (now (start .args .page)) (start .args .u) (sym (is-formed .ensures) ∙ not-false (is-formed .result) (if1 .left)) (count .result) (count .ensures .0) (sym (is-used .ensures) ∙ not-false (is-used .result) (if2 .left)) (sym (is-formed2 .ensures) ∙ not-false (is-formed2 .result) (if3 .left)) (by-name .result) (by-name .ensures)
+    c .written .ensures ∙ text-given (now (start .args .page)) (start .args .u) (sym (is-formed .ensures) ∙ not-false (is-formed .result) (if1 .left))
+    (count .result) (count .ensures .0) (sym (is-used .ensures) ∙ not-false (is-used .result) (if2 .left))
+    (sym (is-formed2 .ensures) ∙ not-false (is-formed2 .result) (if3 .left)) (by-name .result) (by-name .ensures)
 
 pub unit-text-spec : {M : Type 1} → statement M
 unit-text-spec =

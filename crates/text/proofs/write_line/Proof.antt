@@ -35,7 +35,8 @@ returns c =
     let if1 = c .before .before .before .before .before .before .before .before .before .if1 in
     let push = c .before .before .before .before .before .before .push in
     let write-side2 = c .before .before .write-side2 in
-    line-one (now (start .args .page)) (start .args .v) (start .pre .0) (now (start .args .out)) (start .pre .1) _ _ (write-side .ensures) _ _ _ _ (if1 .taken) (push .ensures) (write-side2 .ensures)
+    line-one (now (start .args .page)) (start .args .v) (start .pre .0) (now (start .args .out)) (start .pre .1) _ _ (write-side .ensures) _ _ _ _
+    (if1 .taken) (push .ensures) (write-side2 .ensures)
 
 write-side-requires-3 : tie.Need-write-side-requires-3
 write-side-requires-3 c κs =
@@ -52,7 +53,8 @@ returns-2 c =
     let write-side = c .before .before .before .before .before .before .before .write-side in
     let if1 = c .before .before .before .before .if1 in
     let write-side3 = c .before .before .write-side3 in
-    line-more (now (start .args .page)) (start .args .v) (start .pre .0) (now (start .args .out)) (start .pre .1) _ _ (write-side .ensures) _ _ (if1 .left) (write-side3 .ensures)
+    line-more (now (start .args .page)) (start .args .v) (start .pre .0) (now (start .args .out)) (start .pre .1) _ _ (write-side .ensures) _ _
+    (if1 .left) (write-side3 .ensures)
 
 pub write-line-spec : {M : Type 1} → statement M
 write-line-spec =

@@ -43,7 +43,8 @@ returns-2 c =
     let push2 = c .before .before .before .before .before .before .push2 in
     let decimal = c .before .before .decimal in
     let z = decimal-short (start .args .n) (omega (arith, start .pre .1)) in
-    power-more (now (start .args .name)) (start .args .n) (now (start .args .out)) (start .args .at) _ _ (push .ensures) _ _ _ _ (if1 .left) (omega (arith, start .pre .0, start .pre .2)) (push2 .ensures) (decimal .ensures)
+    power-more (now (start .args .name)) (start .args .n) (now (start .args .out)) (start .args .at) _ _ (push .ensures) _ _ _ _ (if1 .left)
+    (omega (arith, start .pre .0, start .pre .2)) (push2 .ensures) (decimal .ensures)
 
 pub write-power-spec : {M : Type 1} → statement M
 write-power-spec =

@@ -28,7 +28,8 @@ on-is c =
 loop-holds : tie.Need-loop-holds Inv-loop μ-loop
 loop-holds c =
     let g = c .before .before in
-    writing-start (now (g .args .page)) (g .args .above) (placesOf (g .args .t4)) (now (g .args .out)) (g .args .start) (g .pre .1) (record { used = g .pre .0 .used; inside = g .pre .0 .inside })
+    writing-start (now (g .args .page)) (g .args .above) (placesOf (g .args .t4)) (now (g .args .out)) (g .args .start) (g .pre .1)
+    (record { used = g .pre .0 .used; inside = g .pre .0 .inside })
 
 mul-e : tie.Need-mul-e Inv-loop μ-loop
 mul-e c = search needs
@@ -73,7 +74,8 @@ size-requires c κs =
     let e = c .before .before .before .before .before .before .before .before .before .before .e in
     let g = start .args in
     let l = loop in
-    rw (back (expAt (placesOf (g .t4)) (l .i)) (e .given)) (here-inside (now (g .page)) (g .above) (placesOf (g .t4)) (now (g .out)) (g .start) (l .out) (l .at) (l .i) (l .inv) (loop-test .taken))
+    rw (back (expAt (placesOf (g .t4)) (l .i)) (e .given))
+    (here-inside (now (g .page)) (g .above) (placesOf (g .t4)) (now (g .out)) (g .start) (l .out) (l .at) (l .i) (l .inv) (loop-test .taken))
 
 write-power-requires : tie.Need-write-power-requires Inv-loop μ-loop
 write-power-requires c κs =
@@ -110,7 +112,9 @@ loop-again c =
     let write-power = c .before .before .write-power in
     let g = start .args in
     let l = loop in
-    writing-on (now (g .page)) (g .above) (placesOf (g .t4)) (now (g .out)) (g .start) (l .out) (l .at) (l .i) (l .inv) (loop-test .taken) (sym (on-is (c .before .before .before .before .before .before .before .before .before .before .before .before .before)) ∙ if1 .taken) (start .pre .0 .form) _ _ _ _
+    writing-on (now (g .page)) (g .above) (placesOf (g .t4)) (now (g .out)) (g .start) (l .out) (l .at) (l .i) (l .inv) (loop-test .taken)
+    (sym (on-is (c .before .before .before .before .before .before .before .before .before .before .before .before .before)) ∙ if1 .taken)
+    (start .pre .0 .form) _ _ _ _
     (write-separator .ensures (l .inv .text) (l .inv .wrote .0))
     (rw (name-of .ensures .0, symbol-index .ensures .0, size .ensures .0, back (expAt (placesOf (g .t4)) (l .i)) (e .given)) at (write-power .ensures))
 
@@ -127,7 +131,8 @@ loop-again-2 c =
     let loop-test = c .before .before .before .loop-test in
     let g = start .args in
     let l = loop in
-    writing-off (now (g .page)) (g .above) (placesOf (g .t4)) (now (g .out)) (g .start) (l .out) (l .at) (l .i) (l .inv) (loop-test .taken) (sym (on-is (c .before)) ∙ c .if1 .left)
+    writing-off (now (g .page)) (g .above) (placesOf (g .t4)) (now (g .out)) (g .start) (l .out) (l .at) (l .i) (l .inv) (loop-test .taken)
+    (sym (on-is (c .before)) ∙ c .if1 .left)
 
 same-length : tie.Need-same-length Inv-loop μ-loop
 same-length c =

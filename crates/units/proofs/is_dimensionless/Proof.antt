@@ -26,14 +26,16 @@ returns-3 c =
     let start = c .before .before .before .before .before .before in
     let if1 = c .before .before .before .before .if1 in
     let is-formed = c .before .before .is-formed in
-    empty-unitless (start .args .m) (not-false (start .args .m .some) (if1 .left)) (sym (is-formed .ensures) ∙ not-false (is-formed .result) (c .before .if2 .left)) (c .if3 .taken)
+    empty-unitless (start .args .m) (not-false (start .args .m .some) (if1 .left))
+    (sym (is-formed .ensures) ∙ not-false (is-formed .result) (c .before .if2 .left)) (c .if3 .taken)
 
 returns-4 : tie.Need-returns-4
 returns-4 c =
     let start = c .before .before .before .before .before .before in
     let if1 = c .before .before .before .before .if1 in
     let is-formed = c .before .before .is-formed in
-    some-unit (start .args .m) (not-false (start .args .m .some) (if1 .left)) (sym (is-formed .ensures) ∙ not-false (is-formed .result) (c .before .if2 .left)) (c .if3 .left)
+    some-unit (start .args .m) (not-false (start .args .m .some) (if1 .left))
+    (sym (is-formed .ensures) ∙ not-false (is-formed .result) (c .before .if2 .left)) (c .if3 .left)
 
 pub is-dimensionless-spec : {M : Type 1} → statement M
 is-dimensionless-spec =

@@ -88,7 +88,8 @@ returns-4 c =
     let l = loop in
     let h : Fits w8 (symAt u (l .i)) = search needs in
     let b : symAt u (l .i) < namesMax = omega arith in
-    judged-outside placesMax namesMax u (l .lo) (l .i) (l .inv) (loop-test .taken) (if2 .left) b (sym (zero-is (c .before .before .before)) ∙ if3 .left) (sym (wide-is (c .before)) ∙ c .if4 .taken)
+    judged-outside placesMax namesMax u (l .lo) (l .i) (l .inv) (loop-test .taken) (if2 .left) b
+    (sym (zero-is (c .before .before .before)) ∙ if3 .left) (sym (wide-is (c .before)) ∙ c .if4 .taken)
 
 add-lo : tie.Need-add-lo Inv-loop μ-loop
 add-lo c =
@@ -116,7 +117,8 @@ loop-again c =
     let l = loop in
     let h : Fits w8 (symAt u (l .i)) = search needs in
     let b : symAt u (l .i) < namesMax = omega arith in
-    judging-next placesMax namesMax u (l .lo) (l .i) (l .inv) (loop-test .taken) (if2 .left) b (sym (zero-is (c .before .before .before)) ∙ if3 .left) (sym (wide-is (c .before)) ∙ c .if4 .left)
+    judging-next placesMax namesMax u (l .lo) (l .i) (l .inv) (loop-test .taken) (if2 .left) b (sym (zero-is (c .before .before .before)) ∙ if3 .left)
+    (sym (wide-is (c .before)) ∙ c .if4 .left)
 
 returns-5 : tie.Need-returns-5 Inv-loop μ-loop
 returns-5 c =

@@ -27,7 +27,8 @@ empty-sum-requires c κs = search needs
 loop-holds : tie.Need-loop-holds Inv-loop μ-loop
 loop-holds c =
     let start = c .before in
-    stand-start kind placesMax (start .args .quotient) (placesOf (start .args .t1)) (placesOf (start .args .t2)) namesMax (c .empty-sum .result) (c .empty-sum .ensures) (start .pre .0) (start .pre .1)
+    stand-start kind placesMax (start .args .quotient) (placesOf (start .args .t1)) (placesOf (start .args .t2)) namesMax (c .empty-sum .result)
+    (c .empty-sum .ensures) (start .pre .0) (start .pre .1)
 
 element-copy-out-s : tie.Need-element-copy-out-s Inv-loop μ-loop
 element-copy-out-s c = search needs

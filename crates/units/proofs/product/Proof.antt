@@ -39,7 +39,8 @@ returns-2 c =
     let if1 = c .before .before .before .if1 in
     let is-formed2 = c .before .before .is-formed2 in
     let g = start .args in
-    c .no-product2 .ensures ∙ product-right (g .quotient) (g .a) (g .b) (sym (is-formed .ensures) ∙ not-false (is-formed .result) (if1 .left)) (sym (is-formed2 .ensures) ∙ not-true (is-formed2 .result) (c .before .if2 .taken))
+    c .no-product2 .ensures ∙ product-right (g .quotient) (g .a) (g .b) (sym (is-formed .ensures) ∙ not-false (is-formed .result) (if1 .left))
+    (sym (is-formed2 .ensures) ∙ not-true (is-formed2 .result) (c .before .if2 .taken))
 
 merged-requires : tie.Need-merged-requires
 merged-requires c κs =
@@ -60,7 +61,9 @@ returns-3 c =
     let if2 = c .before .before .before .if2 in
     let merged = c .before .before .merged in
     let g = start .args in
-    c .no-product3 .ensures ∙ product-large (g .quotient) (g .a) (g .b) (sym (is-formed .ensures) ∙ not-false (is-formed .result) (if1 .left)) (sym (is-formed2 .ensures) ∙ not-false (is-formed2 .result) (if2 .left)) (ap (λ (w : Sum). w .wide) (sym (merged .ensures)) ∙ c .before .if3 .taken)
+    c .no-product3 .ensures ∙ product-large (g .quotient) (g .a) (g .b) (sym (is-formed .ensures) ∙ not-false (is-formed .result) (if1 .left))
+    (sym (is-formed2 .ensures) ∙ not-false (is-formed2 .result) (if2 .left))
+    (ap (λ (w : Sum). w .wide) (sym (merged .ensures)) ∙ c .before .if3 .taken)
 
 no-product-requires-4 : tie.Need-no-product-requires-4
 no-product-requires-4 c κs = search needs
@@ -75,7 +78,9 @@ returns-4 c =
     let merged = c .before .before .before .merged in
     let if3 = c .before .before .if3 in
     let g = start .args in
-    c .no-product4 .ensures ∙ product-many (g .quotient) (g .a) (g .b) (sym (is-formed .ensures) ∙ not-false (is-formed .result) (if1 .left)) (sym (is-formed2 .ensures) ∙ not-false (is-formed2 .result) (if2 .left)) (ap (λ (w : Sum). w .wide) (sym (merged .ensures)) ∙ if3 .left) (rw (merged .ensures) at (c .before .if4 .taken))
+    c .no-product4 .ensures ∙ product-many (g .quotient) (g .a) (g .b) (sym (is-formed .ensures) ∙ not-false (is-formed .result) (if1 .left))
+    (sym (is-formed2 .ensures) ∙ not-false (is-formed2 .result) (if2 .left)) (ap (λ (w : Sum). w .wide) (sym (merged .ensures)) ∙ if3 .left)
+    (rw (merged .ensures) at (c .before .if4 .taken))
 
 returns-5 : tie.Need-returns-5
 returns-5 c =
@@ -88,7 +93,9 @@ returns-5 c =
     let if3 = c .before .before .before .if3 in
     let if4 = c .before .before .if4 in
     let g = start .args in
-    ap result (merged .ensures) ∙ product-done (g .quotient) (g .a) (g .b) (sym (is-formed .ensures) ∙ not-false (is-formed .result) (if1 .left)) (sym (is-formed2 .ensures) ∙ not-false (is-formed2 .result) (if2 .left)) (ap (λ (w : Sum). w .wide) (sym (merged .ensures)) ∙ if3 .left) (rw (merged .ensures) at (if4 .left))
+    ap result (merged .ensures) ∙ product-done (g .quotient) (g .a) (g .b) (sym (is-formed .ensures) ∙ not-false (is-formed .result) (if1 .left))
+    (sym (is-formed2 .ensures) ∙ not-false (is-formed2 .result) (if2 .left)) (ap (λ (w : Sum). w .wide) (sym (merged .ensures)) ∙ if3 .left)
+    (rw (merged .ensures) at (if4 .left))
 
 pub product-spec : {M : Type 1} → statement M
 product-spec =
