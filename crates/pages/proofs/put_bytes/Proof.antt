@@ -16,31 +16,24 @@ Inv-loop page₀ at bytes i₀ page i = (i ≤ length bytes) × (page ≡ paste 
 abbrev μ-loop : tie.MeasureT-loop
 μ-loop page₀ at bytes i₀ page i = length bytes - i
 
--- src/lib.rt:183:5
 loop-holds : tie.Need-loop-holds Inv-loop μ-loop
 loop-holds c = (omega arith, paste-zero (now (c .args .page)) (c .args .at) (now (c .args .bytes)), refl)
 
--- src/lib.rt:184:24
 shared-slice-read-page : tie.Need-shared-slice-read-page Inv-loop μ-loop
 shared-slice-read-page c = search needs
 
--- src/lib.rt:184:14
 add-page : tie.Need-add-page Inv-loop μ-loop
 add-page c = search needs
 
--- src/lib.rt:184:9
 slice-write-page : tie.Need-slice-write-page Inv-loop μ-loop
 slice-write-page c = search needs
 
--- src/lib.rt:185:9
 add-i : tie.Need-add-i Inv-loop μ-loop
 add-i c = search needs
 
--- src/lib.rt:183:5
 loop-less : tie.Need-loop-less Inv-loop μ-loop
 loop-less c = search needs
 
--- src/lib.rt:183:5
 loop-again : tie.Need-loop-again Inv-loop μ-loop
 loop-again c =
     let start = c .before .before .before in
@@ -52,11 +45,9 @@ loop-again c =
       length-set (l .page) (a .at + l .i) (getD (now (a .bytes)) (l .i) 0) ∙ l .inv .2,
     )
 
--- src/lib.rt:178:1
 same-length : tie.Need-same-length Inv-loop μ-loop
 same-length c = search needs
 
--- src/lib.rt:178:1
 returns : tie.Need-returns Inv-loop μ-loop
 returns c =
     let start = c .before .before in

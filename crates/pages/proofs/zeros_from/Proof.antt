@@ -16,37 +16,30 @@ Inv-loop page at i₀ i = (i ≤ length page) × (zeros (drop at page) ≡ zeros
 abbrev μ-loop : tie.MeasureT-loop
 μ-loop page at i₀ i = length page - i
 
--- src/lib.rt:83:5
 loop-holds : tie.Need-loop-holds Inv-loop μ-loop
 loop-holds c = (omega arith, refl)
 
--- src/lib.rt:84:12
 shared-slice-read-if1 : tie.Need-shared-slice-read-if1 Inv-loop μ-loop
 shared-slice-read-if1 c = search needs
 
--- src/lib.rt:85:13
 returns : tie.Need-returns Inv-loop μ-loop
 returns c =
     let start = c .before .before .before .before in
     let loop = c .before .before .before .loop in
     sym (loop .inv .1 ∙ zeros-off (now (start .args .page)) (loop .i) (omega arith) (c .if1 .taken))
 
--- src/lib.rt:87:9
 add-i : tie.Need-add-i Inv-loop μ-loop
 add-i c = search needs
 
--- src/lib.rt:83:5
 loop-less : tie.Need-loop-less Inv-loop μ-loop
 loop-less c = search needs
 
--- src/lib.rt:83:5
 loop-again : tie.Need-loop-again Inv-loop μ-loop
 loop-again c =
     let start = c .before .before .before .before in
     let loop = c .before .before .before .loop in
     (omega arith, loop .inv .1 ∙ zeros-on (now (start .args .page)) (loop .i) (omega arith) (c .if1 .left))
 
--- src/lib.rt:78:1
 returns-2 : tie.Need-returns-2 Inv-loop μ-loop
 returns-2 c =
     let start = c .before .before in
