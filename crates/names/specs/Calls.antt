@@ -92,10 +92,10 @@ abbrev pub noName : Refusal → Name
 noName r = record { verdict = Refused r; size = 0; bytes = pad nameMax 0 [] }
 
 -- a name, or none beside the refusal
-abbrev pub named : Verdict → List ℕ → Name
-named Passed name = nameOf name
-named (Refused r) name = noName r
+abbrev pub givenName : Verdict → List ℕ → Name
+givenName Passed name = nameOf name
+givenName (Refused r) name = noName r
 
 -- the name with number k
 unfoldable pub readAnswer : List ℕ → ℕ → Name
-readAnswer page k = named (readVerdict page k) (nameAt page k)
+readAnswer page k = givenName (readVerdict page k) (nameAt page k)
