@@ -10,6 +10,7 @@ use lib.IntN.{ℤ, _+ℤ_, +ℤ-assoc, +ℤ-comm, +ℤ-idl, +ℤ-idr}
 use borrow.Author.Tests.{ltb-true, eqb-true, le-ltb, eq-eqb, ne-eqb}
 use Rattle.names.specs.Table.{nameAt}
 use Rattle.units.specs.Unit.{Term, part, exponent}
+use Rattle.units.proofs.Si.{swap}
 use Rattle.order.specs.Order.{comes, place, placed, byName}
 
 -- ---- in order
@@ -67,9 +68,6 @@ module _ (page : List ℕ) where
   by-name-ascends xs = placed-ascends [] xs ascends-none
 
   -- ---- the same unit
-
-  swap : (a b c : ℤ) → a +ℤ (b +ℤ c) ≡ b +ℤ (a +ℤ c)
-  swap a b c = sym (+ℤ-assoc a b c) ∙ ap (λ z. z +ℤ c) (+ℤ-comm a b) ∙ +ℤ-assoc b a c
 
   place-exponent : (s : ℕ) (x : Term) (ys : List Term) → exponent s (place page x ys) ≡ part s x +ℤ exponent s ys
   unfolding place

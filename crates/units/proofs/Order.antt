@@ -75,7 +75,7 @@ ordered-asc d n lo (x ∷ xs) h =
     let o = ordered-parts n lo x xs h in
     asc-more (o .low) (ap (λ n. eqb n 0) (abs-turn d (x .exp)) ∙ o .nonzero) (ordered-asc d n (suc (x .symbol)) xs (o .rest))
 
-or-both : (b c : Bool) → b || c ≡ false → (b ≡ false) × (c ≡ false)
+pub or-both : (b c : Bool) → b || c ≡ false → (b ≡ false) × (c ≡ false)
 or-both true c h = absurd (subst T h tt)
 or-both false c h = (refl, h)
 

@@ -21,7 +21,7 @@ use Rattle.units.proofs.Order.{Asc, asc-none, asc-more, head-low, head-
 
 -- ---- sums of integers
 
-swap : (a b c : ℤ) → a +ℤ (b +ℤ c) ≡ b +ℤ (a +ℤ c)
+pub swap : (a b c : ℤ) → a +ℤ (b +ℤ c) ≡ b +ℤ (a +ℤ c)
 swap a b c = sym (+ℤ-assoc a b c) ∙ ap (λ z. z +ℤ c) (+ℤ-comm a b) ∙ +ℤ-assoc b a c
 
 four : (a b c d : ℤ) → (a +ℤ b) +ℤ (c +ℤ d) ≡ (a +ℤ c) +ℤ (b +ℤ d)

@@ -1,11 +1,10 @@
 -- A unit's bytes say the unit: reading what was written gives the same terms (`written-read`). Assumes nothing.
-use mathlib.Core.Path.{_≡_, refl, sym, ap, ap₂, subst, _∙_}
-use mathlib.Core.Bool.{Bool, true, false, _||_}
+use mathlib.Core.Path.{_≡_, refl, sym, ap, ap₂, _∙_}
+use mathlib.Core.Bool.{false}
 use mathlib.Core.List.{List, [], _∷_}
 use Prim.Native.Nat.{ℕ, _+_, _-_, _/_, _%_}
 use native.Mathlib.Nat.{div-add-mod'}
 use native.Mathlib.Omega.{arith}
-use lib.Dec.{T}
 use lib.ListN.{length, getD, drop}
 use lib.Seq.{drop-drop, getD-drop}
 use lib.IntN.{ℤ, pos, negsuc}
@@ -14,6 +13,7 @@ use Rattle.pages.specs.Bytes.{wordAt}
 use Rattle.units.specs.Unit.{Term, outside}
 use Rattle.units.specs.Product.{anyOutside}
 use Rattle.units.proofs.Signed.{small}
+use Rattle.units.proofs.Order.{or-both}
 use Rattle.values.specs.Value.{termBytes, signedOf, termsAt, rawOf, bytesIn, unitBytes}
 
 -- an exponent within its limits comes back from its sixteen bits
@@ -22,10 +22,6 @@ signed-raw (pos n) h = let k = small (pos n) h in rw (lt-ltb n 32768 (omega arit
 signed-raw (negsuc n) h =
     let k = small (negsuc n) h in
     rw (le-ltb (65535 - n) 32768 (omega arith)) (ap negsuc (omega arith))
-
-or-both : (b c : Bool) → b || c ≡ false → (b ≡ false) × (c ≡ false)
-or-both true c h = absurd (subst T h tt)
-or-both false c h = (refl, h)
 
 byte-at : (bytes : List ℕ) (at k : ℕ) (l : List ℕ) → drop at bytes ≡ l → getD bytes (at + k) 0 ≡ getD l k 0
 byte-at bytes at k l e = sym (getD-drop at bytes k 0) ∙ ap (λ t. getD t k 0) e
