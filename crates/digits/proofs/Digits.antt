@@ -6,7 +6,7 @@ use native.Mathlib.Decide.{decLt}
 use native.Mathlib.Omega.{arith}
 use lib.ListN.{length}
 use borrow.Author.Tests.{lt-ltb, le-ltb}
-use Rattle.digits.specs.Decimal.{digitsMax, decimalMax, digitOf, digits, decimalOf}
+use Rattle.digits.specs.Decimal.{decimalMax, digitOf, digits, decimalOf}
 
 -- ---- by how many digits there is room for
 
@@ -71,12 +71,4 @@ module _ (n : ℕ) where
             | no d ↦ rw (← decimal-4 (omega arith) h) (omega arith)
           ]
         ]
-      ]
-
-  -- and any number five
-  pub decimal-fits : n < decimalMax → length (decimalOf n) ≤ digitsMax
-  decimal-fits h =
-      elim (decLt n 10000) [
-        | yes a ↦ let z = decimal-short a in omega arith
-        | no a ↦ rw (← decimal-5 (omega arith) h) (omega arith)
       ]
