@@ -25,7 +25,7 @@ pub eqs-end : (l m : List ℕ) (i : ℕ) → length l ≤ i → length m ≤ i �
 unfolding eqs
 eqs-end l m i hl hm = rw (drop-of-length-le l hl, drop-of-length-le m hm)
 
-and-false : (a : Bool) → (a && false) ≡ false
+pub and-false : (a : Bool) → (a && false) ≡ false
 and-false true = refl
 and-false false = refl
 

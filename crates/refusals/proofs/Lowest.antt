@@ -1,7 +1,7 @@
 -- The lowest refusal of a list of conditions, found from the front: a condition that does not hold falls away by
 -- computation, and one that holds and has no lower number behind it is the verdict. Assumes nothing.
 use mathlib.Core.Path.{_≡_, refl}
-use mathlib.Core.Bool.{Bool, true, false, cond, _&&_}
+use mathlib.Core.Bool.{Bool, true, false, cond, _&&_, and-eq-true-iff}
 use mathlib.Core.List.{List, [], _∷_}
 use Prim.Native.Nat.{ℕ}
 use native.Mathlib.Omega.{arith}
@@ -17,10 +17,6 @@ abbrev pub above : Refusal → List Condition → Bool
 above r [] = true
 above r ((s when b) ∷ cs) = leb (numberOf r) (numberOf s) && above r cs
 
-and-both : (a b : Bool) → (a && b) ≡ true → (a ≡ true) × (b ≡ true)
-and-both true b h = (refl, h)
-and-both false b h = absurd (let z : _≡_ {A = ℕ} 0 1 = cc in omega arith)
-
 -- one more verdict behind r, which is no lower
 lower-more : (r s : Refusal) (v : Verdict) → leb (numberOf r) (numberOf s) ≡ true → lower r v ≡ Refused r → lower r (lower s v) ≡ Refused r
 lower-more r s Passed h e = rw h
@@ -33,7 +29,7 @@ lower-more r s (Refused t) h e = go (leb (numberOf s) (numberOf t))
 pub first-holds : (r : Refusal) (cs : List Condition) → above r cs ≡ true → lower r (lowest cs) ≡ Refused r
 first-holds r [] h = refl
 first-holds r ((s when b) ∷ cs) h =
-    let k = and-both (leb (numberOf r) (numberOf s)) (above r cs) h in
+    let k = and-eq-true-iff (leb (numberOf r) (numberOf s)) (above r cs) .0 h in
     go b (k .0) (first-holds r cs (k .1))
   where
     go : (b : Bool) → leb (numberOf r) (numberOf s) ≡ true → lower r (lowest cs) ≡ Refused r → lower r (cond b (lower s (lowest cs)) (lowest cs)) ≡ Refused r

@@ -12,7 +12,7 @@ use Rattle.units.specs.Product.{anyOutside}
 use Rattle.units.proofs.Form.{ordered-parts}
 use Rattle.order.specs.Order.{comes, place, placed, byName, inUse}
 use Rattle.order.proofs.Order.{place-length, place-in-use, in-use-head, in-use-tail}
-use Rattle.text.proofs.Sides.{or-false}
+use Rattle.units.proofs.Order.{or-both}
 
 module _ (page : List ℕ) where
   placed-length : (done xs : List Term) → length (placed page done xs) ≡ length done + length xs
@@ -36,7 +36,7 @@ module _ (page : List ℕ) where
   unfolding place
   place-inside x [] l h = rw l
   place-inside x (y ∷ ys) l h =
-      let z = or-false (outside (y .exp)) (anyOutside ys) h in
+      let z = or-both (outside (y .exp)) (anyOutside ys) h in
       go (comes (nameAt page (x .symbol)) (nameAt page (y .symbol))) (z .0) (place-inside x ys l (z .1))
     where
       go : (b : Bool) → outside (y .exp) ≡ false → anyOutside (place page x ys) ≡ false → anyOutside (cond b (x ∷ y ∷ ys) (y ∷ place page x ys)) ≡ false
@@ -47,7 +47,7 @@ module _ (page : List ℕ) where
   unfolding placed
   placed-inside done [] d h = d
   placed-inside done (x ∷ xs) d h =
-      let z = or-false (outside (x .exp)) (anyOutside xs) h in
+      let z = or-both (outside (x .exp)) (anyOutside xs) h in
       placed-inside (place page x done) xs (place-inside x done (z .0) d) (z .1)
 
   pub by-name-inside : (xs : List Term) → anyOutside xs ≡ false → anyOutside (byName page xs) ≡ false

@@ -1,6 +1,6 @@
 -- One side of the line: how long it can be, and the writing of it, one term after another. Assumes nothing.
 use mathlib.Core.Path.{_≡_, refl, sym, _∙_, ap}
-use mathlib.Core.Bool.{Bool, true, false, cond, _||_}
+use mathlib.Core.Bool.{Bool, true, false, cond}
 use mathlib.Core.List.{List, [], _∷_, _++_}
 use Prim.Native.Nat.{ℕ, _+_, _*_, _≤_, _<_}
 use native.Mathlib.Omega.{arith}
@@ -12,6 +12,7 @@ use Rattle.names.specs.Table.{nameAt, formed}
 use Rattle.names.proofs.Calls.{form, name-small, in-use-named}
 use Rattle.units.specs.Unit.{Term, term, outside}
 use Rattle.units.specs.Product.{anyOutside}
+use Rattle.units.proofs.Order.{or-both}
 use Rattle.units.proofs.Signed.{small}
 use Rattle.units.proofs.Form.{Places, symAt, expAt, termsFrom, termsIn, from-start, from-step, from-end}
 use Rattle.order.specs.Order.{inUse}
@@ -23,10 +24,6 @@ use Rattle.text.proofs.Power.{power-short, separator-short}
 
 -- ---- terms that can be written, taken apart
 
-pub or-false : (a b : Bool) → a || b ≡ false → (a ≡ false) × (b ≡ false)
-or-false true b h = absurd (let z : _≡_ {A = ℕ} 0 1 = cc in omega arith)
-or-false false b h = (refl, h)
-
 -- every symbol is the number of a name, and every exponent is within its limits
 pub record Sound (page : List ℕ) (xs : List Term) : Type 0 where
   pub used : inUse (countOf page) xs ≡ true
@@ -37,10 +34,10 @@ module _ (page : List ℕ) (x : Term) (xs : List Term) (s : Sound page (x ∷ xs
   first-used = in-use-head (countOf page) x xs (s .used)
 
   pub first-inside : outside (x .exp) ≡ false
-  first-inside = or-false (outside (x .exp)) (anyOutside xs) (s .inside) .0
+  first-inside = or-both (outside (x .exp)) (anyOutside xs) (s .inside) .0
 
   pub rest-sound : Sound page xs
-  rest-sound = record { used = in-use-tail (countOf page) x xs (s .used); inside = or-false (outside (x .exp)) (anyOutside xs) (s .inside) .1 }
+  rest-sound = record { used = in-use-tail (countOf page) x xs (s .used); inside = or-both (outside (x .exp)) (anyOutside xs) (s .inside) .1 }
 
 -- ---- the text of a side
 

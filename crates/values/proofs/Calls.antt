@@ -1,6 +1,6 @@
 -- What reading a value comes to, one law for each return. Assumes nothing.
-use mathlib.Core.Path.{_≡_, refl}
-use mathlib.Core.Bool.{Bool, true, false, _&&_}
+use mathlib.Core.Path.{_≡_}
+use mathlib.Core.Bool.{true, false}
 use mathlib.Core.List.{List, []}
 use Prim.Native.Nat.{ℕ, _+_, _*_, _≤_, _<_}
 use native.Mathlib.Omega.{arith}
@@ -10,6 +10,7 @@ use borrow.Author.Tests.{le-leb, lt-leb, eq-eqb, ne-eqb}
 use Rattle.refusals.specs.declared.Refusal.the-variants.{BadUnit}
 use Rattle.refusals.specs.declared.Verdict.{Verdict}
 use Rattle.refusals.specs.declared.Verdict.the-variants.{Passed, Refused}
+use Rattle.pages.proofs.Bytes.{and-false}
 use Rattle.units.specs.Unit.{placesMax}
 use Rattle.units.specs.Calls.{unitOf}
 use Rattle.values.specs.Value.{noneCount, termBytes, termsAt, isNone, isSome, valueVerdict, unitIn, valueIn}
@@ -18,10 +19,6 @@ use Rattle.values.specs.declared.Value.{Value}
 -- no unit, with a verdict
 abbrev pub noneWith : Verdict → Value
 noneWith v = record { verdict = v; unit = record { some = false; unit = unitOf [] } }
-
-and-off : (b : Bool) → (b && false) ≡ false
-and-off true = refl
-and-off false = refl
 
 module _ (bytes : List ℕ) where
   neither : isNone bytes ≡ false → isSome bytes ≡ false → noneWith (Refused BadUnit) ≡ valueIn bytes
@@ -34,7 +31,7 @@ module _ (bytes : List ℕ) where
   module _ (h : 1 ≤ length bytes) (n : ℕ) (e : n ≡ getD bytes 0 0) where
     module _ (few : n ≤ placesMax) where
       not-none : isNone bytes ≡ false
-      not-none = rw (← e, ne-eqb n noneCount (λ q. omega arith)) (and-off (eqb (length bytes) 1))
+      not-none = rw (← e, ne-eqb n noneCount (λ q. omega arith)) (and-false (eqb (length bytes) 1))
 
       pub read-some : length bytes ≡ 1 + termBytes * n → _≡_ {A = Value} (record { verdict = Passed; unit = record { some = true; unit = unitOf (termsAt bytes n 1) } }) (valueIn bytes)
       unfolding valueVerdict unitIn
@@ -50,7 +47,7 @@ module _ (bytes : List ℕ) where
       not-some = rw (le-leb 1 (length bytes) h, ← e, lt-leb n placesMax many)
 
       pub read-many : (n ≡ noneCount → ⊥) → noneWith (Refused BadUnit) ≡ valueIn bytes
-      read-many o = neither (rw (← e, ne-eqb n noneCount o) (and-off (eqb (length bytes) 1))) not-some
+      read-many o = neither (rw (← e, ne-eqb n noneCount o) (and-false (eqb (length bytes) 1))) not-some
 
       pub read-long : (length bytes ≡ 1 → ⊥) → noneWith (Refused BadUnit) ≡ valueIn bytes
       read-long l = neither (rw (ne-eqb (length bytes) 1 l)) not-some
