@@ -3,11 +3,12 @@ use mathlib.Core.Path.{_≡_, refl, sym, _∙_, ap}
 use mathlib.Core.Bool.{Bool, true, false, _&&_, not, cond}
 use mathlib.Core.List.{List, [], _∷_}
 use Prim.Native.Nat.{ℕ, zero, suc, _+_, _<_, _≤_}
+use native.Mathlib.Nat.{le-refl}
 use native.Mathlib.Omega.{arith}
 use lib.ListN.{length, drop, set, replicate}
 use lib.Seq.{paste-zero}
 use lib.Dec.{leb}
-use borrow.Author.Tests.{le-leb, lt-leb, lt-ltb, le-ltb, leb-true}
+use borrow.Author.Tests.{le-leb, lt-leb, lt-ltb, le-ltb, leb-true, not-false}
 use Rattle.refusals.specs.declared.Refusal.{Refusal}
 use Rattle.refusals.specs.declared.Refusal.the-variants.{Broken, Unused, Malformed, Full}
 use Rattle.refusals.specs.declared.Verdict.the-variants.{Passed, Refused}
@@ -18,7 +19,7 @@ use Rattle.pages.specs.Bytes.{zeros, countBytes, countOf, bytesOf, put}
 use Rattle.pages.proofs.Quant.{all-at, and-true}
 use Rattle.pages.proofs.Put.{put-cons, put-length}
 use Rattle.names.specs.Table.{namesMax, nameMax, wellNamed, offset, nameAt, numberOf, goodAt, formed}
-use Rattle.names.specs.Calls.{emptyVerdict, emptyPage, isKnown, roomy, withName, addVerdict, addAnswer, pageAfter, findVerdict, findAnswer, readVerdict, readAnswer, nameOf, noName}
+use Rattle.names.specs.Calls.{lentBroken, usedOf, emptyVerdict, emptyPage, isKnown, roomy, withName, addVerdict, addAnswer, pageAfter, findVerdict, findAnswer, readVerdict, readAnswer, nameOf, noName}
 use Rattle.names.specs.declared.Added.{Added}
 use Rattle.names.specs.declared.Found.{Found}
 
@@ -63,6 +64,32 @@ pub in-use-named : (page : List ℕ) → Form page → (k : ℕ) → k < countOf
 in-use-named page f k h = good-named page k (all-at (goodAt page) (countOf page) k (f .each) h)
 
 -- ---- making a table
+
+-- ---- names that are lent or not
+
+module _ (names : List ℕ) (lent : Bool) where
+  pub broken-lent : lent ≡ true → not (formed names) ≡ lentBroken names lent
+  unfolding lentBroken
+  broken-lent e = rw e
+
+  pub broken-unlent : lent ≡ false → false ≡ lentBroken names lent
+  unfolding lentBroken
+  broken-unlent e = rw e
+
+  lent-formed : lent ≡ true → lentBroken names lent ≡ false → formed names ≡ true
+  unfolding lentBroken
+  lent-formed e h = not-false (formed names) (rw e at h)
+
+  pub lent-form : lent ≡ true → lentBroken names lent ≡ false → Form names
+  lent-form e h = form names (lent-formed e h)
+
+  pub used-lent : lent ≡ true → lentBroken names lent ≡ false → (n : ℕ) → n ≡ countOf names → (n ≡ usedOf names lent) × (n ≤ namesMax)
+  unfolding usedOf
+  used-lent e h n is = (rw e is, rw is (lent-form e h .few))
+
+  pub used-unlent : lent ≡ false → (namesMax ≡ usedOf names lent) × (namesMax ≤ namesMax)
+  unfolding usedOf
+  used-unlent e = (rw e, le-refl namesMax)
 
 module _ (page : List ℕ) where
   pub empty-short : length page < countBytes → (Refused Broken ≡ emptyVerdict page) × (page ≡ emptyPage page)

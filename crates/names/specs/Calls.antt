@@ -16,6 +16,16 @@ use Rattle.names.specs.declared.Added.{Added}
 use Rattle.names.specs.declared.Found.{Found}
 use Rattle.names.specs.declared.Name.{Name}
 
+-- ---- names that are lent or not: a page, beside a yes or a no
+
+-- does a names page that is lent break its form
+unfoldable pub lentBroken : List ℕ → Bool → Bool
+lentBroken names lent = lent && not (formed names)
+
+-- how many name numbers are in use: those of the lent table or, where none is lent, every number
+unfoldable pub usedOf : List ℕ → Bool → ℕ
+usedOf names lent = cond lent (countOf names) namesMax
+
 -- ---- making a table
 
 -- refused (2) is a page too short for the count, which cannot be a table; what else it holds does not matter yet

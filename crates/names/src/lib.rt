@@ -3,12 +3,12 @@ use pages::index;
 use refusals::Refusal;
 use refusals::Verdict;
 ghost use mathlib.Core.Path.{_≡_};
-ghost use mathlib.Core.Bool.{true};
+ghost use mathlib.Core.Bool.{true, false};
 ghost use Prim.Native.Nat.{_+_, _≤_, _<_};
 ghost use lib.ListN.{length};
 ghost use Rattle.pages.specs.Bytes.{countOf};
 ghost use Rattle.names.specs.Table.{digit, nameByte, wellNamed, namesMax, nameMax, offset, nameAt, numberOf, formed};
-ghost use Rattle.names.specs.Calls.{emptyVerdict, emptyPage, addAnswer, pageAfter, findAnswer, readAnswer, nameOf, noName};
+ghost use Rattle.names.specs.Calls.{lentBroken, usedOf, emptyVerdict, emptyPage, addAnswer, pageAfter, findAnswer, readAnswer, nameOf, noName};
 
 // A name's number, as units, pairs and types hold it.
 pub type Symbol = u8;
@@ -155,6 +155,27 @@ pub fn is_formed(page: &[u8]) -> bool
         }
     }
     pages::zeros_from(page, at)
+}
+
+// Whether a names page that is lent breaks its form. Where `lent` is false the page is not looked at.
+pub fn is_broken(names: &[u8], lent: bool) -> bool
+    ensures { λ r. ⌜ r ≡ lentBroken (now (names .entry)) lent ⌝ }
+{
+    if lent {
+        return !is_formed(names);
+    }
+    false
+}
+
+// How many name numbers are in use: those of the lent table (`is_broken` tests it) or, where none is lent, every number.
+pub fn in_use(names: &[u8], lent: bool) -> usize
+    requires { ⌜ lentBroken (now names) lent ≡ false ⌝ }
+    ensures { λ r. ⌜ (r ≡ usedOf (now (names .entry)) lent) × (r ≤ namesMax) ⌝ }
+{
+    if lent {
+        return pages::count(names);
+    }
+    NAMES
 }
 
 // Where the length byte of name n stands, or the first free byte where n names are all.

@@ -12,12 +12,13 @@ use lib.IntN.{pos}
 use borrow.Author.Tests.{ltb-true, lt-ltb}
 use Rattle.pages.proofs.Quant.{and-true}
 use Rattle.names.specs.Table.{nameAt}
-use Rattle.units.specs.Unit.{Term, term}
+use Rattle.units.specs.Unit.{Term, term, inUse}
 use Rattle.units.specs.Calls.{terms, termsOf, termsFrom, unitOf}
 use Rattle.units.specs.declared.Unit.{Unit}
 use Rattle.units.proofs.Form.{symAt, expAt, from-start, from-step, from-end}
 use Rattle.units.proofs.Held.{placesOf}
-use Rattle.order.specs.Order.{comes, place, placed, byName, inUse}
+use Rattle.units.proofs.Used.{in-use-head, in-use-tail, in-use-more}
+use Rattle.order.specs.Order.{comes, place, placed, byName}
 
 abbrev pub termAt : Unit → ℕ → Term
 termAt w i = term (symAt (placesOf w) i) (expAt (placesOf w) i)
@@ -129,14 +130,6 @@ place-length page x (y ∷ ys) = go (comes (nameAt page (x .symbol)) (nameAt pag
     go true h = refl
     go false h = ap suc h
 
-pub in-use-head : (n : ℕ) (x : Term) (xs : List Term) → inUse n (x ∷ xs) ≡ true → x .symbol < n
-unfolding inUse
-in-use-head n x xs h = ltb-true (x .symbol) n (and-true (ltb (x .symbol) n) (inUse n xs) h .0)
-
-pub in-use-tail : (n : ℕ) (x : Term) (xs : List Term) → inUse n (x ∷ xs) ≡ true → inUse n xs ≡ true
-unfolding inUse
-in-use-tail n x xs h = and-true (ltb (x .symbol) n) (inUse n xs) h .1
-
 -- each symbol of a unit whose symbols are in use
 pub in-use-at : (n : ℕ) (u : Unit) → inUse n (termsOf u) ≡ true → (i : ℕ) → i < u .count → symAt (placesOf u) i < n
 in-use-at n u h i l = rw (← zero-add i) (go (u .count) 0 h i l)
@@ -147,10 +140,6 @@ in-use-at n u h i l = rw (← zero-add i) (go (u .count) 0 h i l)
     go (suc k) j p (suc i) l =
         rw (add-suc j i, ← suc-add j i)
         (go k (suc j) (in-use-tail n (term (getD (u .symbols) j 0) (getD (u .exponents) j (pos 0))) (terms k (suc j) (u .symbols) (u .exponents)) p) i (le-of-suc-le-suc l))
-
-in-use-more : (n : ℕ) (x : Term) (xs : List Term) → x .symbol < n → inUse n xs ≡ true → inUse n (x ∷ xs) ≡ true
-unfolding inUse
-in-use-more n x xs l h = rw (lt-ltb (x .symbol) n l) h
 
 pub place-in-use : (n : ℕ) (page : List ℕ) (x : Term) (ys : List Term) → x .symbol < n → inUse n ys ≡ true → inUse n (place page x ys) ≡ true
 unfolding place

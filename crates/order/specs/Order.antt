@@ -1,5 +1,5 @@
 -- A unit's terms "in byte order of name" (document 01, "Units and pairs").
-use mathlib.Core.Bool.{Bool, true, false, cond, _&&_}
+use mathlib.Core.Bool.{Bool, true, false, cond}
 use mathlib.Core.List.{List, [], _∷_}
 use Prim.Native.Nat.{ℕ}
 use lib.Dec.{ltb, eqb}
@@ -26,8 +26,3 @@ placed names done (x ∷ xs) = placed names (place names x done) xs
 -- a unit's terms in byte order of their names
 abbrev pub byName : List ℕ → List Term → List Term
 byName names xs = placed names [] xs
-
--- is every symbol the number of one of n names
-unfoldable pub inUse : ℕ → List Term → Bool
-inUse n [] = true
-inUse n (x ∷ xs) = ltb (x .symbol) n && inUse n xs

@@ -10,9 +10,9 @@ ghost use mathlib.Core.List.{List, _++_};
 ghost use Prim.Native.Nat.{_+_, _≤_, _<_};
 ghost use Rattle.pages.specs.Bytes.{countOf};
 ghost use Rattle.names.specs.Table.{formed};
-ghost use Rattle.units.specs.Unit.{placesMax, Term, term};
+ghost use Rattle.units.specs.Unit.{placesMax, Term, term, inUse};
 ghost use Rattle.units.specs.Calls.{termsOf, unitOf, termsFrom};
-ghost use Rattle.order.specs.Order.{comes, place, byName, inUse};
+ghost use Rattle.order.specs.Order.{comes, place, byName};
 
 // Whether one name comes before another, byte by byte.
 fn is_before(a: &[u8], b: &[u8]) -> bool

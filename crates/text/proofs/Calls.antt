@@ -14,15 +14,15 @@ use Rattle.refusals.proofs.Lowest.{first-holds}
 use Rattle.pages.specs.Bytes.{countOf}
 use Rattle.names.specs.Table.{namesMax}
 use Rattle.names.specs.Table as names
-use Rattle.units.specs.Unit.{placesMax}
+use Rattle.units.specs.Unit.{placesMax, inUse}
 use Rattle.units.specs.Unit as units
-use Rattle.units.specs.Calls.{termsOf, unitOf}
+use Rattle.units.specs.Calls.{termsOf, present, unitOf}
 use Rattle.units.specs.declared.Unit.{Unit}
 use Rattle.units.proofs.Form.{length-terms, formed-count, formed-ordered}
 use Rattle.units.proofs.Held.{placesOf, terms-unit}
-use Rattle.order.specs.Order.{byName, inUse}
+use Rattle.order.specs.Order.{byName}
 use Rattle.text.specs.Text.{lineOf}
-use Rattle.text.specs.Calls.{present, Writable, textVerdict, textOf, noText, textAnswer}
+use Rattle.text.specs.Calls.{Writable, textVerdict, textOf, noText, textAnswer}
 use Rattle.text.proofs.Kept.{by-name-length, by-name-used, by-name-inside, ordered-inside}
 
 module _ (page : List ℕ) (u : Unit) where

@@ -7,12 +7,13 @@ use native.Mathlib.Nat.{zero-add}
 use native.Mathlib.Omega.{arith}
 use lib.ListN.{length}
 use Rattle.names.specs.Table.{nameAt}
-use Rattle.units.specs.Unit.{Term, outside, ordered}
+use Rattle.units.specs.Unit.{Term, outside, ordered, inUse}
 use Rattle.units.specs.Product.{anyOutside}
 use Rattle.units.proofs.Form.{ordered-parts}
-use Rattle.order.specs.Order.{comes, place, placed, byName, inUse}
-use Rattle.order.proofs.Order.{place-length, place-in-use, in-use-head, in-use-tail}
+use Rattle.order.specs.Order.{comes, place, placed, byName}
+use Rattle.order.proofs.Order.{place-length, place-in-use}
 use Rattle.units.proofs.Order.{or-both}
+use Rattle.units.proofs.Used.{in-use-head, in-use-tail}
 
 module _ (page : List ℕ) where
   placed-length : (done xs : List Term) → length (placed page done xs) ≡ length done + length xs

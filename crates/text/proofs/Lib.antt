@@ -2,6 +2,5 @@
 pub mod Power
 pub mod Sides
 pub mod Lines
-pub mod Used
 pub mod Kept
 pub mod Calls

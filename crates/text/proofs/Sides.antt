@@ -10,13 +10,12 @@ use Rattle.pages.specs.Bytes.{countOf}
 use Rattle.pages.proofs.Put.{put-none, put-length}
 use Rattle.names.specs.Table.{nameAt, formed}
 use Rattle.names.proofs.Calls.{form, name-small, in-use-named}
-use Rattle.units.specs.Unit.{Term, term, outside}
+use Rattle.units.specs.Unit.{Term, term, outside, inUse}
 use Rattle.units.specs.Product.{anyOutside}
 use Rattle.units.proofs.Order.{or-both}
 use Rattle.units.proofs.Signed.{small}
 use Rattle.units.proofs.Form.{Places, symAt, expAt, termsFrom, termsIn, from-start, from-step, from-end}
-use Rattle.order.specs.Order.{inUse}
-use Rattle.order.proofs.Order.{in-use-head, in-use-tail}
+use Rattle.units.proofs.Used.{in-use-head, in-use-tail}
 use Rattle.digits.proofs.Wrote.{Wrote, wrote-both}
 use Rattle.text.specs.Text.{power, stands, separator, sideFrom, side}
 use Rattle.text.specs.Calls.{powerMax, countOn}

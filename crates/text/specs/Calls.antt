@@ -3,7 +3,6 @@ use mathlib.Core.Path.{_≡_}
 use mathlib.Core.Bool.{Bool, true, false, not, cond}
 use mathlib.Core.List.{List, [], _∷_}
 use Prim.Native.Nat.{ℕ, _+_, _*_, _≤_}
-use lib.Dec.{leb}
 use lib.ListN.{length}
 use Rattle.refusals.specs.Lowest.{_when_, lowest}
 use Rattle.refusals.specs.declared.Refusal.{Refusal}
@@ -15,9 +14,8 @@ use Rattle.pages.specs.Pad.{pad}
 use Rattle.names.specs.Table as names
 use Rattle.units.specs.Unit as units
 use Rattle.units.specs.Product.{anyOutside}
-use Rattle.units.specs.Calls.{termsOf}
+use Rattle.units.specs.Calls.{termsOf, present}
 use Rattle.units.specs.declared.Unit.{Unit}
-use Rattle.order.specs.Order.{inUse}
 use Rattle.text.specs.Text.{stands, unitText}
 use Rattle.text.specs.declared.Text.{Text}
 
@@ -33,10 +31,6 @@ powerMax = names.nameMax + exponentDigits + 2
 abbrev pub textMax : ℕ
 textMax = 1 + units.placesMax * powerMax
 
--- the terms whose symbols are looked up: none where the unit says more symbols than it has places (docs/DECISIONS.md)
-abbrev pub present : Unit → List units.Term
-present u = cond (leb (u .count) units.placesMax) (termsOf u) []
-
 -- how many terms stand on a side
 abbrev pub countOn : Bool → List units.Term → ℕ
 countOn above [] = 0
@@ -46,7 +40,7 @@ countOn above (x ∷ xs) = cond (stands above (x .exp)) 1 0 + countOn above xs
 pub record Writable (page : List ℕ) (v : Unit) : Type 0 where
   pub form : names.formed page ≡ true
   pub few : v .count ≤ units.placesMax
-  pub used : inUse (countOf page) (termsOf v) ≡ true
+  pub used : units.inUse (countOf page) (termsOf v) ≡ true
   pub inside : anyOutside (termsOf v) ≡ false
 
 -- why a text is refused, if it is: 2 the names page, 3 a symbol not in use, 5 the unit
@@ -54,7 +48,7 @@ unfoldable pub textVerdict : List ℕ → Unit → Verdict
 textVerdict page u =
     lowest
     ((Broken when not (names.formed page))
-    ∷ (Unused when not (inUse (countOf page) (present u)))
+    ∷ (Unused when not (units.inUse (countOf page) (present u)))
     ∷ (BadUnit when not (units.formed units.placesMax names.namesMax (termsOf u)))
     ∷ [])
 

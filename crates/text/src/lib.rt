@@ -16,9 +16,8 @@ ghost use Rattle.pages.specs.Bytes.{put};
 ghost use Rattle.names.specs.Table.{nameMax};
 ghost use Rattle.units.specs.Unit.{exponentMax, outside};
 ghost use Rattle.units.specs.Calls.{termsOf};
-ghost use Rattle.order.specs.Order.{inUse};
 ghost use Rattle.text.specs.Text.{power, stands, separator, side, lineOf};
-ghost use Rattle.text.specs.Calls.{exponentDigits, powerMax, textMax, present, countOn, Writable, textOf, noText, textAnswer};
+ghost use Rattle.text.specs.Calls.{exponentDigits, powerMax, textMax, countOn, Writable, textOf, noText, textAnswer};
 
 // How many bytes a text has at most: `1`, and every symbol below the line with `/` or `*`, its name, `^` and four digits.
 pub const TEXT_BYTES: usize = 1 + PLACES * (names::NAME_BYTES + EXPONENT_DIGITS + 2);
@@ -140,24 +139,6 @@ fn no_text(refusal: Refusal) -> Text
     }
 }
 
-// Whether every symbol is the number of one of n names; a unit with more symbols than places says none.
-fn is_used(u: Unit, n: usize) -> bool
-    ensures { λ r. ⌜ r ≡ inUse n (present u) ⌝ }
-{
-    let k = u.count;
-    if PLACES < k {
-        return true;
-    }
-    let mut i: usize = 0;
-    while i < k {
-        if n <= symbol_index(u.symbols[i]) {
-            return false;
-        }
-        i += 1;
-    }
-    true
-}
-
 // The text of a unit: its symbols in byte order of their names.
 pub fn unit_text(page: &[u8], u: Unit) -> Text
     ensures { λ r. ⌜ r ≡ textAnswer (now (page .entry)) u ⌝ }
@@ -165,7 +146,7 @@ pub fn unit_text(page: &[u8], u: Unit) -> Text
     if !names::is_formed(page) {
         return no_text(Refusal::Broken);
     }
-    if !is_used(u, pages::count(page)) {
+    if !units::is_used(u, pages::count(page)) {
         return no_text(Refusal::Unused);
     }
     if !units::is_formed(u) {

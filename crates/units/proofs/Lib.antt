@@ -6,3 +6,4 @@ pub mod Si
 pub mod Merge
 pub mod Held
 pub mod Calls
+pub mod Used

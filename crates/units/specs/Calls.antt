@@ -2,7 +2,7 @@
 use mathlib.Core.Bool.{Bool, _&&_, _||_, not, cond}
 use mathlib.Core.List.{List, [], _∷_}
 use Prim.Native.Nat.{ℕ, zero, suc, _+_, _-_}
-use lib.Dec.{eqb}
+use lib.Dec.{eqb, leb}
 use lib.ListN.{length, getD, set}
 use lib.IntN.{ℤ, pos}
 use Rattle.refusals.specs.Lowest.{_when_, lowest}
@@ -34,6 +34,10 @@ termsOf u = terms (u .count) 0 (u .symbols) (u .exponents)
 -- those from place i on
 abbrev pub termsFrom : Unit → ℕ → List Term
 termsFrom u i = terms (u .count - i) i (u .symbols) (u .exponents)
+
+-- the terms whose symbols are looked up: none where the unit says more symbols than it has places (docs/DECISIONS.md)
+abbrev pub present : Unit → List Term
+present u = cond (leb (u .count) placesMax) (termsOf u) []
 
 -- the symbols of terms
 abbrev pub syms : List Term → List ℕ

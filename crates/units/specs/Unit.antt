@@ -50,3 +50,8 @@ part s x = cond (eqb s (x .symbol)) (x .exp) (pos 0)
 abbrev pub exponent : ℕ → List Term → ℤ
 exponent s [] = pos 0
 exponent s (x ∷ xs) = part s x +ℤ exponent s xs
+
+-- is every symbol the number of one of n names
+unfoldable pub inUse : ℕ → List Term → Bool
+inUse n [] = true
+inUse n (x ∷ xs) = ltb (x .symbol) n && inUse n xs

@@ -1,5 +1,6 @@
 // Units: products of powers of symbols (document 01, "Units and pairs"; `Unit` of the source's units.rs).
 use names::Symbol;
+use names::symbol_index;
 use refusals::Refusal;
 use refusals::Verdict;
 ghost use mathlib.Core.Path.{_≡_};
@@ -8,10 +9,10 @@ ghost use mathlib.Core.List.{List, [], _∷_, _++_};
 ghost use Prim.Native.Nat.{_<_};
 ghost use Rattle.refusals.specs.declared.Verdict.{Verdict};
 ghost use Rattle.names.specs.Table.{namesMax};
-ghost use Rattle.units.specs.Unit.{placesMax, Term, term, isZero, outside, formed};
+ghost use Rattle.units.specs.Unit.{placesMax, Term, term, isZero, outside, formed, inUse};
 ghost use Rattle.units.specs.Product.{combine};
 ghost use Rattle.units.specs.Merge.{turn, turned, joined, merge};
-ghost use Rattle.units.specs.Calls.{termsOf, unitOf, withTerm, sumOf, formVerdict, given, productAnswer, exponentAnswer, unitlessAnswer};
+ghost use Rattle.units.specs.Calls.{termsOf, present, unitOf, withTerm, sumOf, formVerdict, given, productAnswer, exponentAnswer, unitlessAnswer};
 
 // How many symbols a unit has at most.
 pub const PLACES: usize = 8;
@@ -173,6 +174,24 @@ pub fn is_formed(u: Unit) -> bool
             return false;
         }
         lo = s + 1;
+        i += 1;
+    }
+    true
+}
+
+// Whether every symbol is the number of one of n names; a unit with more symbols than places says none. For crates above (their entry calls answer 3).
+pub fn is_used(u: Unit, n: usize) -> bool
+    ensures { λ r. ⌜ r ≡ inUse n (present u) ⌝ }
+{
+    let k = u.count;
+    if PLACES < k {
+        return true;
+    }
+    let mut i: usize = 0;
+    while i < k {
+        if n <= symbol_index(u.symbols[i]) {
+            return false;
+        }
         i += 1;
     }
     true

@@ -1,16 +1,29 @@
 -- Whether a unit's symbols are in use, place by place. Assumes nothing.
 use mathlib.Core.Path.{_≡_, sym, ap, _∙_}
 use mathlib.Core.Bool.{true, false}
+use mathlib.Core.List.{List, _∷_}
 use Prim.Native.Nat.{ℕ, _+_, _≤_, _<_}
 use native.Mathlib.Omega.{arith}
-use borrow.Author.Tests.{le-leb, lt-leb, lt-ltb, le-ltb}
-use Rattle.units.specs.Unit.{placesMax}
-use Rattle.units.specs.Calls.{termsFrom}
+use lib.Dec.{ltb}
+use borrow.Author.Tests.{le-leb, lt-leb, lt-ltb, le-ltb, ltb-true}
+use Rattle.pages.proofs.Quant.{and-true}
+use Rattle.units.specs.Unit.{placesMax, Term, inUse}
+use Rattle.units.specs.Calls.{termsFrom, present}
 use Rattle.units.specs.declared.Unit.{Unit}
 use Rattle.units.proofs.Form.{symAt, from-start, from-step, from-end}
 use Rattle.units.proofs.Held.{placesOf}
-use Rattle.order.specs.Order.{inUse}
-use Rattle.text.specs.Calls.{present}
+
+pub in-use-head : (n : ℕ) (x : Term) (xs : List Term) → inUse n (x ∷ xs) ≡ true → x .symbol < n
+unfolding inUse
+in-use-head n x xs h = ltb-true (x .symbol) n (and-true (ltb (x .symbol) n) (inUse n xs) h .0)
+
+pub in-use-tail : (n : ℕ) (x : Term) (xs : List Term) → inUse n (x ∷ xs) ≡ true → inUse n xs ≡ true
+unfolding inUse
+in-use-tail n x xs h = and-true (ltb (x .symbol) n) (inUse n xs) h .1
+
+pub in-use-more : (n : ℕ) (x : Term) (xs : List Term) → x .symbol < n → inUse n xs ≡ true → inUse n (x ∷ xs) ≡ true
+unfolding inUse
+in-use-more n x xs l h = rw (lt-ltb (x .symbol) n l) h
 
 pub looked-none : (n : ℕ) (u : Unit) → placesMax < u .count → true ≡ inUse n (present u)
 unfolding inUse

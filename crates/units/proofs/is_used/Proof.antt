@@ -1,9 +1,9 @@
--- `text::is_used` meets its contract. The invariant is `Looking`. Assumes nothing.
+-- `units::is_used` meets its contract. The invariant is `Looking`. Assumes nothing.
 use Prim.Native.Nat.{_-_}
 use borrow.Author.Needs.{needs}
-use Rattle.text.proofs.Used.{looked-none, Looking, looking-start, looked-all, looked-unused, looking-next}
-use Rattle.text.proofs.is_used.Statement.{statement}
-use Rattle.text.proofs.is_used.Tie as tie
+use Rattle.units.proofs.Used.{looked-none, Looking, looking-start, looked-all, looked-unused, looking-next}
+use Rattle.units.proofs.is_used.Statement.{statement}
+use Rattle.units.proofs.is_used.Tie as tie
 
 abbrev Inv-loop : tie.InvT-loop
 Inv-loop n u k i₀ i = Looking n u i

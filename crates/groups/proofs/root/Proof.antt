@@ -1,0 +1,69 @@
+-- `groups::root` meets its contract. Assumes nothing.
+use Prim.Native.Nat.{ℕ, _+_, _-_, _≤_}
+use mathlib.Core.Path.{_≡_, sym, _∙_, ap}
+use native.Mathlib.Omega.{arith}
+use native.Mathlib.Nat.{sub-zero}
+use lib.ListN.{getD}
+use denote.Ref.{now}
+use Rattle.groups.specs.Groups.{walk}
+use Rattle.groups.proofs.UnionFind.{walk-stays}
+use Rattle.groups.proofs.Walks.{walk-one, walk-none}
+use borrow.Author.Needs.{needs}
+use Rattle.groups.proofs.root.Statement.{statement}
+use Rattle.groups.proofs.root.Tie as tie
+
+abbrev Inv-loop : tie.InvT-loop
+Inv-loop parents steps symbol at₀ k₀ at k = (k ≤ steps) × (walk steps parents symbol ≡ walk (steps - k) parents at)
+
+abbrev μ-loop : tie.MeasureT-loop
+μ-loop parents steps symbol at₀ k₀ at k = steps - k
+
+loop-holds : tie.Need-loop-holds Inv-loop μ-loop
+loop-holds c = (omega arith, rw sub-zero)
+
+symbol-index-requires : tie.Need-symbol-index-requires Inv-loop μ-loop
+symbol-index-requires c κs = search needs
+
+shared-slice-read-up : tie.Need-shared-slice-read-up Inv-loop μ-loop
+shared-slice-read-up c = search needs
+
+returns : tie.Need-returns Inv-loop μ-loop
+returns c =
+    let l = c .before .before .before .before .loop in
+    let a = c .before .before .before .before .before .before .args in
+    sym (l .inv .1 ∙ walk-stays (a .steps - l .k) (now (a .parents)) (l .at) (rw (c .before .before .symbol-index .ensures .0) at (c .if1 .taken)))
+
+add-k : tie.Need-add-k Inv-loop μ-loop
+add-k c = search needs
+
+loop-less : tie.Need-loop-less Inv-loop μ-loop
+loop-less c = search needs
+
+loop-again : tie.Need-loop-again Inv-loop μ-loop
+loop-again c =
+    let l = c .before .before .before .before .loop in
+    let a = c .before .before .before .before .before .before .args in (
+      omega arith,
+      l .inv .1 ∙ walk-one (a .steps) (l .k) (now (a .parents)) (l .at) (omega arith) ∙ rw (c .before .before .symbol-index .ensures .0),
+    )
+
+returns-2 : tie.Need-returns-2 Inv-loop μ-loop
+returns-2 c =
+    let l = c .before .loop in
+    let a = c .before .before .before .args in
+    sym (l .inv .1 ∙ walk-none (a .steps) (l .k) (now (a .parents)) (l .at) (omega arith))
+
+pub root-spec : {M : Type 1} → statement M
+root-spec =
+    tie.close
+    (tie.spec
+    Inv-loop
+    μ-loop
+    loop-holds
+    symbol-index-requires
+    shared-slice-read-up
+    returns
+    add-k
+    loop-less
+    loop-again
+    returns-2)

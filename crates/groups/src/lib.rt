@@ -1,0 +1,69 @@
+// Groups: the symbols that pairs join, kept as a parent for each symbol (document 01, "Units and pairs"; `union` and `canonical`
+// of the source's units.rs).
+use names::NAMES;
+use names::Symbol;
+use names::symbol_index;
+ghost use mathlib.Core.Path.{_≡_};
+ghost use lib.ListN.{length};
+ghost use Rattle.names.specs.Table.{namesMax};
+ghost use Rattle.groups.specs.Groups.{pair, linkOf, walk, enter, selves};
+
+// A parent for each symbol; a root is its own.
+pub type Parents = [Symbol; NAMES];
+
+// Of two roots, the one that stays a root, and the one that gets it as its parent.
+pub struct Link {
+    pub root: Symbol,
+    pub child: Symbol,
+}
+
+// Which root stays a root, of a, the root of a pair's symbol, and b, that of its base.
+fn linked(a: Symbol, b: Symbol) -> Link
+    ensures { λ r. ⌜ r ≡ linkOf a b ⌝ }
+{
+    Link { root: a, child: b }
+}
+
+// Each symbol its own parent.
+pub fn own_parents() -> Parents
+    ensures { λ r. ⌜ r ≡ selves 0 namesMax ⌝ }
+{
+    let mut parents = [0u8; NAMES];
+    let mut i: usize = 0;
+    while i < NAMES {
+        parents[i] = i as Symbol;
+        i += 1;
+    }
+    parents
+}
+
+// Where that many steps up from a symbol lead. No step leaves a root, so the walk stops there.
+pub fn root(parents: &[Symbol], steps: usize, symbol: Symbol) -> Symbol
+    requires { ⌜ length (now parents) ≡ namesMax ⌝ }
+    ensures { λ r. ⌜ r ≡ walk steps (now (parents .entry)) symbol ⌝ }
+{
+    let mut at = symbol;
+    let mut k: usize = 0;
+    while k < steps {
+        let i = symbol_index(at);
+        let up = parents[i];
+        if up == at {
+            return at;
+        }
+        at = up;
+        k += 1;
+    }
+    at
+}
+
+// One more pair, where that many steps lead to a root from every symbol.
+pub fn join(parents: &mut [Symbol], steps: usize, symbol: Symbol, base: Symbol)
+    requires { ⌜ length (now parents) ≡ namesMax ⌝ }
+    ensures { λ _. ⌜ now (parents .exit) ≡ enter steps (now (parents .entry)) (pair symbol base) ⌝ }
+{
+    let a = root(parents, steps, symbol);
+    let b = root(parents, steps, base);
+    let l = linked(a, b);
+    let child = symbol_index(l.child);
+    parents[child] = l.root;
+}
