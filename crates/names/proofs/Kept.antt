@@ -18,37 +18,13 @@ use Rattle.refusals.specs.declared.Verdict.the-variants.{Passed, Refused}
 use Rattle.refusals.proofs.Lowest.{passed-parts}
 use Rattle.pages.specs.Quant.{anyTo, allTo, firstTo}
 use Rattle.pages.specs.Bytes.{eqs, zeros, countBytes, countOf, bytesOf, put}
-use Rattle.pages.proofs.Quant.{all-more, and-true}
+use Rattle.pages.proofs.Quant.{all-cong, first-cong, all-more, and-true}
+use Rattle.pages.proofs.Bytes.{zeros-drop}
 use Rattle.pages.proofs.Put.{put-length, put-before, put-after, put-in, put-drop, put-at}
 use Rattle.names.specs.Table.{namesMax, wellNamed, offset, nameAt, named, numberOf, goodAt, formed}
 use Rattle.names.specs.Calls.{emptyPage, isKnown, roomy, withName, addVerdict, pageAfter}
 use Rattle.names.proofs.Table.{offset-ge, offset-lt}
 use Rattle.names.proofs.Calls.{Form, form, empty-made}
-
-any-cong : (p q : ℕ → Bool) (n : ℕ) → ((i : ℕ) → i < n → p i ≡ q i) → anyTo n p ≡ anyTo n q
-unfolding anyTo
-any-cong p q zero h = refl
-any-cong p q (suc n) h = rw (any-cong p q n (λ i l. h i (omega arith)), h n (omega arith))
-
-all-cong : (p q : ℕ → Bool) (n : ℕ) → ((i : ℕ) → i < n → p i ≡ q i) → allTo n p ≡ allTo n q
-unfolding allTo
-all-cong p q zero h = refl
-all-cong p q (suc n) h = rw (all-cong p q n (λ i l. h i (omega arith)), h n (omega arith))
-
-first-cong : (p q : ℕ → Bool) (n : ℕ) → ((i : ℕ) → i < n → p i ≡ q i) → firstTo n p ≡ firstTo n q
-unfolding firstTo
-first-cong p q zero h = refl
-first-cong p q (suc n) h = rw (any-cong p q n (λ i l. h i (omega arith)), first-cong p q n (λ i l. h i (omega arith)), h n (omega arith))
-
-pub zeros-drop : (l : List ℕ) (k : ℕ) → zeros l ≡ true → zeros (drop k l) ≡ true
-unfolding zeros
-zeros-drop l zero h = h
-zeros-drop [] (suc k) h = refl
-zeros-drop (x ∷ l) (suc k) h = zeros-drop l k (tail (eqb x 0) (zeros l) h)
-  where
-    tail : (a b : Bool) → (a && b) ≡ true → b ≡ true
-    tail true b h = h
-    tail false b h = absurd (let z : _≡_ {A = ℕ} 0 1 = cc in omega arith)
 
 zeros-made : (n : ℕ) → zeros (replicate n 0) ≡ true
 unfolding zeros

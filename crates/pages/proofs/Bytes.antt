@@ -2,13 +2,15 @@
 use mathlib.Core.Path.{_≡_, refl, _∙_, ap}
 use mathlib.Core.Bool.{Bool, true, false, _&&_}
 use mathlib.Core.List.{List, [], _∷_}
-use Prim.Native.Nat.{ℕ, suc, _+_, _<_, _≤_}
+use Prim.Native.Nat.{ℕ, zero, suc, _+_, _<_, _≤_}
 use native.Mathlib.Numerals.{add-one}
+use native.Mathlib.Omega.{arith}
 use lib.ListN.{length, getD, drop, drop-of-length-le}
 use lib.Seq.{drop-cons}
 use lib.Dec.{eqb}
-use borrow.Author.Tests.{eq-eqb, ne-eqb}
+use borrow.Author.Tests.{eq-eqb, ne-eqb, eqb-true}
 use Rattle.pages.specs.Bytes.{eqs, zeros}
+use Rattle.pages.proofs.Quant.{and-true}
 
 module _ (l m : List ℕ) (i : ℕ) (il : i < length l) (im : i < length m) where
   at-i : eqs (drop i l) (drop i m) ≡ (eqb (getD l i 0) (getD m i 0) && eqs (drop (i + 1) l) (drop (i + 1) m))
@@ -50,3 +52,27 @@ module _ (l : List ℕ) (i : ℕ) (il : i < length l) where
 pub zeros-end : (l : List ℕ) (i : ℕ) → length l ≤ i → zeros (drop i l) ≡ true
 unfolding zeros
 zeros-end l i h = rw (drop-of-length-le l h)
+
+-- lists that are equal byte for byte are equal
+pub eqs-true : (l m : List ℕ) → eqs l m ≡ true → l ≡ m
+unfolding eqs
+eqs-true [] [] e = refl
+eqs-true [] (y ∷ ys) e = let z : _≡_ {A = ℕ} 0 1 = cc in absurd (omega arith)
+eqs-true (x ∷ xs) [] e = let z : _≡_ {A = ℕ} 0 1 = cc in absurd (omega arith)
+eqs-true (x ∷ xs) (y ∷ ys) e =
+    let both = and-true (eqb x y) (eqs xs ys) e in
+    let h : x ≡ y = eqb-true x y (both .0) in
+    let t : xs ≡ ys = eqs-true xs ys (both .1) in
+    cc
+
+pub eqs-refl : (l : List ℕ) → eqs l l ≡ true
+unfolding eqs
+eqs-refl [] = refl
+eqs-refl (x ∷ xs) = rw (eq-eqb x x refl) (eqs-refl xs)
+
+-- zeros stay zeros from a later index on
+pub zeros-drop : (l : List ℕ) (k : ℕ) → zeros l ≡ true → zeros (drop k l) ≡ true
+unfolding zeros
+zeros-drop l zero h = h
+zeros-drop [] (suc k) h = refl
+zeros-drop (x ∷ l) (suc k) h = zeros-drop l k (and-true (eqb x 0) (zeros l) h .1)

@@ -1,13 +1,13 @@
 -- Bytes put into a page: what stands there then, and that every other byte is as before.
 -- Assumes nothing.
 use mathlib.Core.Path.{_≡_, sym, _∙_, ap}
-use mathlib.Core.List.{List, [], _∷_, _++_, append-assoc}
+use mathlib.Core.List.{List, [], _∷_, _++_, append-assoc, append-nil}
 use Prim.Native.Nat.{ℕ, _+_, _-_, _<_, _≤_}
 use native.Mathlib.Omega.{arith}
 use native.Mathlib.Nat.{le-refl}
 use native.Mathlib.Numerals.{add-one}
-use lib.ListN.{length, getD, take, drop, set, length-append, List·getD-append}
-use lib.Seq.{take-length, length-take-le, length-paste, take-paste, drop-paste, drop-drop, drop-at, getD-take, getD-drop, take-suc, append-snoc, set-at, paste-zero}
+use lib.ListN.{length, getD, take, drop, set, length-append, List·getD-append, drop-of-length-le}
+use lib.Seq.{take-length, length-take-le, length-paste, take-paste, drop-paste, drop-drop, drop-at, take-at, getD-take, getD-drop, take-suc, append-snoc, set-at, paste-zero}
 use Rattle.pages.specs.Bytes.{put}
 
 module _ (l : List ℕ) (at : ℕ) (bs : List ℕ) (fits : at + length bs ≤ length l) where
@@ -26,6 +26,9 @@ module _ (l : List ℕ) (at : ℕ) (bs : List ℕ) (fits : at + length bs ≤ le
 
   pub put-at : drop at (put l at bs) ≡ bs ++ drop (at + length bs) l
   put-at = rw split (drop-at (take at l) (bs ++ drop (at + length bs) l) at front)
+
+  pub put-part : (k : ℕ) → length bs ≡ k → take k (drop at (put l at bs)) ≡ bs
+  put-part k e = rw put-at (take-at bs (drop (at + length bs) l) k e)
 
   pub put-in : (i : ℕ) → i < length bs → getD (put l at bs) (at + i) 0 ≡ getD bs i 0
   put-in i h = sym (getD-drop at (put l at bs) i 0) ∙ rw put-at (List·getD-append bs (drop (at + length bs) l) 0 i h)
@@ -68,3 +71,9 @@ put-append l at cs bs h =
     let d : drop (r + length bs) (put l at cs) ≡ drop (r + length bs) l = put-drop l at cs fits (r + length bs) (omega arith) in
     let m : take r (put l at cs) ++ (bs ++ drop (r + length bs) (put l at cs)) ≡ take at l ++ ((cs ++ bs) ++ drop (at + length (cs ++ bs)) l) = rw (t, d, ← e) (simp append-assoc) in
     split (put l at cs) r bs (rw (put-length l at cs fits) h) ∙ m ∙ sym (split l at (cs ++ bs) (rw (← e) h))
+
+-- bytes put over the whole page
+pub put-whole : (l bs : List ℕ) → length bs ≡ length l → put l 0 bs ≡ bs
+put-whole l bs e =
+    let d : drop (0 + length bs) l ≡ [] = let h : length l ≤ 0 + length bs = omega arith in drop-of-length-le l h in
+    put-at l 0 bs (omega arith) ∙ rw (d, append-nil)

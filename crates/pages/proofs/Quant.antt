@@ -88,3 +88,18 @@ all-at p zero i h l = absurd (not-suc-le-zero l)
 all-at p (suc n) i h l =
     let z = both (allTo n p) (p n) h in
     ⊎-elim (λ (e : i ≡ n). rw e (z .1)) (λ (m : i < n). all-at p n i (z .0) m) (eq-or-lt-of-le (le-of-suc-le-suc l))
+
+pub any-cong : (p q : ℕ → Bool) (n : ℕ) → ((i : ℕ) → i < n → p i ≡ q i) → anyTo n p ≡ anyTo n q
+unfolding anyTo
+any-cong p q zero h = refl
+any-cong p q (suc n) h = rw (any-cong p q n (λ i l. h i (omega arith)), h n (omega arith))
+
+pub all-cong : (p q : ℕ → Bool) (n : ℕ) → ((i : ℕ) → i < n → p i ≡ q i) → allTo n p ≡ allTo n q
+unfolding allTo
+all-cong p q zero h = refl
+all-cong p q (suc n) h = rw (all-cong p q n (λ i l. h i (omega arith)), h n (omega arith))
+
+pub first-cong : (p q : ℕ → Bool) (n : ℕ) → ((i : ℕ) → i < n → p i ≡ q i) → firstTo n p ≡ firstTo n q
+unfolding firstTo
+first-cong p q zero h = refl
+first-cong p q (suc n) h = rw (any-cong p q n (λ i l. h i (omega arith)), first-cong p q n (λ i l. h i (omega arith)), h n (omega arith))

@@ -1,7 +1,7 @@
 -- The bytes of a lent page, as a list of numbers below 256. "All numbers big-endian" (document 01, "Formulas and sheets").
 use mathlib.Core.Bool.{Bool, true, false, _&&_}
 use mathlib.Core.List.{List, [], _∷_}
-use Prim.Native.Nat.{ℕ, _+_, _*_, _/_, _%_}
+use Prim.Native.Nat.{ℕ, zero, suc, _+_, _*_, _/_, _%_, _^_}
 use lib.ListN.{length, getD}
 use lib.Seq.{paste}
 use lib.Dec.{eqb, leb}
@@ -37,6 +37,20 @@ countOf page = wordAt page 0
 -- the two bytes that say a number
 abbrev pub bytesOf : ℕ → List ℕ
 bytesOf n = n / 256 ∷ n % 256 ∷ []
+
+-- the k bytes that say a number, big-endian
+abbrev pub bigEndian : ℕ → ℕ → List ℕ
+bigEndian zero n = []
+bigEndian (suc k) n = n / 256 ^ k % 256 ∷ bigEndian k n
+
+-- the number that the k bytes from index i on say
+abbrev pub numberAt : List ℕ → ℕ → ℕ → ℕ
+numberAt bytes i zero = 0
+numberAt bytes i (suc k) = numberAt bytes i k * 256 + getD bytes (i + k) 0
+
+-- how many bytes a number of 64 bits takes
+abbrev pub longBytes : ℕ
+longBytes = 8
 
 -- the page with other bytes from index at on, and every other byte as it was
 abbrev pub put : List ℕ → ℕ → List ℕ → List ℕ

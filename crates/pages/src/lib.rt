@@ -1,8 +1,8 @@
 // Bytes in lent pages.
 ghost use mathlib.Core.Path.{_≡_};
-ghost use Prim.Native.Nat.{_+_, _≤_, _<_};
+ghost use Prim.Native.Nat.{_+_, _*_, _≤_, _<_};
 ghost use lib.ListN.{length, drop, replicate};
-ghost use Rattle.pages.specs.Bytes.{eqs, zeros, countBytes, countOf, bytesOf, put};
+ghost use Rattle.pages.specs.Bytes.{eqs, zeros, countBytes, countOf, bytesOf, bigEndian, numberAt, longBytes, put};
 
 // How many bytes the count at a page's front takes.
 pub const COUNT_BYTES: usize = 2;
@@ -63,6 +63,47 @@ pub fn count_bytes(n: usize) -> Word
     ensures { λ r. ⌜ r ≡ bytesOf n ⌝ }
 {
     [(n / 256) as u8, (n % 256) as u8]
+}
+
+// How many bytes a number of 64 bits takes.
+pub const LONG_BYTES: usize = 8;
+
+// A number of 64 bits in bytes, big-endian.
+pub type Long = [u8; LONG_BYTES];
+
+// The eight bytes that say a number.
+pub fn long_bytes(n: u64) -> Long
+    ensures { λ r. ⌜ r ≡ bigEndian longBytes n ⌝ }
+{
+    [
+        (n / 72057594037927936 % 256) as u8,
+        (n / 281474976710656 % 256) as u8,
+        (n / 1099511627776 % 256) as u8,
+        (n / 4294967296 % 256) as u8,
+        (n / 16777216 % 256) as u8,
+        (n / 65536 % 256) as u8,
+        (n / 256 % 256) as u8,
+        (n % 256) as u8,
+    ]
+}
+
+// Two bytes as a number.
+fn word(high: u8, low: u8) -> u64
+    ensures { λ r. ⌜ (r ≡ high * 256 + low) × (r < 65536) ⌝ }
+{
+    high as u64 * 256 + low as u64
+}
+
+// The number that the eight bytes from index at on say.
+pub fn long(page: &[u8], at: usize) -> u64
+    requires { ⌜ at + longBytes ≤ length (now page) ⌝ }
+    ensures { λ r. ⌜ r ≡ numberAt (now (page .entry)) at longBytes ⌝ }
+{
+    let a = word(page[at], page[at + 1]);
+    let b = word(page[at + 2], page[at + 3]);
+    let c = word(page[at + 4], page[at + 5]);
+    let d = word(page[at + 6], page[at + 7]);
+    ((a * 65536 + b) * 65536 + c) * 65536 + d
 }
 
 // Writes bytes into the page from index at on.

@@ -1,0 +1,211 @@
+-- What the calls on a page of pairs come to, one law for each return. Assumes nothing.
+use mathlib.Core.Path.{_≡_, refl, sym, _∙_, ap}
+use mathlib.Core.Bool.{Bool, true, false, _&&_, not, cond}
+use mathlib.Core.List.{List, [], _∷_}
+use Prim.Native.Nat.{ℕ, _+_, _-_, _*_, _<_, _≤_}
+use native.Mathlib.Omega.{arith}
+use lib.Dec.{leb, ltb}
+use lib.ListN.{length, take, drop, replicate}
+use borrow.Author.Tests.{le-leb, lt-leb, lt-ltb, le-ltb, leb-false, not-false}
+use Rattle.refusals.specs.Numbers.{isRefused}
+use Rattle.refusals.specs.Lowest.{_when_, lowest, unlessRefused}
+use Rattle.refusals.specs.declared.Refusal.{Refusal}
+use Rattle.refusals.specs.declared.Refusal.the-variants.{Broken, Unused, Full}
+use Rattle.refusals.specs.declared.Verdict.{Verdict}
+use Rattle.refusals.specs.declared.Verdict.the-variants.{Passed, Refused}
+use Rattle.refusals.proofs.Lowest.{first-holds, passed-parts, kept}
+use Rattle.pages.specs.Quant.{firstTo}
+use Rattle.pages.specs.Bytes.{countBytes, countOf, put}
+use Rattle.pages.proofs.Quant.{and-true}
+use Rattle.names.specs.Table.{namesMax}
+use Rattle.names.specs.Calls.{lentBroken, usedOf}
+use Rattle.groups.specs.Groups.{Pair, pair, selves, walk, parentsOf, rootOf}
+use Rattle.pairs.specs.Table.{pairsMax, pairBytes, listed, bothUsed, insertVerdict, withPair, insertion}
+use Rattle.pairs.specs.Table as tables
+use Rattle.pairs.specs.Page.{parentsAt, sizeOf, bodiesIn, parentsIn, tableIn, listedIn, holds, formed, withTable}
+use Rattle.pairs.specs.Calls.{emptyVerdict, emptyPage, pairVerdict, pageAfter, symbolVerdict, rootAnswer, isOf, factorOf, firstFactor, factorAnswer}
+use Rattle.pairs.specs.declared.ConversionTable.{ConversionTable}
+use Rattle.pairs.specs.declared.Outcome.{Outcome}
+use Rattle.pairs.specs.declared.Root.{Root}
+use Rattle.pairs.specs.declared.Factor.{Factor}
+use Rattle.pairs.proofs.Table.{length-pairs, form}
+use Rattle.pairs.proofs.Page.{held, form-held, count-in}
+
+-- ---- making a table
+
+module _ (page : List ℕ) where
+  pub empty-short : length page < sizeOf 0 → (Refused Broken ≡ emptyVerdict page) × (page ≡ emptyPage page)
+  unfolding emptyVerdict emptyPage
+  empty-short h = (rw (lt-ltb (length page) (sizeOf 0) h), rw (lt-ltb (length page) (sizeOf 0) h))
+
+  pub empty-made : sizeOf 0 ≤ length page → (Passed ≡ emptyVerdict page) × (put (replicate (length page) 0) countBytes (selves 0 namesMax) ≡ emptyPage page)
+  unfolding emptyVerdict emptyPage
+  empty-made h = (rw (le-ltb (length page) (sizeOf 0) h), rw (le-ltb (length page) (sizeOf 0) h))
+
+-- ---- insertion
+
+-- a verdict, or 10 where nothing else is refused and there is no room
+roomed : Verdict → Bool → Verdict
+roomed Passed cramped = cond cramped (Refused Full) Passed
+roomed (Refused r) cramped = Refused r
+
+lowest-room : (a b c d : Bool)
+    → lowest ((Broken when a) ∷ (Unused when b) ∷ (Full when c) ∷ (Full when d) ∷ []) ≡ roomed (lowest ((Broken when a) ∷ (Unused when b) ∷ (Full when c) ∷ [])) d
+unfolding roomed
+lowest-room true b c d = first-holds Broken ((Unused when b) ∷ (Full when c) ∷ (Full when d) ∷ []) refl ∙ sym (ap (λ (v : Verdict). roomed v d) (first-holds Broken ((Unused when b) ∷ (Full when c) ∷ []) refl))
+lowest-room false true c d = first-holds Unused ((Full when c) ∷ (Full when d) ∷ []) refl ∙ sym (ap (λ (v : Verdict). roomed v d) (first-holds Unused ((Full when c) ∷ []) refl))
+lowest-room false false true d = first-holds Full ((Full when d) ∷ []) refl
+lowest-room false false false d = refl
+
+passed-is : (v : Verdict) → isRefused v ≡ false → v ≡ Passed
+passed-is Passed h = refl
+passed-is (Refused r) h = let z : _≡_ {A = ℕ} 0 1 = cc in absurd (omega arith)
+
+-- a table that was not full has one more pair
+insert-count : (t : ConversionTable) (n s f b : ℕ) → insertVerdict t n (pair s b) ≡ Passed → (t .count < pairsMax) × (insertion t n s f b .table ≡ withPair t s f b)
+unfolding insertVerdict insertion
+insert-count t n s f b v =
+    let x = passed-parts Broken (not (tables.formed t n)) ((Unused when not (bothUsed n (pair s b))) ∷ (Full when leb pairsMax (t .count)) ∷ []) v in
+    let y = passed-parts Unused (not (bothUsed n (pair s b))) ((Full when leb pairsMax (t .count)) ∷ []) (x .1) in
+    let z = passed-parts Full (leb pairsMax (t .count)) [] (y .1) in
+    (leb-false pairsMax (t .count) (z .0), rw v)
+
+module _ (page names : List ℕ) (lent : Bool) (s f b : ℕ) where
+  refused : (r : Refusal) → pairVerdict page names lent (pair s b) ≡ Refused r → (Refused r ≡ pairVerdict page names lent (pair s b)) × (page ≡ pageAfter page names lent s f b)
+  unfolding pageAfter
+  refused r v = (sym v, rw v)
+
+  pub pair-unnamed : lentBroken names lent ≡ true → (Refused Broken ≡ pairVerdict page names lent (pair s b)) × (page ≡ pageAfter page names lent s f b)
+  unfolding pairVerdict
+  pair-unnamed l = refused Broken v
+    where
+      v : pairVerdict page names lent (pair s b) ≡ Refused Broken
+      v = rw l (first-holds Broken ((Broken when not (formed page (usedOf names lent))) ∷ (Unused when not (bothUsed (usedOf names lent) (pair s b))) ∷ (Full when leb pairsMax (countOf page)) ∷ (Full when ltb (length page) (sizeOf (countOf page + 1))) ∷ []) refl)
+
+  module _ (l : lentBroken names lent ≡ false) where
+    pub pair-broken : formed page (usedOf names lent) ≡ false → (Refused Broken ≡ pairVerdict page names lent (pair s b)) × (page ≡ pageAfter page names lent s f b)
+    unfolding pairVerdict
+    pair-broken e = refused Broken v
+      where
+        v : pairVerdict page names lent (pair s b) ≡ Refused Broken
+        v = rw (l, e) (first-holds Broken ((Unused when not (bothUsed (usedOf names lent) (pair s b))) ∷ (Full when leb pairsMax (countOf page)) ∷ (Full when ltb (length page) (sizeOf (countOf page + 1))) ∷ []) refl)
+
+    module _ (h : held page ≡ true) where
+      -- the verdict is that of the insertion by value, or the page has no room
+      by-value : pairVerdict page names lent (pair s b) ≡ roomed (insertVerdict (tableIn page) (usedOf names lent) (pair s b)) (ltb (length page) (sizeOf (countOf page + 1)))
+      unfolding pairVerdict insertVerdict tableIn
+      by-value =
+          rw (l, ← form-held page (usedOf names lent) h)
+          (lowest-room (not (tables.formed (tableIn page) (usedOf names lent))) (not (bothUsed (usedOf names lent) (pair s b))) (leb pairsMax (countOf page)) (ltb (length page) (sizeOf (countOf page + 1))))
+
+      module _ (o : Outcome) (is : o ≡ insertion (tableIn page) (usedOf names lent) s f b) where
+        verdict-is : o .verdict ≡ insertVerdict (tableIn page) (usedOf names lent) (pair s b)
+        unfolding insertion
+        verdict-is = ap (λ (x : Outcome). x .verdict) is
+
+        pub pair-refused : isRefused (o .verdict) ≡ true → (o .verdict ≡ pairVerdict page names lent (pair s b)) × (page ≡ pageAfter page names lent s f b)
+        unfolding roomed
+        pair-refused r = go (o .verdict) refl r
+          where
+            go : (v : Verdict) → o .verdict ≡ v → isRefused v ≡ true → (o .verdict ≡ pairVerdict page names lent (pair s b)) × (page ≡ pageAfter page names lent s f b)
+            go Passed e k = let z : _≡_ {A = ℕ} 0 1 = cc in absurd (omega arith)
+            go (Refused x) e k =
+                let w : insertVerdict (tableIn page) (usedOf names lent) (pair s b) ≡ Refused x = sym verdict-is ∙ e in
+                let p = refused x (by-value ∙ rw w) in
+                (e ∙ p .0, p .1)
+
+        module _ (passed : isRefused (o .verdict) ≡ false) where
+          was : insertVerdict (tableIn page) (usedOf names lent) (pair s b) ≡ Passed
+          was = sym verdict-is ∙ passed-is (o .verdict) passed
+
+          pub pair-few : countOf page < pairsMax
+          pair-few = rw (count-in page (usedOf names lent)) at (insert-count (tableIn page) (usedOf names lent) s f b was .0)
+
+          pub table-grown : o .table ≡ withPair (tableIn page) s f b
+          table-grown = ap (λ (x : Outcome). x .table) is ∙ insert-count (tableIn page) (usedOf names lent) s f b was .1
+
+          pub count-grown : o .table .count ≡ countOf page + 1
+          unfolding withPair tableIn
+          count-grown = ap (λ (t : ConversionTable). t .count) table-grown
+
+          pub pair-cramped : length page < sizeOf (o .table .count) → (Refused Full ≡ pairVerdict page names lent (pair s b)) × (page ≡ pageAfter page names lent s f b)
+          unfolding roomed
+          pair-cramped k =
+              let m : length page < sizeOf (countOf page + 1) = rw count-grown at k in
+              refused Full (by-value ∙ rw (was, lt-ltb (length page) (sizeOf (countOf page + 1)) m))
+
+          pub pair-done : sizeOf (o .table .count) ≤ length page → (Passed ≡ pairVerdict page names lent (pair s b)) × (withTable page (o .table) ≡ pageAfter page names lent s f b)
+          unfolding roomed pageAfter
+          pair-done k =
+              let m : sizeOf (countOf page + 1) ≤ length page = rw count-grown at k in
+              let v : pairVerdict page names lent (pair s b) ≡ Passed = by-value ∙ rw (was, le-ltb (length page) (sizeOf (countOf page + 1)) m) in
+              (sym v, rw (v, table-grown))
+
+-- ---- looking up a symbol
+
+module _ (page names : List ℕ) (lent : Bool) (s : ℕ) where
+  pub symbol-unnamed : lentBroken names lent ≡ true → Refused Broken ≡ symbolVerdict page names lent s
+  unfolding symbolVerdict
+  symbol-unnamed l = sym (rw l (first-holds Broken ((Broken when not (formed page (usedOf names lent))) ∷ (Unused when leb (usedOf names lent) s) ∷ []) refl))
+
+  module _ (l : lentBroken names lent ≡ false) where
+    pub symbol-broken : formed page (usedOf names lent) ≡ false → Refused Broken ≡ symbolVerdict page names lent s
+    unfolding symbolVerdict
+    symbol-broken e = sym (rw (l, e) (first-holds Broken ((Unused when leb (usedOf names lent) s) ∷ []) refl))
+
+    module _ (e : formed page (usedOf names lent) ≡ true) where
+      pub symbol-unused : usedOf names lent ≤ s → Refused Unused ≡ symbolVerdict page names lent s
+      unfolding symbolVerdict
+      symbol-unused h = rw (l, e, le-leb (usedOf names lent) s h)
+
+      pub symbol-used : s < usedOf names lent → Passed ≡ symbolVerdict page names lent s
+      unfolding symbolVerdict
+      symbol-used h = rw (l, e, lt-leb (usedOf names lent) s h)
+
+  -- a symbol that is looked up is looked up in a page in form
+  pub passed-formed : Passed ≡ symbolVerdict page names lent s → formed page (usedOf names lent) ≡ true
+  unfolding symbolVerdict
+  passed-formed v =
+      let x = passed-parts Broken (lentBroken names lent) ((Broken when not (formed page (usedOf names lent))) ∷ (Unused when leb (usedOf names lent) s) ∷ []) (sym v) in
+      let y = passed-parts Broken (not (formed page (usedOf names lent))) ((Unused when leb (usedOf names lent) s) ∷ []) (x .1) in
+      not-false (formed page (usedOf names lent)) (y .0)
+
+-- the bytes of the pairs, as a part of the page
+pub bodies-read : (page : List ℕ) (k at : ℕ) → k ≡ countOf page → at ≡ parentsAt k → take (at - countBytes) (drop countBytes page) ≡ bodiesIn page
+bodies-read page k at e is =
+    let x : at - countBytes ≡ pairBytes * countOf page = omega arith in
+    ap (λ (j : ℕ). take j (drop countBytes page)) x
+
+-- the parents that stand in a page in form are those that its pairs give
+pub root-in : (page : List ℕ) (n k s : ℕ) → formed page n ≡ true → k ≡ countOf page → walk k (parentsIn page) s ≡ rootOf namesMax (listedIn page) s
+unfolding formed rootOf tableIn
+root-in page n k s e is =
+    let f = form (tableIn page) n (and-true (holds page) (tables.formed (tableIn page) n) e .1) in
+    let l = length-pairs (tableIn page .pairs) (countOf page) in
+    rw (l, is) (ap (λ (p : List ℕ). walk (countOf page) p s) (f .given))
+
+module _ (page names : List ℕ) (lent : Bool) (s : ℕ) where
+  pub root-refused : (r : Refusal) → Refused r ≡ symbolVerdict page names lent s → Root.Refused r ≡ rootAnswer page names lent s
+  unfolding rootAnswer
+  root-refused r v = rw (← v)
+
+  pub root-given : Passed ≡ symbolVerdict page names lent s → (x : ℕ) → x ≡ rootOf namesMax (listedIn page) s → Root.At x ≡ rootAnswer page names lent s
+  unfolding rootAnswer
+  root-given v x e = rw (← v, e)
+
+  pub factor-refused : (r : Refusal) → Refused r ≡ symbolVerdict page names lent s → Factor.Refused r ≡ factorAnswer page names lent s
+  unfolding factorAnswer
+  factor-refused r v = rw (← v)
+
+  module _ (v : Passed ≡ symbolVerdict page names lent s) (k : ℕ) (is : k ≡ countOf page) (i : ℕ) (at : i ≡ firstTo k (isOf (bodiesIn page) s)) where
+    pub factor-found : i < k → factorOf (bodiesIn page) i ≡ factorAnswer page names lent s
+    unfolding factorAnswer
+    factor-found h =
+        let e : i ≡ firstTo (countOf page) (isOf (bodiesIn page) s) = at ∙ rw is in
+        rw (← v, ← e, lt-ltb i (countOf page) (rw is at h))
+
+    pub factor-absent : k ≤ i → Factor.Absent ≡ factorAnswer page names lent s
+    unfolding factorAnswer
+    factor-absent h =
+        let e : i ≡ firstTo (countOf page) (isOf (bodiesIn page) s) = at ∙ rw is in
+        rw (← v, ← e, le-ltb i (countOf page) (rw is at h))

@@ -1,0 +1,118 @@
+-- The table in a page: its form, and what is written. Assumes nothing.
+use mathlib.Core.Path.{_≡_, refl, sym, _∙_, ap}
+use mathlib.Core.Bool.{Bool, true, false, _&&_, not}
+use mathlib.Core.List.{List, [], _∷_, _++_}
+use Prim.Native.Nat.{ℕ, zero, suc, _+_, _-_, _*_, _<_, _≤_}
+use native.Mathlib.Nat.{sub-zero}
+use native.Mathlib.Omega.{arith}
+use lib.Dec.{leb, ltb}
+use lib.ListN.{length, getD, take, drop, replicate, length-take, length-drop}
+use borrow.Author.Tests.{le-leb, lt-leb, leb-true, leb-false}
+use Rattle.pages.specs.Bytes.{eqs, zeros, countBytes, countOf, bytesOf, put}
+use Rattle.pages.specs.Pad.{pad}
+use Rattle.pages.proofs.Quant.{and-true}
+use Rattle.pages.proofs.Bytes.{and-false}
+use Rattle.pages.proofs.Put.{put-whole}
+use Rattle.pages.proofs.Pad.{put-pad}
+use Rattle.names.specs.Table.{namesMax}
+use Rattle.groups.specs.Groups.{selves}
+use Rattle.groups.proofs.UnionFind.{length-selves}
+use Rattle.pairs.specs.Table.{pairsMax, pairBytes}
+use Rattle.pairs.specs.Table as tables
+use Rattle.pairs.specs.Page.{parentsAt, sizeOf, bodiesIn, parentsIn, tableIn, holds, Held, formed, withTable}
+use Rattle.pairs.specs.declared.ConversionTable.{ConversionTable}
+use Rattle.pairs.proofs.Table.{Form, form, form-many}
+
+-- ---- a page that holds a table
+
+-- is the count no more than 512, and the table there
+abbrev pub held : List ℕ → Bool
+held page = leb (countOf page) pairsMax && holds page
+
+module _ (page : List ℕ) where
+  pub held-short : length page < sizeOf 0 → false ≡ held page
+  unfolding holds
+  held-short h =
+      let l : length page < sizeOf (countOf page) = omega arith in
+      rw (lt-leb (sizeOf (countOf page)) (length page) l) (sym (and-false (leb (countOf page) pairsMax)))
+
+  pub held-many : (k : ℕ) → k ≡ countOf page → pairsMax < k → false ≡ held page
+  held-many k e h = rw (← e, lt-leb k pairsMax h)
+
+  module _ (k : ℕ) (e : k ≡ countOf page) (few : k ≤ pairsMax) where
+    pub held-cut : length page < sizeOf k → false ≡ held page
+    unfolding holds
+    held-cut h = rw (← e, le-leb k pairsMax few, lt-leb (sizeOf k) (length page) h)
+
+    pub held-rest : sizeOf k ≤ length page → zeros (drop (sizeOf k) page) ≡ held page
+    unfolding holds
+    held-rest h = rw (← e, le-leb k pairsMax few, le-leb (sizeOf k) (length page) h)
+
+pub held-parts : (page : List ℕ) → held page ≡ true → Held page
+unfolding holds
+held-parts page e =
+    let a = and-true (leb (countOf page) pairsMax) _ e in
+    let b = and-true (leb (sizeOf (countOf page)) (length page)) _ (a .1) in
+    record { few = leb-true _ _ (a .0); room = leb-true _ _ (b .0) }
+
+-- ---- the table read from such a page
+
+pub table-read : (page : List ℕ) (k at : ℕ) → k ≡ countOf page → at ≡ parentsAt k → k ≤ pairsMax → sizeOf k ≤ length page → (bodies parents : List ℕ)
+    → bodies ≡ put (replicate (pairBytes * pairsMax) 0) 0 (take (at - countBytes) (drop countBytes page))
+    → parents ≡ put (selves 0 namesMax) 0 (take (at + namesMax - at) (drop at page))
+    → _≡_ {A = ConversionTable} (record { count = k; pairs = bodies; parents = parents }) (tableIn page)
+unfolding tableIn
+table-read page k at e is few room bodies parents eb ep =
+    let x : at - countBytes ≡ pairBytes * k = omega arith in
+    let y : at + namesMax - at ≡ namesMax = omega arith in
+    let lx : length (take (pairBytes * k) (drop countBytes page)) ≤ pairBytes * pairsMax = simp (length-take, length-drop) (omega arith) in
+    let ly : length (take namesMax (drop (parentsAt k) page)) ≡ length (selves 0 namesMax) = simp (length-take, length-drop) (omega (arith, length-selves 0 namesMax)) in
+    let b : bodies ≡ pad (pairBytes * pairsMax) 0 (take (pairBytes * k) (drop countBytes page)) = eb ∙ rw x (put-pad (pairBytes * pairsMax) (take (pairBytes * k) (drop countBytes page)) lx) in
+    let p : parents ≡ take namesMax (drop (parentsAt k) page) = ep ∙ rw (y, is) (put-whole (selves 0 namesMax) (take namesMax (drop (parentsAt k) page)) ly) in
+    rw (b, p, e)
+
+-- ---- the form, by its parts
+
+module _ (page : List ℕ) (n : ℕ) where
+  pub count-in : tableIn page .count ≡ countOf page
+  unfolding tableIn
+  count-in = refl
+
+  pub form-held : held page ≡ true → tables.formed (tableIn page) n ≡ formed page n
+  unfolding formed
+  form-held h = rw (and-true (leb (countOf page) pairsMax) (holds page) h .1)
+
+  pub form-unheld : held page ≡ false → false ≡ formed page n
+  unfolding formed
+  form-unheld h = go (leb (countOf page) pairsMax) refl
+    where
+      go : (b : Bool) → leb (countOf page) pairsMax ≡ b → false ≡ (holds page && tables.formed (tableIn page) n)
+      go true e = let o : holds page ≡ false = rw e at h in rw o
+      go false e =
+          let t : tables.formed (tableIn page) n ≡ false = sym (form-many (tableIn page) n (rw count-in (leb-false (countOf page) pairsMax e))) in
+          rw t (sym (and-false (holds page)))
+
+  pub formed-held : formed page n ≡ true → Held page
+  unfolding formed
+  formed-held e =
+      let a = and-true (holds page) (tables.formed (tableIn page) n) e in
+      let f : Form (tableIn page) n = form (tableIn page) n (a .1) in
+      let few : countOf page ≤ pairsMax = rw count-in at (f .few) in
+      held-parts page (rw (le-leb (countOf page) pairsMax few) (a .0))
+
+-- ---- a table written
+
+pub table-written : (page : List ℕ) (t : ConversionTable) (at : ℕ) → at ≡ parentsAt (t .count) → (one two three : List ℕ)
+    → one ≡ put page countBytes (take (pairBytes * t .count - 0) (drop 0 (t .pairs))) → two ≡ put one at (t .parents) → three ≡ put two 0 (bytesOf (t .count)) → three ≡ withTable page t
+unfolding withTable
+table-written page t at is one two three a b c = c ∙ rw (b, a, is, sub-zero)
+
+-- ---- the parents read
+
+pub parents-read : (page : List ℕ) (at : ℕ) → Held page → at ≡ parentsAt (countOf page) → (parents : List ℕ) → parents ≡ take (at + namesMax - at) (drop at page)
+    → (parents ≡ parentsIn page) × (length parents ≡ namesMax)
+parents-read page at h is parents e =
+    let y : at + namesMax - at ≡ namesMax = omega arith in
+    let p : parents ≡ parentsIn page = e ∙ rw (y, is) in
+    let l : length (take namesMax (drop (parentsAt (countOf page)) page)) ≡ namesMax = simp (length-take, length-drop) (omega (arith, h .room)) in
+    (p, ap length p ∙ l)

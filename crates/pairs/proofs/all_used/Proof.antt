@@ -1,0 +1,76 @@
+-- `pairs::all_used` meets its contract. Assumes nothing.
+use mathlib.Core.Path.{_≡_, sym, _∙_}
+use mathlib.Core.Bool.{true}
+use Prim.Native.Nat.{_-_, _≤_}
+use native.Mathlib.Omega.{arith}
+use denote.Ref.{now}
+use borrow.Author.Tests.{not-true, not-false}
+use Rattle.pages.specs.Quant.{allTo}
+use Rattle.pages.proofs.Quant.{all-none, all-more, all-failed}
+use Rattle.pairs.specs.Table.{usedAt}
+use borrow.Author.Needs.{needs}
+use Rattle.pairs.proofs.all_used.Statement.{statement}
+use Rattle.pairs.proofs.all_used.Tie as tie
+
+abbrev Inv-loop : tie.InvT-loop
+Inv-loop pairs k n i₀ i = (i ≤ k) × (allTo i (usedAt pairs n) ≡ true)
+
+abbrev μ-loop : tie.MeasureT-loop
+μ-loop pairs k n i₀ i = k - i
+
+loop-holds : tie.Need-loop-holds Inv-loop μ-loop
+loop-holds c = (omega arith, all-none (usedAt (now (c .before .args .pairs)) (c .before .args .n)))
+
+mul-at : tie.Need-mul-at Inv-loop μ-loop
+mul-at c = search needs
+
+shared-slice-read-are-used : tie.Need-shared-slice-read-are-used Inv-loop μ-loop
+shared-slice-read-are-used c = search needs
+
+add-are-used : tie.Need-add-are-used Inv-loop μ-loop
+add-are-used c = search needs
+
+shared-slice-read-are-used-2 : tie.Need-shared-slice-read-are-used-2 Inv-loop μ-loop
+shared-slice-read-are-used-2 c = search needs
+
+are-used-requires : tie.Need-are-used-requires Inv-loop μ-loop
+are-used-requires c κs = search needs
+
+returns : tie.Need-returns Inv-loop μ-loop
+returns c =
+    let a = c .before .before .before .before .before .before .before .args in
+    sym (all-failed (usedAt (now (a .pairs)) (a .n)) (a .k) (c .before .before .before .before .before .loop .i) (c .before .before .before .before .loop-test .taken) (sym (c .before .are-used .ensures) ∙ not-true (c .before .are-used .result) (c .if1 .taken)))
+
+add-i : tie.Need-add-i Inv-loop μ-loop
+add-i c = search needs
+
+loop-less : tie.Need-loop-less Inv-loop μ-loop
+loop-less c = search needs
+
+loop-again : tie.Need-loop-again Inv-loop μ-loop
+loop-again c =
+    let a = c .before .before .before .before .before .before .before .args in
+    (omega arith, all-more (usedAt (now (a .pairs)) (a .n)) (c .before .before .before .before .before .loop .i) (c .before .before .before .before .before .loop .inv .1) (sym (c .before .are-used .ensures) ∙ not-false (c .before .are-used .result) (c .if1 .left)))
+
+returns-2 : tie.Need-returns-2 Inv-loop μ-loop
+returns-2 c =
+    let e : c .before .loop .i ≡ c .before .before .before .args .k = omega arith in
+    sym (rw e at (c .before .loop .inv .1))
+
+pub all-used-spec : {M : Type 1} → statement M
+all-used-spec =
+    tie.close
+    (tie.spec
+    Inv-loop
+    μ-loop
+    loop-holds
+    mul-at
+    shared-slice-read-are-used
+    add-are-used
+    shared-slice-read-are-used-2
+    are-used-requires
+    returns
+    add-i
+    loop-less
+    loop-again
+    returns-2)

@@ -1,0 +1,48 @@
+-- `pairs::empty_pairs` meets its contract. Assumes nothing.
+use mathlib.Core.Path.{_≡_, _∙_}
+use native.Mathlib.Omega.{arith}
+use denote.Ref.{now}
+use Rattle.pairs.proofs.Calls.{empty-short, empty-made}
+use borrow.Author.Needs.{needs}
+use borrow.Author.Needs.{needs}
+use Rattle.pairs.proofs.empty_pairs.Statement.{statement}
+use Rattle.pairs.proofs.empty_pairs.Tie as tie
+
+add-if1 : tie.Need-add-if1
+add-if1 c = search needs
+
+returns : tie.Need-returns
+returns c = empty-short (now (c .before .before .args .page)) (c .if1 .taken)
+
+own-parents-requires : tie.Need-own-parents-requires
+own-parents-requires c κs = search needs
+
+clear-requires : tie.Need-clear-requires
+clear-requires c κs = search needs
+
+slice-aggregate-put-bytes : tie.Need-slice-aggregate-put-bytes
+slice-aggregate-put-bytes c = search needs
+
+put-bytes-requires : tie.Need-put-bytes-requires
+put-bytes-requires c κs = search needs
+
+same-length : tie.Need-same-length
+same-length c = search needs
+
+returns-2 : tie.Need-returns-2
+returns-2 c =
+    let m = empty-made (now (c .before .before .before .before .before .before .before .before .before .before .before .before .args .page)) (c .before .before .before .before .before .before .before .before .before .before .if1 .left) in
+    (m .0, c .before .before .put-bytes .ensures ∙ rw (c .before .before .before .before .before .before .before .clear .ensures, c .before .before .before .before .before .before .before .before .before .own-parents .ensures) (m .1))
+
+pub empty-pairs-spec : {M : Type 1} → statement M
+empty-pairs-spec =
+    tie.close
+    (tie.spec
+    add-if1
+    returns
+    own-parents-requires
+    clear-requires
+    slice-aggregate-put-bytes
+    put-bytes-requires
+    same-length
+    returns-2)

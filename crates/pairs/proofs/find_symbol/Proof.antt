@@ -1,0 +1,65 @@
+-- `pairs::find_symbol` meets its contract. Assumes nothing.
+use mathlib.Core.Path.{_≡_, sym, _∙_}
+use mathlib.Core.Bool.{false}
+use Prim.Native.Nat.{_-_, _≤_}
+use native.Mathlib.Omega.{arith}
+use denote.Ref.{now}
+use borrow.Author.Tests.{eq-eqb, ne-eqb}
+use Rattle.pages.specs.Quant.{anyTo}
+use Rattle.pages.proofs.Quant.{any-none, any-more, first-none, first-at}
+use Rattle.pairs.specs.Calls.{isOf}
+use borrow.Author.Needs.{needs}
+use Rattle.pairs.proofs.find_symbol.Statement.{statement}
+use Rattle.pairs.proofs.find_symbol.Tie as tie
+
+abbrev Inv-loop : tie.InvT-loop
+Inv-loop bodies k symbol i₀ i = (i ≤ k) × (anyTo i (isOf bodies symbol) ≡ false)
+
+abbrev μ-loop : tie.MeasureT-loop
+μ-loop bodies k symbol i₀ i = k - i
+
+loop-holds : tie.Need-loop-holds Inv-loop μ-loop
+loop-holds c = (omega arith, any-none (isOf (now (c .args .bodies)) (c .args .symbol)))
+
+mul-if1 : tie.Need-mul-if1 Inv-loop μ-loop
+mul-if1 c = search needs
+
+shared-slice-read-if1 : tie.Need-shared-slice-read-if1 Inv-loop μ-loop
+shared-slice-read-if1 c = search needs
+
+returns : tie.Need-returns Inv-loop μ-loop
+returns c =
+    let a = c .before .before .before .before .args in
+    sym (first-at (isOf (now (a .bodies)) (a .symbol)) (a .k) (c .before .before .before .loop .i) (c .before .before .loop-test .taken) (c .before .before .before .loop .inv .1) (eq-eqb _ _ (c .if1 .taken)))
+
+add-i : tie.Need-add-i Inv-loop μ-loop
+add-i c = search needs
+
+loop-less : tie.Need-loop-less Inv-loop μ-loop
+loop-less c = search needs
+
+loop-again : tie.Need-loop-again Inv-loop μ-loop
+loop-again c =
+    let a = c .before .before .before .before .args in
+    (omega arith, any-more (isOf (now (a .bodies)) (a .symbol)) (c .before .before .before .loop .i) (c .before .before .before .loop .inv .1) (ne-eqb _ _ (c .if1 .left)))
+
+returns-2 : tie.Need-returns-2 Inv-loop μ-loop
+returns-2 c =
+    let a = c .before .before .args in
+    let e : c .before .loop .i ≡ a .k = omega arith in
+    sym (first-none (isOf (now (a .bodies)) (a .symbol)) (a .k) (rw e at (c .before .loop .inv .1)))
+
+pub find-symbol-spec : {M : Type 1} → statement M
+find-symbol-spec =
+    tie.close
+    (tie.spec
+    Inv-loop
+    μ-loop
+    loop-holds
+    mul-if1
+    shared-slice-read-if1
+    returns
+    add-i
+    loop-less
+    loop-again
+    returns-2)

@@ -1,0 +1,137 @@
+-- `pairs::insert_pair` meets its contract. Assumes nothing.
+use mathlib.Core.Path.{_≡_, sym, _∙_}
+use native.Mathlib.Omega.{arith}
+use denote.Ref.{now}
+use borrow.Author.Tests.{not-true, not-false}
+use Rattle.pairs.proofs.Page.{held-parts, form-unheld}
+use Rattle.pairs.proofs.Calls.{pair-unnamed, pair-broken, pair-refused, pair-few, count-grown, pair-cramped, pair-done}
+use borrow.Author.Needs.{needs}
+use borrow.Author.Needs.{needs}
+use Rattle.pairs.proofs.insert_pair.Statement.{statement}
+use Rattle.pairs.proofs.insert_pair.Tie as tie
+
+is-broken-requires : tie.Need-is-broken-requires
+is-broken-requires c κs = search needs
+
+returns : tie.Need-returns
+returns c =
+    let a = c .before .before .before .before .args in
+    pair-unnamed (now (a .page)) (now (a .names)) (a .lent) (a .symbol) (a .factor) (a .base) (sym (c .before .is-broken .ensures) ∙ c .if1 .taken)
+
+holds-table-requires : tie.Need-holds-table-requires
+holds-table-requires c κs = search needs
+
+same-length : tie.Need-same-length
+same-length c = search needs
+
+returns-2 : tie.Need-returns-2
+returns-2 c =
+    let a = c .before .before .before .before .before .before .before .args in
+    let l = sym (c .before .before .before .before .is-broken .ensures) ∙ c .before .before .before .if1 .left in
+    let h = sym (c .before .holds-table .ensures) ∙ not-true (c .before .holds-table .result) (c .if2 .taken) in
+    pair-broken (now (a .page)) (now (a .names)) (a .lent) (a .symbol) (a .factor) (a .base) l (sym (form-unheld (now (a .page)) _ h))
+
+in-use-requires : tie.Need-in-use-requires
+in-use-requires c κs = sym (c .before .before .before .before .is-broken .ensures) ∙ c .before .before .before .if1 .left
+
+table-in-requires : tie.Need-table-in-requires
+table-in-requires c κs =
+    held-parts (now (c .before .before .before .before .before .before .before .before .before .args .page)) (sym (c .before .before .before .holds-table .ensures) ∙ not-false (c .before .before .before .holds-table .result) (c .before .before .if2 .left))
+
+inserted-requires : tie.Need-inserted-requires
+inserted-requires c κs = search needs
+
+is-refused-requires : tie.Need-is-refused-requires
+is-refused-requires c κs = search needs
+
+same-length-2 : tie.Need-same-length-2
+same-length-2 c = search needs
+
+returns-3 : tie.Need-returns-3
+returns-3 c =
+    let a = c .before .before .before .before .before .before .before .before .before .before .before .before .before .args in
+    let l = sym (c .before .before .before .before .before .before .before .before .before .before .is-broken .ensures) ∙ c .before .before .before .before .before .before .before .before .before .if1 .left in
+    let h = sym (c .before .before .before .before .before .before .before .holds-table .ensures) ∙ not-false (c .before .before .before .before .before .before .before .holds-table .result) (c .before .before .before .before .before .before .if2 .left) in
+    let o = rw (c .before .before .before .table-in .ensures, c .before .before .before .before .before .in-use .ensures .0) at (c .before .before .inserted .ensures) in
+    pair-refused (now (a .page)) (now (a .names)) (a .lent) (a .symbol) (a .factor) (a .base) l h (c .before .before .inserted .result) o (sym (c .before .is-refused .ensures) ∙ c .if3 .taken)
+
+parents-at-requires : tie.Need-parents-at-requires
+parents-at-requires c κs =
+    let a = c .before .before .before .before .before .before .before .before .before .before .before .before .before .before .args in
+    let l = sym (c .before .before .before .before .before .before .before .before .before .before .before .is-broken .ensures) ∙ c .before .before .before .before .before .before .before .before .before .before .if1 .left in
+    let h = sym (c .before .before .before .before .before .before .before .before .holds-table .ensures) ∙ not-false (c .before .before .before .before .before .before .before .before .holds-table .result) (c .before .before .before .before .before .before .before .if2 .left) in
+    let o = rw (c .before .before .before .before .table-in .ensures, c .before .before .before .before .before .before .in-use .ensures .0) at (c .before .before .before .inserted .ensures) in
+    let p = sym (c .before .before .is-refused .ensures) ∙ c .before .if3 .left in
+    let few = pair-few (now (a .page)) (now (a .names)) (a .lent) (a .symbol) (a .factor) (a .base) l h (c .before .before .before .inserted .result) o p in
+    let grown = count-grown (now (a .page)) (now (a .names)) (a .lent) (a .symbol) (a .factor) (a .base) l h (c .before .before .before .inserted .result) o p in
+    omega (arith, few, grown)
+
+add-if4 : tie.Need-add-if4
+add-if4 c =
+    let a = c .before .before .before .before .before .before .before .before .before .before .before .before .before .before .before .args in
+    let l = sym (c .before .before .before .before .before .before .before .before .before .before .before .before .is-broken .ensures) ∙ c .before .before .before .before .before .before .before .before .before .before .before .if1 .left in
+    let h = sym (c .before .before .before .before .before .before .before .before .before .holds-table .ensures) ∙ not-false (c .before .before .before .before .before .before .before .before .before .holds-table .result) (c .before .before .before .before .before .before .before .before .if2 .left) in
+    let o = rw (c .before .before .before .before .before .table-in .ensures, c .before .before .before .before .before .before .before .in-use .ensures .0) at (c .before .before .before .before .inserted .ensures) in
+    let p = sym (c .before .before .before .is-refused .ensures) ∙ c .before .before .if3 .left in
+    let few = pair-few (now (a .page)) (now (a .names)) (a .lent) (a .symbol) (a .factor) (a .base) l h (c .before .before .before .before .inserted .result) o p in
+    let grown = count-grown (now (a .page)) (now (a .names)) (a .lent) (a .symbol) (a .factor) (a .base) l h (c .before .before .before .before .inserted .result) o p in
+    record { fits = omega (arith, few, grown, c .parents-at .ensures) }
+
+same-length-3 : tie.Need-same-length-3
+same-length-3 c = search needs
+
+returns-4 : tie.Need-returns-4
+returns-4 c =
+    let a = c .before .before .before .before .before .before .before .before .before .before .before .before .before .before .before .before .args in
+    let l = sym (c .before .before .before .before .before .before .before .before .before .before .before .before .before .is-broken .ensures) ∙ c .before .before .before .before .before .before .before .before .before .before .before .before .if1 .left in
+    let h = sym (c .before .before .before .before .before .before .before .before .before .before .holds-table .ensures) ∙ not-false (c .before .before .before .before .before .before .before .before .before .before .holds-table .result) (c .before .before .before .before .before .before .before .before .before .if2 .left) in
+    let o = rw (c .before .before .before .before .before .before .table-in .ensures, c .before .before .before .before .before .before .before .before .in-use .ensures .0) at (c .before .before .before .before .before .inserted .ensures) in
+    let p = sym (c .before .before .before .before .is-refused .ensures) ∙ c .before .before .before .if3 .left in
+    pair-cramped (now (a .page)) (now (a .names)) (a .lent) (a .symbol) (a .factor) (a .base) l h (c .before .before .before .before .before .inserted .result) o p (rw (c .before .parents-at .ensures) at (c .if4 .taken))
+
+write-table-requires : tie.Need-write-table-requires
+write-table-requires c κs =
+    let a = c .before .before .before .before .before .before .before .before .before .before .before .before .before .before .before .before .before .args in
+    let l = sym (c .before .before .before .before .before .before .before .before .before .before .before .before .before .before .is-broken .ensures) ∙ c .before .before .before .before .before .before .before .before .before .before .before .before .before .if1 .left in
+    let h = sym (c .before .before .before .before .before .before .before .before .before .before .before .holds-table .ensures) ∙ not-false (c .before .before .before .before .before .before .before .before .before .before .before .holds-table .result) (c .before .before .before .before .before .before .before .before .before .before .if2 .left) in
+    let o = rw (c .before .before .before .before .before .before .before .table-in .ensures, c .before .before .before .before .before .before .before .before .before .in-use .ensures .0) at (c .before .before .before .before .before .before .inserted .ensures) in
+    let p = sym (c .before .before .before .before .before .is-refused .ensures) ∙ c .before .before .before .before .if3 .left in
+    let few = pair-few (now (a .page)) (now (a .names)) (a .lent) (a .symbol) (a .factor) (a .base) l h (c .before .before .before .before .before .before .inserted .result) o p in
+    let grown = count-grown (now (a .page)) (now (a .names)) (a .lent) (a .symbol) (a .factor) (a .base) l h (c .before .before .before .before .before .before .inserted .result) o p in
+    (omega (arith, few, grown), rw (c .before .before .parents-at .ensures) at (c .before .if4 .left))
+
+same-length-4 : tie.Need-same-length-4
+same-length-4 c = search needs
+
+returns-5 : tie.Need-returns-5
+returns-5 c =
+    let a = c .before .before .before .before .before .before .before .before .before .before .before .before .before .before .before .before .before .before .before .before .args in
+    let l = sym (c .before .before .before .before .before .before .before .before .before .before .before .before .before .before .before .before .before .is-broken .ensures) ∙ c .before .before .before .before .before .before .before .before .before .before .before .before .before .before .before .before .if1 .left in
+    let h = sym (c .before .before .before .before .before .before .before .before .before .before .before .before .before .before .holds-table .ensures) ∙ not-false (c .before .before .before .before .before .before .before .before .before .before .before .before .before .before .holds-table .result) (c .before .before .before .before .before .before .before .before .before .before .before .before .before .if2 .left) in
+    let o = rw (c .before .before .before .before .before .before .before .before .before .before .table-in .ensures, c .before .before .before .before .before .before .before .before .before .before .before .before .in-use .ensures .0) at (c .before .before .before .before .before .before .before .before .before .inserted .ensures) in
+    let p = sym (c .before .before .before .before .before .before .before .before .is-refused .ensures) ∙ c .before .before .before .before .before .before .before .if3 .left in
+    let d = pair-done (now (a .page)) (now (a .names)) (a .lent) (a .symbol) (a .factor) (a .base) l h (c .before .before .before .before .before .before .before .before .before .inserted .result) o p (rw (c .before .before .before .before .before .parents-at .ensures) at (c .before .before .before .before .if4 .left)) in
+    (d .0, c .before .before .write-table .ensures ∙ d .1)
+
+pub insert-pair-spec : {M : Type 1} → statement M
+insert-pair-spec =
+    tie.close
+    (tie.spec
+    is-broken-requires
+    returns
+    holds-table-requires
+    same-length
+    returns-2
+    in-use-requires
+    table-in-requires
+    inserted-requires
+    is-refused-requires
+    same-length-2
+    returns-3
+    parents-at-requires
+    add-if4
+    same-length-3
+    returns-4
+    write-table-requires
+    same-length-4
+    returns-5)

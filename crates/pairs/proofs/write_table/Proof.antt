@@ -1,0 +1,73 @@
+-- `pairs::write_table` meets its contract. Assumes nothing.
+use mathlib.Core.Path.{_≡_, refl, _∙_}
+use native.Mathlib.Omega.{arith}
+use denote.Ref.{now}
+use lib.ListN.{length}
+use Rattle.pairs.proofs.Page.{table-written}
+use borrow.Author.Needs.{needs}
+use borrow.Author.Needs.{needs}
+use Rattle.pairs.proofs.write_table.Statement.{statement}
+use Rattle.pairs.proofs.write_table.Tie as tie
+
+parents-at-requires : tie.Need-parents-at-requires
+parents-at-requires c κs = search needs
+
+count-bytes-requires : tie.Need-count-bytes-requires
+count-bytes-requires c κs = search needs
+
+mul-put-bytes : tie.Need-mul-put-bytes
+mul-put-bytes c = search needs
+
+sub-put-bytes : tie.Need-sub-put-bytes
+sub-put-bytes c = search needs
+
+part-put-bytes-start : tie.Need-part-put-bytes-start
+part-put-bytes-start c = search needs
+
+part-put-bytes-end : tie.Need-part-put-bytes-end
+part-put-bytes-end c =
+    let z : length (c .before .before .before .before .before .before .before .args .t .pairs) ≡ 5120 = search needs in
+    omega (arith, z, c .before .before .before .before .before .before .before .pre .0)
+
+put-bytes-requires : tie.Need-put-bytes-requires
+put-bytes-requires c κs = search needs
+
+slice-aggregate-put-bytes : tie.Need-slice-aggregate-put-bytes
+slice-aggregate-put-bytes c = search needs
+
+put-bytes-requires-2 : tie.Need-put-bytes-requires-2
+put-bytes-requires-2 c κs =
+    let z : length (c .before .before .before .before .before .before .before .before .before .before .before .before .before .args .t .parents) ≡ 256 = search needs in
+    omega (arith, z, c .before .before .before .before .before .before .before .before .before .before .before .parents-at .ensures, c .before .before .before .before .before .before .before .before .before .before .before .before .before .pre .1, c .before .before .before .before .put-bytes .kept .0)
+
+slice-aggregate-put-bytes-2 : tie.Need-slice-aggregate-put-bytes-2
+slice-aggregate-put-bytes-2 c = search needs
+
+put-bytes-requires-3 : tie.Need-put-bytes-requires-3
+put-bytes-requires-3 c κs = search needs
+
+same-length : tie.Need-same-length
+same-length c = search needs
+
+returns : tie.Need-returns
+returns c =
+    table-written (now (c .before .before .before .before .before .before .before .before .before .before .before .before .before .before .before .before .before .before .before .before .before .args .page)) (c .before .before .before .before .before .before .before .before .before .before .before .before .before .before .before .before .before .before .before .before .before .args .t) (c .before .before .before .before .before .before .before .before .before .before .before .before .before .before .before .before .before .before .before .parents-at .result) (c .before .before .before .before .before .before .before .before .before .before .before .before .before .before .before .before .before .before .before .parents-at .ensures) _ _ _
+    (c .before .before .before .before .before .before .before .before .before .before .before .before .put-bytes .ensures) (c .before .before .before .before .before .before .before .put-bytes2 .ensures) (c .before .before .put-bytes3 .ensures ∙ rw (c .before .before .before .before .before .before .before .before .before .before .before .before .before .before .before .before .count-bytes .ensures))
+
+pub write-table-spec : {M : Type 1} → statement M
+write-table-spec =
+    tie.close
+    (tie.spec
+    parents-at-requires
+    count-bytes-requires
+    mul-put-bytes
+    sub-put-bytes
+    part-put-bytes-start
+    part-put-bytes-end
+    put-bytes-requires
+    slice-aggregate-put-bytes
+    put-bytes-requires-2
+    slice-aggregate-put-bytes-2
+    put-bytes-requires-3
+    same-length
+    returns)

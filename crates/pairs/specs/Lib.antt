@@ -1,0 +1,4 @@
+pub mod Table
+pub mod Page
+pub mod Calls
+pub mod Runs
