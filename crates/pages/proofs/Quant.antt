@@ -103,3 +103,8 @@ pub first-cong : (p q : ℕ → Bool) (n : ℕ) → ((i : ℕ) → i < n → p i
 unfolding firstTo
 first-cong p q zero h = refl
 first-cong p q (suc n) h = rw (any-cong p q n (λ i l. h i (omega arith)), first-cong p q n (λ i l. h i (omega arith)), h n (omega arith))
+
+pub all-each : (n : ℕ) (p : ℕ → Bool) → ((i : ℕ) → i < n → p i ≡ true) → allTo n p ≡ true
+unfolding allTo
+all-each zero p h = refl
+all-each (suc n) p h = rw (all-each n p (λ i l. h i (omega arith))) (h n (omega arith))

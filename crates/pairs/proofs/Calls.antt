@@ -13,7 +13,7 @@ use Rattle.refusals.specs.declared.Refusal.{Refusal}
 use Rattle.refusals.specs.declared.Refusal.the-variants.{Broken, Unused, Full}
 use Rattle.refusals.specs.declared.Verdict.{Verdict}
 use Rattle.refusals.specs.declared.Verdict.the-variants.{Passed, Refused}
-use Rattle.refusals.proofs.Lowest.{first-holds, passed-parts, kept}
+use Rattle.refusals.proofs.Lowest.{first-holds, passed-parts, passed-is}
 use Rattle.pages.specs.Quant.{firstTo}
 use Rattle.pages.specs.Bytes.{countBytes, countOf, put}
 use Rattle.pages.proofs.Quant.{and-true}
@@ -56,10 +56,6 @@ lowest-room true b c d = first-holds Broken ((Unused when b) ∷ (Full when c) �
 lowest-room false true c d = first-holds Unused ((Full when c) ∷ (Full when d) ∷ []) refl ∙ sym (ap (λ (v : Verdict). roomed v d) (first-holds Unused ((Full when c) ∷ []) refl))
 lowest-room false false true d = first-holds Full ((Full when d) ∷ []) refl
 lowest-room false false false d = refl
-
-passed-is : (v : Verdict) → isRefused v ≡ false → v ≡ Passed
-passed-is Passed h = refl
-passed-is (Refused r) h = let z : _≡_ {A = ℕ} 0 1 = cc in absurd (omega arith)
 
 -- a table that was not full has one more pair
 insert-count : (t : ConversionTable) (n s f b : ℕ) → insertVerdict t n (pair s b) ≡ Passed → (t .count < pairsMax) × (insertion t n s f b .table ≡ withPair t s f b)

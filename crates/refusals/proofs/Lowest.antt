@@ -45,6 +45,11 @@ passed-parts r true cs h = absurd (never (lowest cs) h)
     never (Refused s) e = let z : _≡_ {A = ℕ} 0 1 = cc in omega arith
 passed-parts r false cs h = (refl, h)
 
+-- what is not refused has passed
+pub passed-is : (v : Verdict) → isRefused v ≡ false → v ≡ Passed
+passed-is Passed h = refl
+passed-is (Refused r) h = let z : _≡_ {A = ℕ} 0 1 = cc in absurd (omega arith)
+
 -- ---- a value that only a call that passes changes
 
 pub kept : {A : Type 0} (v : Verdict) (new old : A) → isRefused v ≡ true → old ≡ unlessRefused v new old

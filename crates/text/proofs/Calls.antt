@@ -19,11 +19,12 @@ use Rattle.units.specs.Unit as units
 use Rattle.units.specs.Calls.{termsOf, present, unitOf}
 use Rattle.units.specs.declared.Unit.{Unit}
 use Rattle.units.proofs.Form.{length-terms, formed-count, formed-ordered}
+use Rattle.units.proofs.Order.{ordered-inside}
 use Rattle.units.proofs.Held.{placesOf, terms-unit}
 use Rattle.order.specs.Order.{byName}
 use Rattle.text.specs.Text.{lineOf}
 use Rattle.text.specs.Calls.{Writable, textVerdict, textOf, noText, textAnswer}
-use Rattle.text.proofs.Kept.{by-name-length, by-name-used, by-name-inside, ordered-inside}
+use Rattle.text.proofs.Kept.{by-name-length, by-name-used, by-name-inside}
 
 module _ (page : List ℕ) (u : Unit) where
   refused-text : (r : Refusal) → textVerdict page u ≡ Refused r → noText r ≡ textAnswer page u

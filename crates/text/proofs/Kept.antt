@@ -53,10 +53,3 @@ module _ (page : List ℕ) where
 
   pub by-name-inside : (xs : List Term) → anyOutside xs ≡ false → anyOutside (byName page xs) ≡ false
   by-name-inside xs h = placed-inside [] xs refl h
-
--- a unit in form has no exponent outside its limits
-pub ordered-inside : (n lo : ℕ) (xs : List Term) → ordered n lo xs ≡ true → anyOutside xs ≡ false
-ordered-inside n lo [] h = refl
-ordered-inside n lo (x ∷ xs) h =
-    let p = ordered-parts n lo x xs h in
-    rw (p .inside) (ordered-inside n (suc (x .symbol)) xs (p .rest))

@@ -162,3 +162,8 @@ asc-ordered asc-none b w = refl
 asc-ordered {n = n} {lo = lo} (asc-more {x = x} {xs = xs} l z r) (within-more u b) w =
     let v = or-both (outside (x .exp)) (anyOutside xs) w in
     rw (le-leb lo (x .symbol) l, lt-ltb (x .symbol) n u, z, v .0) (asc-ordered r b (v .1))
+
+-- terms in form have no exponent outside the limits
+pub ordered-inside : (n lo : ℕ) (xs : List Term) → ordered n lo xs ≡ true → anyOutside xs ≡ false
+ordered-inside n lo [] h = refl
+ordered-inside n lo (x ∷ xs) h = let o = ordered-parts n lo x xs h in rw (o .inside) (ordered-inside n (suc (x .symbol)) xs (o .rest))

@@ -107,7 +107,7 @@ written-above s (suc n) f h =
     append-exponent s (written n f) (power n (f n))
     ∙ ap₂ _+ℤ_ (written-above s n f (omega arith)) (power-exponent s n (f n) ∙ part-other s (term n (f n)) (λ e. omega arith))
 
-written-exponent : (s n : ℕ) (f : ℕ → ℤ) → s < n → exponent s (written n f) ≡ f s
+pub written-exponent : (s n : ℕ) (f : ℕ → ℤ) → s < n → exponent s (written n f) ≡ f s
 written-exponent s zero f h = absurd (not-suc-le-zero h)
 written-exponent s (suc n) f h =
     append-exponent s (written n f) (power n (f n))

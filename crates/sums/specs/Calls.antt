@@ -1,0 +1,75 @@
+-- What the calls for group sums and convertibility answer, over the pairs of a page (document 01, "Units and pairs" and the
+-- table of refusals). Names are lent where `lent` is true.
+use mathlib.Core.Bool.{Bool, true, _&&_, not, cond}
+use mathlib.Core.List.{List, [], _∷_}
+use Prim.Native.Nat.{ℕ}
+use Rattle.refusals.specs.Lowest.{_when_, lowest}
+use Rattle.refusals.specs.declared.Refusal.the-variants.{Broken, Unused, BadUnit}
+use Rattle.refusals.specs.declared.Verdict.{Verdict}
+use Rattle.refusals.specs.declared.Verdict.the-variants.{Passed, Refused}
+use Rattle.names.specs.Table.{namesMax}
+use Rattle.names.specs.Calls.{lentBroken, usedOf}
+use Rattle.units.specs.Unit.{placesMax, Term, inUse}
+use Rattle.units.specs.Unit as units
+use Rattle.units.specs.Calls.{termsOf, present, unitOf}
+use Rattle.units.specs.declared.Unit.{Unit}
+use Rattle.units.specs.declared.MaybeUnit.{MaybeUnit}
+use Rattle.groups.specs.Groups.{rootOf}
+use Rattle.pairs.specs.Page.{listedIn, formed}
+use Rattle.sums.specs.Sums.{groupSums, convertible, sumsOf}
+use Rattle.sums.specs.declared.SumsResult.{SumsResult}
+use Rattle.sums.specs.declared.Conversion.{Conversion}
+
+-- ---- units that a call is given
+
+-- is every symbol of every unit a number in use, of n
+abbrev pub allUsed : ℕ → List Unit → Bool
+allUsed n [] = true
+allUsed n (u ∷ us) = inUse n (present u) && allUsed n us
+
+-- is every unit in form
+abbrev pub allFormed : List Unit → Bool
+allFormed [] = true
+allFormed (u ∷ us) = units.formed placesMax namesMax (termsOf u) && allFormed us
+
+-- why they are refused, if they are: 2 the names or the table, 3 a symbol not in use, 5 a unit
+unfoldable pub unitsVerdict : List ℕ → List ℕ → Bool → List Unit → Verdict
+unitsVerdict page names lent us =
+    lowest
+    ((Broken when lentBroken names lent)
+    ∷ (Broken when not (formed page (usedOf names lent)))
+    ∷ (Unused when not (allUsed (usedOf names lent) us))
+    ∷ (BadUnit when not (allFormed us))
+    ∷ [])
+
+-- the roots that the pairs of a page give
+abbrev pub rootsIn : List ℕ → ℕ → ℕ
+rootsIn page = rootOf namesMax (listedIn page)
+
+-- ---- group sums
+
+-- group sums, or none beside the refusal
+abbrev pub summed : Verdict → List Term → SumsResult
+summed Passed l = record { verdict = Passed; sums = sumsOf l }
+summed (Refused r) l = record { verdict = Refused r; sums = sumsOf [] }
+
+-- the group sums of a unit (`canonicalize`)
+unfoldable pub sumsAnswer : List ℕ → List ℕ → Bool → Unit → SumsResult
+sumsAnswer page names lent u = summed (unitsVerdict page names lent (u ∷ [])) (groupSums namesMax (rootsIn page) (termsOf u))
+
+-- ---- convertible or not
+
+-- "no unit counting as empty"
+abbrev pub counted : MaybeUnit → Unit
+counted m = cond (m .some) (m .unit) (unitOf [])
+
+-- yes or no, or the refusal
+abbrev pub answered : Verdict → Bool → Conversion
+answered Passed holds = cond holds Conversion.Yes Conversion.No
+answered (Refused r) holds = Conversion.Refused r
+
+-- are two units, or none, convertible (`is_convertible_to`)
+unfoldable pub convertAnswer : List ℕ → List ℕ → Bool → MaybeUnit → MaybeUnit → Conversion
+convertAnswer page names lent left right =
+    answered (unitsVerdict page names lent (counted left ∷ counted right ∷ []))
+    (convertible namesMax (rootsIn page) (termsOf (counted left)) (termsOf (counted right)))
