@@ -87,6 +87,15 @@ module _ (names : List ℕ) (lent : Bool) where
   unfolding usedOf
   used-lent e h n is = (rw e is, rw is (lent-form e h .few))
 
+  -- no more numbers are in use than there can be
+  pub used-few : lentBroken names lent ≡ false → usedOf names lent ≤ namesMax
+  unfolding usedOf
+  used-few h = go lent refl
+    where
+      go : (b : Bool) → lent ≡ b → cond b (countOf names) namesMax ≤ namesMax
+      go true e = lent-form e h .few
+      go false e = le-refl namesMax
+
   pub used-unlent : lent ≡ false → (namesMax ≡ usedOf names lent) × (namesMax ≤ namesMax)
   unfolding usedOf
   used-unlent e = (rw e, le-refl namesMax)

@@ -2,3 +2,5 @@
 pub mod Table
 pub mod Page
 pub mod Calls
+pub mod Grown
+pub mod Run

@@ -1,8 +1,9 @@
 -- Lists of insertions, "refused ones included", each into the table "as the last one left it" (document 01, "Formulas and sheets").
 use mathlib.Core.Bool.{Bool, not, cond}
 use mathlib.Core.List.{List, [], _∷_}
-use Prim.Native.Nat.{ℕ}
+use Prim.Native.Nat.{ℕ, _≤_}
 use Rattle.refusals.specs.Numbers.{isRefused}
+use Rattle.names.specs.Table.{namesMax}
 use Rattle.groups.specs.Groups.{Pair, pair}
 use Rattle.pairs.specs.Table.{insertVerdict, insertion}
 use Rattle.pairs.specs.Calls.{pairVerdict, pageAfter}
@@ -53,9 +54,10 @@ accepted page rs = acceptedBy after accepts asked page rs
 
 -- ---- a table by value
 
--- a request for an insertion, with the number of names in use
+-- a request for an insertion, with the number of names in use, which is no more than there can be
 pub record TableRequest : Type 0 where
   pub used : ℕ
+  pub few : used ≤ namesMax
   pub symbol : ℕ
   pub factor : ℕ
   pub base : ℕ
