@@ -19,17 +19,12 @@ use Rattle.refusals.proofs.Lowest.{passed-parts}
 use Rattle.pages.specs.Quant.{anyTo, allTo, firstTo}
 use Rattle.pages.specs.Bytes.{eqs, zeros, countBytes, countOf, bytesOf, put}
 use Rattle.pages.proofs.Quant.{all-cong, first-cong, all-more, and-true}
-use Rattle.pages.proofs.Bytes.{zeros-drop}
+use Rattle.pages.proofs.Bytes.{zeros-made, zeros-drop}
 use Rattle.pages.proofs.Put.{put-length, put-before, put-after, put-in, put-drop, put-at}
 use Rattle.names.specs.Table.{namesMax, wellNamed, offset, nameAt, named, numberOf, goodAt, formed}
 use Rattle.names.specs.Calls.{emptyPage, isKnown, roomy, withName, addVerdict, pageAfter}
 use Rattle.names.proofs.Table.{offset-ge, offset-lt}
 use Rattle.names.proofs.Calls.{Form, form, empty-made}
-
-zeros-made : (n : ℕ) → zeros (replicate n 0) ≡ true
-unfolding zeros
-zeros-made zero = refl
-zeros-made (suc n) = zeros-made n
 
 -- ---- one more name
 

@@ -1,15 +1,16 @@
 -- Bytes compared and tested from an index on, one step at a time. Assumes nothing.
-use mathlib.Core.Path.{_≡_, refl, _∙_, ap}
+use mathlib.Core.Path.{_≡_, refl, sym, _∙_, ap}
 use mathlib.Core.Bool.{Bool, true, false, _&&_}
 use mathlib.Core.List.{List, [], _∷_}
-use Prim.Native.Nat.{ℕ, zero, suc, _+_, _<_, _≤_}
+use Prim.Native.Nat.{ℕ, zero, suc, _+_, _-_, _*_, _/_, _%_, _^_, _<_, _≤_}
+use native.Mathlib.Nat.{pow-suc, div-one, div-eq-of-lt, div-div-eq-div-mul, sub-zero, not-suc-le-zero, le-of-suc-le-suc}
 use native.Mathlib.Numerals.{add-one}
 use native.Mathlib.Omega.{arith}
-use lib.ListN.{length, getD, drop, drop-of-length-le}
+use lib.ListN.{length, getD, drop, replicate, drop-of-length-le}
 use lib.Seq.{drop-cons}
 use lib.Dec.{eqb}
 use borrow.Author.Tests.{eq-eqb, ne-eqb, eqb-true}
-use Rattle.pages.specs.Bytes.{eqs, zeros}
+use Rattle.pages.specs.Bytes.{eqs, zeros, bigEndian, numberAt}
 use Rattle.pages.proofs.Quant.{and-true}
 
 module _ (l m : List ℕ) (i : ℕ) (il : i < length l) (im : i < length m) where
@@ -70,9 +71,47 @@ unfolding eqs
 eqs-refl [] = refl
 eqs-refl (x ∷ xs) = rw (eq-eqb x x refl) (eqs-refl xs)
 
+-- a page of zeros
+pub zeros-made : (n : ℕ) → zeros (replicate n 0) ≡ true
+unfolding zeros
+zeros-made zero = refl
+zeros-made (suc n) = zeros-made n
+
+pub made-at : (n i : ℕ) → getD {A = ℕ} (replicate n 0) i 0 ≡ 0
+made-at zero i = refl
+made-at (suc n) zero = refl
+made-at (suc n) (suc i) = made-at n i
+
 -- zeros stay zeros from a later index on
 pub zeros-drop : (l : List ℕ) (k : ℕ) → zeros l ≡ true → zeros (drop k l) ≡ true
 unfolding zeros
 zeros-drop l zero h = h
 zeros-drop [] (suc k) h = refl
 zeros-drop (x ∷ l) (suc k) h = zeros-drop l k (and-true (eqb x 0) (zeros l) h .1)
+
+-- ---- numbers in bytes
+
+-- a quotient, and the byte after it
+next-byte : (n d : ℕ) → n / (d * 256) * 256 + n / d % 256 ≡ n / d
+next-byte n d = rw (← div-div-eq-div-mul n d 256) (omega arith)
+
+getD-big : (k n i : ℕ) → i < k → getD (bigEndian k n) i 0 ≡ n / 256 ^ (k - 1 - i) % 256
+getD-big zero n i l = absurd (not-suc-le-zero l)
+getD-big (suc k) n zero l = let e : suc k - 1 - 0 ≡ k = omega arith in rw e
+getD-big (suc k) n (suc i) l =
+    let e : suc k - 1 - suc i ≡ k - 1 - i = omega arith in
+    rw e (getD-big k n i (le-of-suc-le-suc l))
+
+-- the first k of w bytes that say a number
+front : (bytes : List ℕ) (at n w : ℕ) → n < 256 ^ w → ((i : ℕ) → i < w → getD bytes (at + i) 0 ≡ getD (bigEndian w n) i 0) → (k : ℕ) → k ≤ w → numberAt bytes at k ≡ n / 256 ^ (w - k)
+front bytes at n w h e zero l = sym (rw sub-zero (div-eq-of-lt h))
+front bytes at n w h e (suc k) l =
+    let m : w - k ≡ suc (w - 1 - k) = omega arith in
+    let o : w - suc k ≡ w - 1 - k = omega arith in
+    rw (e k l, getD-big w n k l, front bytes at n w h e k (omega arith), m, pow-suc, o) (next-byte n (256 ^ (w - 1 - k)))
+
+-- the bytes of a number, read from an index on, say it again
+pub number-back : (bytes : List ℕ) (at n w : ℕ) → n < 256 ^ w → ((i : ℕ) → i < w → getD bytes (at + i) 0 ≡ getD (bigEndian w n) i 0) → numberAt bytes at w ≡ n
+number-back bytes at n w h e =
+    let z : w - w ≡ 0 = omega arith in
+    front bytes at n w h e w (omega arith) ∙ rw z (div-one n)

@@ -216,6 +216,17 @@ module _ (page : List ℕ) (t : ConversionTable) (n : ℕ) (fm : Form t n) (size
       few : countOf after ≤ pairsMax
       few = rw after-count (unfold k in (fm .few))
 
+  pub written-count : countOf (withTable page t) ≡ t .count
+  unfolding k
+  written-count = rw after-is after-count
+
+  -- the bytes of its pairs are the table's
+  pub written-body : (i : ℕ) → i < pairBytes * t .count → getD (bodiesIn (withTable page t)) i 0 ≡ getD (t .pairs) i 0
+  unfolding k
+  written-body i l =
+      let c : countOf after ≡ t .count = after-count in
+      rw after-is (getD-take (pairBytes * countOf after) (drop countBytes after) i 0 (omega (arith, c)) ∙ getD-drop countBytes after i 0 ∙ after-body i l)
+
   -- the page lists what the table lists
   pub written-listed : listedIn (withTable page t) ≡ listed t
   written-listed = rw after-is after-listed

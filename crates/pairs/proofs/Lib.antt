@@ -4,3 +4,5 @@ pub mod Page
 pub mod Calls
 pub mod Grown
 pub mod Run
+pub mod Factors
+pub mod Fresh

@@ -16,16 +16,17 @@ use Rattle.refusals.specs.Lowest.{_when_}
 use Rattle.refusals.specs.declared.Refusal.the-variants.{Broken, Unused, Full}
 use Rattle.refusals.specs.declared.Verdict.the-variants.{Passed}
 use Rattle.refusals.proofs.Lowest.{passed-parts, passed-is, kept}
-use Rattle.pages.specs.Bytes.{zeros, countOf}
-use Rattle.pages.proofs.Quant.{and-true}
+use Rattle.pages.specs.Bytes.{zeros, countOf, put}
+use Rattle.pages.proofs.Quant.{and-true, all-at, all-each}
 use Rattle.pages.proofs.Bytes.{zeros-drop}
-use Rattle.pages.proofs.Pad.{length-pad}
+use Rattle.pages.proofs.Put.{put-before, put-in}
+use Rattle.pages.proofs.Pad.{length-pad, getD-pad}
 use Rattle.names.specs.Table.{namesMax}
 use Rattle.names.specs.Calls.{lentBroken, usedOf}
 use Rattle.names.proofs.Calls.{used-few}
 use Rattle.groups.specs.Groups.{Pair, pair, Within, Joined, Joining, walk, parentsOf, rootOf}
 use Rattle.groups.proofs.UnionFind.{groups, walk-short}
-use Rattle.pairs.specs.Table.{pairsMax, pairBytes, listed, bothUsed, insertVerdict, withPair, insertion}
+use Rattle.pairs.specs.Table.{pairsMax, pairBytes, bodyOf, pairAt, listed, bothUsed, usedAt, insertVerdict, withPair, insertion}
 use Rattle.pairs.specs.Table as tables
 use Rattle.pairs.specs.Page.{sizeOf, bodiesIn, parentsIn, tableIn, listedIn, holds, formed, withTable}
 use Rattle.pairs.specs.Calls.{pairVerdict, pageAfter}
@@ -33,7 +34,7 @@ use Rattle.pairs.specs.Runs.{afterAll, acceptedBy, Request, asked, accep
 use Rattle.pairs.specs.declared.ConversionTable.{ConversionTable}
 use Rattle.pairs.proofs.Table.{Form, form}
 use Rattle.pairs.proofs.Page.{count-in}
-use Rattle.pairs.proofs.Grown.{form-formed, form-within, more-used, listed-more, sized-more, form-more, written-listed, written-formed}
+use Rattle.pairs.proofs.Grown.{form-formed, form-within, more-used, listed-more, sized-more, form-more, written-count, written-body, written-listed, written-formed}
 
 -- ---- of any kind of table
 
@@ -103,6 +104,18 @@ page-form : (page : List ℕ) (n : ℕ) → formed page n ≡ true → (holds pa
 unfolding formed
 page-form page n e = let a = and-true (holds page) (tables.formed (tableIn page) n) e in (a .0, form (tableIn page) n (a .1))
 
+-- a page in form is so without names, too
+pub form-all : (page : List ℕ) (n : ℕ) → n ≤ namesMax → formed page n ≡ true → formed page namesMax ≡ true
+unfolding formed
+form-all page n few e =
+    let a = and-true (holds page) (tables.formed (tableIn page) n) e in
+    let f = form (tableIn page) n (a .1) in
+    rw (a .0) (form-formed (tableIn page) namesMax (record {
+      few = f .few;
+      given = f .given;
+      used = all-each (tableIn page .count) (usedAt (tableIn page .pairs) namesMax) (λ i l. more-used n namesMax (pairAt (tableIn page .pairs) i) few (all-at (usedAt (tableIn page .pairs) n) (tableIn page .count) i (f .used) l));
+    }))
+
 page-stays : (page : List ℕ) (r : Request) → accepts page r ≡ false → after page r ≡ page
 unfolding pageAfter
 page-stays page r e =
@@ -141,23 +154,41 @@ zeros-more page h =
     let e : sizeOf (countOf page + 1) ≡ sizeOf (countOf page) + pairBytes = omega arith in
     rw (e, ← drop-drop pairBytes (sizeOf (countOf page)) page) (zeros-drop (drop (sizeOf (countOf page)) page) pairBytes (a .1))
 
-page-grows : (page : List ℕ) (r : Request) → formed page namesMax ≡ true → accepts page r ≡ true → (formed (after page r) namesMax ≡ true) × (listedIn (after page r) ≡ listedIn page ++ (asked r ∷ []))
+-- what an insertion that is not refused leaves
+pub record Added (page : List ℕ) (r : Request) : Type 0 where
+  pub form! : formed (after page r) namesMax ≡ true
+  pub lists : listedIn (after page r) ≡ listedIn page ++ (asked r ∷ [])
+  pub count : countOf (after page r) ≡ countOf page + 1
+  pub old : (i : ℕ) → i < pairBytes * countOf page → getD (bodiesIn page) i 0 ≡ getD (bodiesIn (after page r)) i 0
+  pub new : (i : ℕ) → i < pairBytes → getD (bodiesIn (after page r)) (pairBytes * countOf page + i) 0 ≡ getD (bodyOf (r .symbol) (r .factor) (r .base)) i 0
+
+pub added : (page : List ℕ) (r : Request) → formed page namesMax ≡ true → accepts page r ≡ true → Added page r
 unfolding tableIn withPair
-page-grows page r g e =
+added page r g e =
     let k = taken page r e in
     let f = page-form page namesMax g in
     let t = tableIn page in
+    let body = bodyOf (r .symbol) (r .factor) (r .base) in
     let sized : length (t .pairs) ≡ pairBytes * pairsMax = length-pad (pairBytes * pairsMax) 0 (bodiesIn page) in
+    let fits : pairBytes * countOf page + length body ≤ length (t .pairs) = omega (arith, k .few, sized) in
     let grown = withPair t (r .symbol) (r .factor) (r .base) in
     let fm : Form grown namesMax = form-more t (r .symbol) (r .factor) (r .base) sized (k .few) namesMax (f .1) (k .used) in
     let sz = sized-more t (r .symbol) (r .factor) (r .base) sized (k .few) in
     let made = written-formed page grown namesMax fm sz (k .room) (zeros-more page (f .0)) in
     let lists = written-listed page grown namesMax fm sz (k .room) ∙ listed-more t (r .symbol) (r .factor) (r .base) sized (k .few) in
-    (rw (k .done) made, rw (k .done) lists)
+    let byte : (i : ℕ) → i < pairBytes * (countOf page + 1) → getD (bodiesIn (withTable page grown)) i 0 ≡ getD (put (t .pairs) (pairBytes * countOf page) body) i 0 =
+    λ i l. written-body page grown namesMax fm sz (k .room) i l in
+    record {
+      form! = rw (k .done) made;
+      lists = rw (k .done) lists;
+      count = rw (k .done) (written-count page grown namesMax fm sz (k .room));
+      old = λ i l. rw (k .done) (sym (byte i (omega arith) ∙ put-before (t .pairs) (pairBytes * countOf page) body fits i l ∙ getD-pad (pairBytes * pairsMax) 0 (bodiesIn page) i (omega (arith, k .few))));
+      new = λ i l. rw (k .done) (byte (pairBytes * countOf page + i) (omega arith) ∙ put-in (t .pairs) (pairBytes * countOf page) body fits i l);
+    }
 
 -- a run keeps the form, and lists what it accepts
 pub page-run : (rs : List Request) (page : List ℕ) → formed page namesMax ≡ true → (formed (pageAfterAll page rs) namesMax ≡ true) × (listedIn (pageAfterAll page rs) ≡ listedIn page ++ accepted page rs)
-page-run rs page g = run after accepts asked (λ (p : List ℕ). formed p namesMax ≡ true) listedIn page-stays page-grows rs page g
+page-run rs page g = run after accepts asked (λ (p : List ℕ). formed p namesMax ≡ true) listedIn page-stays (λ p r f e. (added p r f e .form!, added p r f e .lists)) rs page g
 
 pub page-within : (page : List ℕ) (n : ℕ) → formed page n ≡ true → Within n (listedIn page)
 page-within page n g = form-within (tableIn page) n (page-form page n g .1)

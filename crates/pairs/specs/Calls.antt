@@ -78,6 +78,10 @@ factorOf bodies i = Factor.Of (numberAt bodies (pairBytes * i + factorAt) longBy
 abbrev pub firstFactor : List ℕ → ℕ → ℕ → Factor
 firstFactor bodies k s = cond (ltb (firstTo k (isOf bodies s)) k) (factorOf bodies (firstTo k (isOf bodies s))) Factor.Absent
 
+-- the first factor of a symbol in a page
+abbrev pub factorIn : List ℕ → ℕ → Factor
+factorIn page s = firstFactor (bodiesIn page) (countOf page) s
+
 -- a factor, or the refusal
 abbrev pub factored : Verdict → Factor → Factor
 factored Passed f = f
@@ -85,4 +89,4 @@ factored (Refused r) f = Factor.Refused r
 
 -- the first factor of a symbol, with its base
 unfoldable pub factorAnswer : List ℕ → List ℕ → Bool → ℕ → Factor
-factorAnswer page names lent s = factored (symbolVerdict page names lent s) (firstFactor (bodiesIn page) (countOf page) s)
+factorAnswer page names lent s = factored (symbolVerdict page names lent s) (factorIn page s)

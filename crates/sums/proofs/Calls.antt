@@ -7,7 +7,7 @@ use native.Mathlib.Omega.{arith}
 use lib.ListN.{length}
 use borrow.Author.Tests.{not-false}
 use Rattle.refusals.specs.Numbers.{isRefused}
-use Rattle.refusals.specs.Lowest.{_when_}
+use Rattle.refusals.specs.Lowest.{_when_, lowest}
 use Rattle.refusals.specs.declared.Refusal.{Refusal}
 use Rattle.refusals.specs.declared.Refusal.the-variants.{Broken, Unused, BadUnit}
 use Rattle.refusals.specs.declared.Verdict.{Verdict}
@@ -18,6 +18,7 @@ use Rattle.pages.proofs.Bytes.{and-false}
 use Rattle.pages.proofs.Quant.{and-true}
 use Rattle.names.specs.Table.{namesMax}
 use Rattle.names.specs.Calls.{lentBroken, usedOf}
+use Rattle.names.proofs.Calls.{used-few}
 use Rattle.units.specs.Unit.{placesMax, inUse}
 use Rattle.units.specs.Unit as units
 use Rattle.units.specs.Calls.{termsOf, present}
@@ -27,6 +28,7 @@ use Rattle.groups.specs.Groups.{walk}
 use Rattle.pairs.specs.Page.{parentsIn, Held, formed}
 use Rattle.pairs.proofs.Page.{formed-held}
 use Rattle.pairs.proofs.Calls.{root-in}
+use Rattle.pairs.proofs.Run.{form-all}
 use Rattle.sums.specs.Sums.{groupSums, convertible, sumsOf}
 use Rattle.sums.specs.Calls.{allUsed, allFormed, unitsVerdict, rootsIn, summed, sumsAnswer, counted, convertAnswer}
 use Rattle.sums.specs.declared.SumsResult.{SumsResult}
@@ -75,14 +77,21 @@ module _ (page names : List ℕ) (lent : Bool) (a b : Unit) where
 
   -- what two units have that are not refused
   module _ (v : unitsVerdict page names lent (a ∷ b ∷ []) ≡ Passed) where
-    rest : (formed page (usedOf names lent) ≡ true) × (allFormed (a ∷ b ∷ []) ≡ true)
+    named : (lentBroken names lent ≡ false) × (lowest ((Broken when not (formed page (usedOf names lent))) ∷ (Unused when not (allUsed (usedOf names lent) (a ∷ b ∷ []))) ∷ (BadUnit when not (allFormed (a ∷ b ∷ []))) ∷ []) ≡ Passed)
     unfolding unitsVerdict
+    named =
+        passed-parts Broken (lentBroken names lent) ((Broken when not (formed page (usedOf names lent))) ∷ (Unused when not (allUsed (usedOf names lent) (a ∷ b ∷ []))) ∷ (BadUnit when not (allFormed (a ∷ b ∷ []))) ∷ []) v
+
+    rest : (formed page (usedOf names lent) ≡ true) × (allFormed (a ∷ b ∷ []) ≡ true)
     rest =
-        let w = passed-parts Broken (lentBroken names lent) ((Broken when not (formed page (usedOf names lent))) ∷ (Unused when not (allUsed (usedOf names lent) (a ∷ b ∷ []))) ∷ (BadUnit when not (allFormed (a ∷ b ∷ []))) ∷ []) v in
-        let x = passed-parts Broken (not (formed page (usedOf names lent))) ((Unused when not (allUsed (usedOf names lent) (a ∷ b ∷ []))) ∷ (BadUnit when not (allFormed (a ∷ b ∷ []))) ∷ []) (w .1) in
+        let x = passed-parts Broken (not (formed page (usedOf names lent))) ((Unused when not (allUsed (usedOf names lent) (a ∷ b ∷ []))) ∷ (BadUnit when not (allFormed (a ∷ b ∷ []))) ∷ []) (named .1) in
         let y = passed-parts Unused (not (allUsed (usedOf names lent) (a ∷ b ∷ []))) ((BadUnit when not (allFormed (a ∷ b ∷ []))) ∷ []) (x .1) in
         let z = passed-parts BadUnit (not (allFormed (a ∷ b ∷ []))) [] (y .1) in
         (not-false (formed page (usedOf names lent)) (x .0), not-false (allFormed (a ∷ b ∷ [])) (z .0))
+
+    -- the page is in form, whether or not names are lent
+    pub passed-all-names : formed page namesMax ≡ true
+    passed-all-names = form-all page (usedOf names lent) (used-few names lent (named .0)) (rest .0)
 
     pub passed-held : Held page
     passed-held = formed-held page (usedOf names lent) (rest .0)

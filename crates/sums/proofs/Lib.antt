@@ -6,3 +6,4 @@ pub mod Roots
 pub mod Gather
 pub mod Convert
 pub mod Calls
+pub mod Run

@@ -1,16 +1,16 @@
 -- Whether a unit's symbols are in use, place by place. Assumes nothing.
-use mathlib.Core.Path.{_≡_, sym, ap, _∙_}
+use mathlib.Core.Path.{_≡_, refl, sym, ap, _∙_}
 use mathlib.Core.Bool.{true, false}
-use mathlib.Core.List.{List, _∷_}
-use Prim.Native.Nat.{ℕ, _+_, _≤_, _<_}
+use mathlib.Core.List.{List, [], _∷_}
+use Prim.Native.Nat.{ℕ, suc, _+_, _≤_, _<_}
 use native.Mathlib.Omega.{arith}
 use lib.Dec.{ltb}
 use borrow.Author.Tests.{le-leb, lt-leb, lt-ltb, le-ltb, ltb-true}
 use Rattle.pages.proofs.Quant.{and-true}
-use Rattle.units.specs.Unit.{placesMax, Term, inUse}
+use Rattle.units.specs.Unit.{placesMax, Term, ordered, inUse}
 use Rattle.units.specs.Calls.{termsFrom, present}
 use Rattle.units.specs.declared.Unit.{Unit}
-use Rattle.units.proofs.Form.{symAt, from-start, from-step, from-end}
+use Rattle.units.proofs.Form.{ordered-parts, symAt, from-start, from-step, from-end}
 use Rattle.units.proofs.Held.{placesOf}
 
 pub in-use-head : (n : ℕ) (x : Term) (xs : List Term) → inUse n (x ∷ xs) ≡ true → x .symbol < n
@@ -55,3 +55,11 @@ module _ (n : ℕ) (u : Unit) (i : ℕ) (l : Looking n u i) where
       u-in = l .u-in;
       whole = sym (ap (inUse n) (from-step (placesOf u) i h) ∙ rw (lt-ltb (symAt (placesOf u) i) n s)) ∙ l .whole;
     }
+
+-- the symbols of terms in form are numbers of names
+pub ordered-used : (n lo : ℕ) (xs : List Term) → ordered n lo xs ≡ true → inUse n xs ≡ true
+unfolding inUse
+ordered-used n lo [] h = refl
+ordered-used n lo (x ∷ xs) h =
+    let p = ordered-parts n lo x xs h in
+    in-use-more n x xs (p .used) (ordered-used n (suc (x .symbol)) xs (p .rest))

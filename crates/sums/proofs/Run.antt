@@ -1,0 +1,55 @@
+-- The convertibility call says yes exactly if the two units have equal exponent sums in every group: of the pairs that its page
+-- lists (`converts`), and of those that it listed before any list of insertions with those accepted since (`run-converts`).
+-- Assumes nothing.
+use mathlib.Core.Path.{_≡_, refl, subst}
+use mathlib.Core.Logic.{_↔_}
+use mathlib.Core.Bool.{Bool, true, false, cond}
+use mathlib.Core.List.{List, [], _∷_, _++_}
+use Prim.Native.Nat.{ℕ}
+use native.Mathlib.Omega.{arith}
+use Rattle.refusals.specs.declared.Verdict.the-variants.{Passed}
+use Rattle.names.specs.Table.{namesMax}
+use Rattle.units.specs.Unit.{placesMax, Term, inUse}
+use Rattle.units.specs.Unit as units
+use Rattle.units.specs.Calls.{termsOf}
+use Rattle.units.specs.declared.Unit.{Unit}
+use Rattle.units.specs.declared.MaybeUnit.{MaybeUnit}
+use Rattle.units.proofs.Form.{formed-ordered}
+use Rattle.units.proofs.Used.{ordered-used}
+use Rattle.pairs.specs.Page.{listedIn, formed}
+use Rattle.pairs.specs.Runs.{Request, pageAfterAll, accepted}
+use Rattle.pairs.proofs.Run.{page-within, page-run}
+use Rattle.sums.specs.Sums.{convertible, SameSums}
+use Rattle.sums.specs.Calls.{unitsVerdict, rootsIn, counted, convertAnswer}
+use Rattle.sums.specs.declared.Conversion.{Conversion}
+use Rattle.sums.proofs.Convert.{convertible-groups}
+use Rattle.sums.proofs.Calls.{passed-all-names, passed-left, passed-right}
+
+-- yes is the answer of the test
+answer-yes : (b : Bool) → (cond b Conversion.Yes Conversion.No ≡ Conversion.Yes) ↔ (b ≡ true)
+answer-yes true = (λ e. refl, λ e. refl)
+answer-yes false = (λ e. let z : _≡_ {A = ℕ} 0 1 = cc in absurd (omega arith), λ e. let z : _≡_ {A = ℕ} 0 1 = cc in absurd (omega arith))
+
+formed-used : (u : Unit) → units.formed placesMax namesMax (termsOf u) ≡ true → inUse namesMax (termsOf u) ≡ true
+formed-used u f = ordered-used namesMax 0 (termsOf u) (formed-ordered placesMax namesMax (termsOf u) f)
+
+module _ (page names : List ℕ) (lent : Bool) (left right : MaybeUnit) (v : unitsVerdict page names lent (counted left ∷ counted right ∷ []) ≡ Passed) where
+  answer-is : (convertAnswer page names lent left right ≡ Conversion.Yes) ↔ (convertible namesMax (rootsIn page) (termsOf (counted left)) (termsOf (counted right)) ≡ true)
+  unfolding convertAnswer
+  answer-is = rw v (answer-yes (convertible namesMax (rootsIn page) (termsOf (counted left)) (termsOf (counted right))))
+
+  pub converts : (convertAnswer page names lent left right ≡ Conversion.Yes) ↔ SameSums namesMax (listedIn page) (termsOf (counted left)) (termsOf (counted right))
+  converts =
+      let f = passed-all-names page names lent (counted left) (counted right) v in
+      let g =
+      convertible-groups namesMax (listedIn page) (page-within page namesMax f) (termsOf (counted left)) (termsOf (counted right))
+      (formed-used (counted left) (passed-left page names lent (counted left) (counted right) v))
+      (formed-used (counted right) (passed-right page names lent (counted left) (counted right) v)) in
+      (λ e. g .0 (answer-is .0 e), λ s. answer-is .1 (g .1 s))
+
+pub run-converts : (rs : List Request) (page names : List ℕ) (lent : Bool) (left right : MaybeUnit)
+    → formed page namesMax ≡ true → unitsVerdict (pageAfterAll page rs) names lent (counted left ∷ counted right ∷ []) ≡ Passed
+    → (convertAnswer (pageAfterAll page rs) names lent left right ≡ Conversion.Yes) ↔ SameSums namesMax (listedIn page ++ accepted page rs) (termsOf (counted left)) (termsOf (counted right))
+run-converts rs page names lent left right g v =
+    subst (λ ps. (convertAnswer (pageAfterAll page rs) names lent left right ≡ Conversion.Yes) ↔ SameSums namesMax ps (termsOf (counted left)) (termsOf (counted right)))
+    (page-run rs page g .1) (converts (pageAfterAll page rs) names lent left right v)
