@@ -1,10 +1,10 @@
--- The group law: two symbols have one root exactly if the pairs join them, and no walk has more steps than there are joining pairs.
--- Of which root wins, only `link-either` is used. Assumes nothing.
+-- The group law: two symbols have one root exactly if the pairs join them, and no walk has more steps than there are joining pairs,
+-- of which there is always a number (`joining`). Of which root wins, only `link-either` is used. Assumes nothing.
 use mathlib.Core.Path.{_≡_, refl, sym, _∙_, ap, subst}
 use mathlib.Core.Logic.{_⊎_, inl, inr, _≢_, _↔_}
 use mathlib.Core.Bool.{Bool, true, false}
 use mathlib.Core.List.{List, [], _∷_, _++_, append-assoc, append-nil, List·Memᴰ, Memᴰ·append-left, Memᴰ·append-right, List·Memᴰ·head, List·Memᴰ·append-cases, List·Memᴰ·eq-of-singleton, List·Memᴰ·not-nil}
-use Prim.Native.Nat.{ℕ, zero, suc, _+_, _<_, _≤_}
+use Prim.Native.Nat.{ℕ, zero, suc, _+_, _-_, _<_, _≤_}
 use native.Mathlib.Nat.{zero-add, add-suc, suc-add, add-zero}
 use native.Mathlib.Decide.{ℕ-discrete}
 use native.Mathlib.Omega.{arith}
@@ -51,6 +51,12 @@ pub walk-below : (n k : ℕ) (p : List ℕ) (s : ℕ) → ((t : ℕ) → t < n �
 unfolding walk
 walk-below n zero p s h l = l
 walk-below n (suc k) p s h l = walk-below n k p (getD p s 0) h (h s l)
+
+-- j + m steps are j steps, then m more
+walk-split : (j m : ℕ) (p : List ℕ) (s : ℕ) → walk (j + m) p s ≡ walk m p (walk j p s)
+unfolding walk
+walk-split zero m p s = rw zero-add
+walk-split (suc j) m p s = rw suc-add (walk-split j m p (getD p s 0))
 
 -- ---- the root a is made the parent of the root b
 
@@ -103,6 +109,7 @@ module _ (p : List ℕ) (a b : ℕ) (inside : b < length p) (root-a : getD p a 0
 
 -- ---- more pairs join more
 
+-- what some pairs join, they join with others after them
 pub join-more : {ps : List Pair} (qs : List Pair) {s t : ℕ} → Joined ps s t → Joined (ps ++ qs) s t
 join-more qs (listed q m) = listed q (Memᴰ·append-left qs m)
 join-more qs (same s) = same s
@@ -248,11 +255,13 @@ stands-all n (q ∷ qs) done k p g w =
     let ih = stands-all n qs (done ++ (q ∷ [])) (suc k) (enter k p q) (stands-more n done k p g q (wq .0) (wq .1) (within-left n done (q ∷ qs) w)) (within-next n done q qs w) in
     rw (add-suc, ← suc-add) (rw append-assoc at ih)
 
+-- n symbols have n parents
 pub length-selves : (s n : ℕ) → length (selves s n) ≡ n
 unfolding selves
 length-selves s zero = refl
 length-selves s (suc n) = ap suc (length-selves (suc s) n)
 
+-- each is its own
 pub getD-selves : (s n i : ℕ) → i < n → getD (selves s n) i 0 ≡ s + i
 unfolding selves
 getD-selves s zero i l = omega arith
@@ -290,6 +299,7 @@ module _ (n : ℕ) (ps : List Pair) (w : Within n ps) where
   pub groups : (s t : ℕ) → s < n → t < n → (rootOf n ps s ≡ rootOf n ps t) ↔ Joined ps s t
   groups s t ls lt = (λ e. chain (rw e at (joined-root s ls)) (back (joined-root t lt)), one-root)
 
+  -- a root is a symbol below n
   pub root-below : (s : ℕ) → s < n → rootOf n ps s < n
   unfolding rootOf
   root-below s l = walk-below n (length ps) (parentsOf n ps) s (stands n ps w .below) l
@@ -324,8 +334,48 @@ shorts n (q ∷ qs) done k i j p g h w (idle {k = m} joined rest) =
     let e = enter-same n done k p g q (wq .0) (wq .1) (unfold x y in (meets n done k p g joined)) in
     shorts n qs (done ++ (q ∷ [])) (suc k) i m (enter k p q) g′ (rw e h) (within-next n done q qs w) rest
 
--- as many steps as there are joining pairs lead to the root
-pub walk-short : (n : ℕ) (ps : List Pair) (j : ℕ) → Within n ps → Joining [] ps j → (s : ℕ) → s < n
+-- there are no more joining pairs than pairs
+joining-few : {done ps : List Pair} {j : ℕ} → Joining done ps j → j ≤ length ps
+joining-few none = omega arith
+joining-few (joins apart rest) = let few = joining-few rest in omega (arith, few)
+joining-few (idle joined rest) = let few = joining-few rest in omega (arith, few)
+
+-- as many steps as there are joining pairs lead to a root
+pub walk-rests : (n : ℕ) (ps : List Pair) (j : ℕ) → Within n ps → Joining [] ps j → (s : ℕ) → s < n
     → getD (parentsOf n ps) (walk j (parentsOf n ps) s) 0 ≡ walk j (parentsOf n ps) s
 unfolding parentsOf
-walk-short n ps j w c s l = rw zero-add at (shorts n ps [] 0 0 j (selves 0 n) (stands-none n) (stands-none n .rests) w c s l)
+walk-rests n ps j w c s l = rw zero-add at (shorts n ps [] 0 0 j (selves 0 n) (stands-none n) (stands-none n .rests) w c s l)
+
+-- that root is the symbol's own: as many steps as there are joining pairs lead to the same place as one for every pair
+pub walk-short : (n : ℕ) (ps : List Pair) (j : ℕ) → Within n ps → Joining [] ps j → (s : ℕ) → s < n → walk j (parentsOf n ps) s ≡ rootOf n ps s
+unfolding rootOf
+walk-short n ps j w c s l =
+    let few : j ≤ length ps = joining-few c in
+    let e : j + (length ps - j) ≡ length ps = omega (arith, few) in
+    sym (walk-stays (length ps - j) (parentsOf n ps) (walk j (parentsOf n ps) s) (walk-rests n ps j w c s l))
+    ∙ sym (walk-split j (length ps - j) (parentsOf n ps) s)
+    ∙ ap (λ (m : ℕ). walk m (parentsOf n ps) s) e
+
+-- ---- there is a number of joining pairs
+
+joining-after : (n : ℕ) (ps done : List Pair) → Within n (done ++ ps) → (j : ℕ) × Joining done ps j
+joining-after n [] done w = (0, none)
+joining-after n (q ∷ qs) done w =
+    let wq = within-head n done q qs w in
+    let rest = joining-after n qs (done ++ (q ∷ [])) (within-next n done q qs w) in
+    elim (joined? n done (within-left n done (q ∷ qs) w) (q .symbol) (q .base) (wq .0) (wq .1)) [
+      | yes joined ↦ (rest .0, idle joined (rest .1))
+      | no apart ↦ (suc (rest .0), joins apart (rest .1))
+    ]
+
+-- there is a number of joining pairs, no more than the pairs
+pub joining : (n : ℕ) (ps : List Pair) → Within n ps → (j : ℕ) × Joining [] ps j × (j ≤ length ps)
+joining n ps w = let some = joining-after n ps [] w in (some .0, some .1, joining-few (some .1))
+
+-- ---- a pair that joins nothing
+
+-- a pair whose symbols are in one group already changes no parent
+pub enter-idle : (n : ℕ) (ps : List Pair) (q : Pair) → Within n ps → q .symbol < n → q .base < n → Joined ps (q .symbol) (q .base) → enter (length ps) (parentsOf n ps) q ≡ parentsOf n ps
+enter-idle n ps q w qs qb joined =
+    let g = stands n ps w in
+    enter-same n ps (length ps) (parentsOf n ps) g q qs qb (unfold x y in (meets n ps (length ps) (parentsOf n ps) g joined))

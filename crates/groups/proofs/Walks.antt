@@ -1,4 +1,4 @@
--- Walks one step at a time, and parents one pair at a time. Assumes nothing.
+-- Walks one step at a time, and parents one list of pairs after another. Assumes nothing.
 use mathlib.Core.Path.{_≡_, refl, sym, _∙_, ap}
 use mathlib.Core.List.{List, [], _∷_, _++_}
 use Prim.Native.Nat.{ℕ, zero, suc, _+_, _-_, _<_, _≤_}
@@ -22,19 +22,26 @@ walk-none n k p x l =
     let e : n - k ≡ 0 = omega arith in
     ap (λ (m : ℕ). walk m p x) e
 
--- ---- one more pair at the end
+-- ---- more pairs at the end
 
-enterAll-snoc : (k : ℕ) (p : List ℕ) (ps : List Pair) (q : Pair) → enterAll k p (ps ++ (q ∷ [])) ≡ enter (k + length ps) (enterAll k p ps) q
+enterAll-append : (k : ℕ) (p : List ℕ) (ps qs : List Pair) → enterAll k p (ps ++ qs) ≡ enterAll (k + length ps) (enterAll k p ps) qs
 unfolding enterAll
-enterAll-snoc k p [] q = rw add-zero
-enterAll-snoc k p (r ∷ ps) q = enterAll-snoc (suc k) (enter k p r) ps q ∙ rw (suc-add, ← add-suc)
+enterAll-append k p [] qs = rw add-zero
+enterAll-append k p (r ∷ ps) qs = enterAll-append (suc k) (enter k p r) ps qs ∙ rw (suc-add, ← add-suc)
 
-pub parents-snoc : (n : ℕ) (ps : List Pair) (q : Pair) → parentsOf n (ps ++ (q ∷ [])) ≡ enter (length ps) (parentsOf n ps) q
+-- the parents of two lists: those of the first, with the second entered
+pub parents-append : (n : ℕ) (ps qs : List Pair) → parentsOf n (ps ++ qs) ≡ enterAll (length ps) (parentsOf n ps) qs
 unfolding parentsOf
-parents-snoc n ps q = enterAll-snoc 0 (selves 0 n) ps q ∙ rw zero-add
+parents-append n ps qs = enterAll-append 0 (selves 0 n) ps qs ∙ rw zero-add
+
+-- those of a list and one more pair
+pub parents-snoc : (n : ℕ) (ps : List Pair) (q : Pair) → parentsOf n (ps ++ (q ∷ [])) ≡ enter (length ps) (parentsOf n ps) q
+unfolding enterAll
+parents-snoc n ps q = parents-append n ps (q ∷ [])
 
 -- ---- lengths
 
+-- one more pair leaves as many parents
 pub length-enter : (k : ℕ) (p : List ℕ) (q : Pair) → length (enter k p q) ≡ length p
 unfolding enter
 length-enter k p q = length-set p (linkAt k p q .child) (linkAt k p q .root)
@@ -44,6 +51,7 @@ unfolding enterAll
 length-enterAll k p [] = refl
 length-enterAll k p (q ∷ qs) = length-enterAll (suc k) (enter k p q) qs ∙ length-enter k p q
 
+-- n symbols have n parents, whatever the pairs
 pub length-parents : (n : ℕ) (ps : List Pair) → length (parentsOf n ps) ≡ n
 unfolding parentsOf
 length-parents n ps = length-enterAll 0 (selves 0 n) ps ∙ length-selves 0 n
