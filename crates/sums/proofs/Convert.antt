@@ -1,5 +1,6 @@
--- Convertible: the same group sums (`convertible-sums`, the source's test), and the same exponent sum in every group, whatever
--- its root is (`convertible-groups`). For any number of symbols. Assumes nothing.
+-- Convertible: the same group sums (`convertible-sums`, the source's test), and the same exponent sum in every group, for any
+-- function that gives each group one root of its own (`convertible-by`), as the parents of the pairs do (`convertible-groups`).
+-- For any number of symbols. Assumes nothing.
 use mathlib.Core.Path.{_≡_, refl, sym, ap, ap₂, subst, _∙_}
 use mathlib.Core.Logic.{_↔_}
 use mathlib.Core.Bool.{Bool, true, false}
@@ -16,8 +17,9 @@ use Rattle.units.specs.Unit.{Term, term, exponent, inUse}
 use Rattle.units.proofs.Order.{part-other}
 use Rattle.units.proofs.Si.{written-exponent}
 use Rattle.units.proofs.Used.{in-use-head, in-use-tail}
-use Rattle.groups.specs.Groups.{Pair, Within, rootOf}
-use Rattle.groups.proofs.UnionFind.{joined-root, one-root, groups, root-below}
+use Rattle.groups.specs.Groups.{Pair, Within, Joined, rootOf}
+use Rattle.groups.specs.Groups.Joined.{back, chain}
+use Rattle.groups.proofs.UnionFind.{joined-root, one-root, root-below}
 use Rattle.sums.specs.Sums.{sumAt, groupSums, equal, convertible, SumIn, SameSums}
 use Rattle.sums.specs.Sums.SumIn.{none, inside, outside}
 use Rattle.sums.proofs.Written.{written-agree}
@@ -37,10 +39,12 @@ equal-self (negsuc a) = eq-eqb a a refl
 -- ---- convertible is the agreement of all sums
 
 module _ (n : ℕ) (root : ℕ → ℕ) (xs ys : List Term) where
+  -- the sums of convertible units agree at each symbol below n
   pub convertible-each : convertible n root xs ys ≡ true → (g : ℕ) → g < n → sumAt root g xs ≡ sumAt root g ys
   unfolding convertible
   convertible-each h g l = equal-true (sumAt root g xs) (sumAt root g ys) (all-at (λ g. equal (sumAt root g xs) (sumAt root g ys)) n g h l)
 
+  -- units whose sums agree at each symbol below n are convertible
   pub each-convertible : ((g : ℕ) → g < n → sumAt root g xs ≡ sumAt root g ys) → convertible n root xs ys ≡ true
   unfolding convertible
   each-convertible h = all-each n (λ g. equal (sumAt root g xs) (sumAt root g ys)) (λ g l. ap (equal (sumAt root g xs)) (sym (h g l)) ∙ equal-self (sumAt root g xs))
@@ -72,43 +76,70 @@ sum-one (inside j a) (outside k b) = absurd (k j)
 sum-one (outside j a) (inside k b) = absurd (j k)
 sum-one (outside j a) (outside k b) = sum-one a b
 
-module _ (n : ℕ) (ps : List Pair) (w : Within n ps) where
+-- ---- by any roots of the groups
+
+-- each symbol below n has a root below n, in its own group, and a group has one root
+pub record Roots (n : ℕ) (ps : List Pair) (root : ℕ → ℕ) : Type 0 where
+  pub below : (s : ℕ) → s < n → root s < n
+  pub sound : (s : ℕ) → s < n → Joined ps s (root s)
+  pub one : {s t : ℕ} → s < n → t < n → Joined ps s t → root s ≡ root t
+
+module _ (n : ℕ) (ps : List Pair) (root : ℕ → ℕ) (r : Roots n ps root) where
+  -- two symbols with one root are in one group
+  joined-by : (s t : ℕ) → s < n → t < n → root s ≡ root t → Joined ps s t
+  joined-by s t ls lt e = chain (rw e at (r .sound s ls)) (back (r .sound t lt))
+
+  -- a root is its own root
+  own-root : (s : ℕ) → s < n → root (root s) ≡ root s
+  own-root s l = sym (r .one l (r .below s l) (r .sound s l))
+
   -- the sum at a symbol's root is the sum in its group
-  sum-in : (s : ℕ) → s < n → (xs : List Term) → inUse n xs ≡ true → SumIn ps s xs (sumAt (rootOf n ps) (rootOf n ps s) xs)
+  sum-in : (s : ℕ) → s < n → (xs : List Term) → inUse n xs ≡ true → SumIn ps s xs (sumAt root (root s) xs)
   sum-in s l [] h = none
-  sum-in s l (x ∷ xs) h = go (ℕ-discrete (rootOf n ps s) (rootOf n ps (x .symbol))) (sum-in s l xs (in-use-tail n x xs h))
+  sum-in s l (x ∷ xs) h = go (ℕ-discrete (root s) (root (x .symbol))) (sum-in s l xs (in-use-tail n x xs h))
     where
-      go : Dec (rootOf n ps s ≡ rootOf n ps (x .symbol)) → SumIn ps s xs (sumAt (rootOf n ps) (rootOf n ps s) xs) → SumIn ps s (x ∷ xs) (sumAt (rootOf n ps) (rootOf n ps s) (x ∷ xs))
-      go (yes e) a = rw (eq-eqb (rootOf n ps s) (rootOf n ps (x .symbol)) e) (inside (groups n ps w s (x .symbol) l (in-use-head n x xs h) .0 e) a)
-      go (no ne) a = rw (ne-eqb (rootOf n ps s) (rootOf n ps (x .symbol)) ne, +ℤ-idl (sumAt (rootOf n ps) (rootOf n ps s) xs)) (outside (λ j. ne (one-root n ps w j)) a)
+      go : Dec (root s ≡ root (x .symbol)) → SumIn ps s xs (sumAt root (root s) xs) → SumIn ps s (x ∷ xs) (sumAt root (root s) (x ∷ xs))
+      go (yes e) a = rw (eq-eqb (root s) (root (x .symbol)) e) (inside (joined-by s (x .symbol) l (in-use-head n x xs h) e) a)
+      go (no ne) a = rw (ne-eqb (root s) (root (x .symbol)) ne, +ℤ-idl (sumAt root (root s) xs)) (outside (λ j. ne (r .one l (in-use-head n x xs h) j)) a)
 
   -- what is nobody's root has no sum
-  nobody : (g : ℕ) → (rootOf n ps g ≡ g → ⊥) → (xs : List Term) → inUse n xs ≡ true → sumAt (rootOf n ps) g xs ≡ pos 0
+  nobody : (g : ℕ) → (root g ≡ g → ⊥) → (xs : List Term) → inUse n xs ≡ true → sumAt root g xs ≡ pos 0
   nobody g no-root [] h = refl
   nobody g no-root (x ∷ xs) h =
       ap₂ _+ℤ_
-      (part-other g (term (rootOf n ps (x .symbol)) (x .exp)) (λ e. no-root (ap (rootOf n ps) e ∙ sym (one-root n ps w (joined-root n ps w (x .symbol) (in-use-head n x xs h))) ∙ sym e)))
+      (part-other g (term (root (x .symbol)) (x .exp)) (λ e. no-root (ap root e ∙ own-root (x .symbol) (in-use-head n x xs h) ∙ sym e)))
       (nobody g no-root xs (in-use-tail n x xs h))
 
   module _ (xs ys : List Term) (ux : inUse n xs ≡ true) (uy : inUse n ys ≡ true) where
-    to-groups : convertible n (rootOf n ps) xs ys ≡ true → SameSums n ps xs ys
+    to-groups : convertible n root xs ys ≡ true → SameSums n ps xs ys
     unfolding SameSums
     to-groups h s l = (
-      sumAt (rootOf n ps) (rootOf n ps s) xs,
+      sumAt root (root s) xs,
       sum-in s l xs ux,
-      subst (SumIn ps s ys) (sym (convertible-each n (rootOf n ps) xs ys h (rootOf n ps s) (root-below n ps w s l))) (sum-in s l ys uy),
+      subst (SumIn ps s ys) (sym (convertible-each n root xs ys h (root s) (r .below s l))) (sum-in s l ys uy),
     )
 
-    from-groups : SameSums n ps xs ys → (g : ℕ) → g < n → sumAt (rootOf n ps) g xs ≡ sumAt (rootOf n ps) g ys
+    from-groups : SameSums n ps xs ys → (g : ℕ) → g < n → sumAt root g xs ≡ sumAt root g ys
     unfolding SameSums
-    from-groups same g l = go (ℕ-discrete (rootOf n ps g) g) (same g l)
+    from-groups same g l = go (ℕ-discrete (root g) g) (same g l)
       where
-        go : Dec (rootOf n ps g ≡ g) → (z : ℤ) × SumIn ps g xs z × SumIn ps g ys z → sumAt (rootOf n ps) g xs ≡ sumAt (rootOf n ps) g ys
+        go : Dec (root g ≡ g) → (z : ℤ) × SumIn ps g xs z × SumIn ps g ys z → sumAt root g xs ≡ sumAt root g ys
         go (yes e) (z, a, b) =
-            let same-root : sumAt (rootOf n ps) (rootOf n ps g) xs ≡ sumAt (rootOf n ps) (rootOf n ps g) ys = sum-one (sum-in g l xs ux) a ∙ sum-one b (sum-in g l ys uy) in
-            subst (λ (t : ℕ). sumAt (rootOf n ps) t xs ≡ sumAt (rootOf n ps) t ys) e same-root
+            let same-root : sumAt root (root g) xs ≡ sumAt root (root g) ys = sum-one (sum-in g l xs ux) a ∙ sum-one b (sum-in g l ys uy) in
+            subst (λ (t : ℕ). sumAt root t xs ≡ sumAt root t ys) e same-root
         go (no ne) both = nobody g ne xs ux ∙ sym (nobody g ne ys uy)
 
-    -- two units are convertible exactly if they have equal exponent sums in every group
-    pub convertible-groups : (convertible n (rootOf n ps) xs ys ≡ true) ↔ SameSums n ps xs ys
-    convertible-groups = (to-groups, λ same. each-convertible n (rootOf n ps) xs ys (from-groups same))
+    -- by any roots of the groups, two units are convertible exactly if they have equal exponent sums in every group
+    pub convertible-by : (convertible n root xs ys ≡ true) ↔ SameSums n ps xs ys
+    convertible-by = (to-groups, λ same. each-convertible n root xs ys (from-groups same))
+
+-- ---- by the roots that the pairs give
+
+module _ (n : ℕ) (ps : List Pair) (w : Within n ps) where
+  -- they are roots of the groups
+  pub pair-roots : Roots n ps (rootOf n ps)
+  pair-roots = record { below = root-below n ps w; sound = joined-root n ps w; one = λ ls lt j. one-root n ps w j }
+
+  -- by them, two units are convertible exactly if they have equal exponent sums in every group
+  pub convertible-groups : (xs ys : List Term) → inUse n xs ≡ true → inUse n ys ≡ true → (convertible n (rootOf n ps) xs ys ≡ true) ↔ SameSums n ps xs ys
+  convertible-groups = convertible-by n ps (rootOf n ps) pair-roots
