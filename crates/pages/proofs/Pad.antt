@@ -1,10 +1,11 @@
 -- A list in an array of n places: how it grows, and how bytes put into zeros make one. Assumes nothing.
-use mathlib.Core.Path.{_≡_, refl, sym, ap}
+use mathlib.Core.Path.{_≡_, refl, sym, _∙_, ap}
 use mathlib.Core.List.{List, [], _∷_, _++_}
 use Prim.Native.Nat.{ℕ, zero, suc, _+_, _≤_, _<_}
 use native.Mathlib.Nat.{le-of-suc-le-suc, not-suc-le-zero, zero-add}
-use lib.ListN.{length, getD, set, drop, replicate}
-use lib.Seq.{take-length}
+use native.Mathlib.Omega.{arith}
+use lib.ListN.{length, getD, set, take, drop, replicate, length-take}
+use lib.Seq.{take-length, getD-take, ext-getD}
 use Rattle.pages.specs.Bytes.{put}
 use Rattle.pages.specs.Pad.{pad}
 
@@ -51,3 +52,9 @@ behind (suc n) (x ∷ xs) h = ap (λ l. x ∷ l) (behind n xs (le-of-suc-le-suc 
 -- bytes put at the front of zeros
 pub put-pad : (n : ℕ) (xs : List ℕ) → length xs ≤ n → put (replicate n 0) 0 xs ≡ pad n 0 xs
 put-pad n xs h = rw (take-length xs, zero-add) (behind n xs h)
+
+-- as many places as the list has elements hold the list
+pub pad-front : (n : ℕ) (xs : List ℕ) (k : ℕ) → length xs ≡ k → k ≤ n → take k (pad n 0 xs) ≡ xs
+pad-front n xs k e h =
+    let l : length (take k (pad n 0 xs)) ≡ length xs = simp (length-take, length-pad) (omega arith) in
+    ext-getD 0 (take k (pad n 0 xs)) xs l (λ i b. getD-take k (pad n 0 xs) i 0 (omega (arith, l)) ∙ getD-pad n 0 xs i (omega (arith, l)))

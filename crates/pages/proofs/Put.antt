@@ -30,6 +30,12 @@ module _ (l : List ℕ) (at : ℕ) (bs : List ℕ) (fits : at + length bs ≤ le
   pub put-part : (k : ℕ) → length bs ≡ k → take k (drop at (put l at bs)) ≡ bs
   put-part k e = rw put-at (take-at bs (drop (at + length bs) l) k e)
 
+  -- the front of the page as far as the bytes go
+  pub put-front : take (at + length bs) (put l at bs) ≡ take at l ++ bs
+  put-front =
+      let e : length (take at l ++ bs) ≡ at + length bs = length-append (take at l) bs ∙ rw front in
+      ap (take (at + length bs)) (split ∙ sym (append-assoc (take at l) bs (drop (at + length bs) l))) ∙ take-at (take at l ++ bs) (drop (at + length bs) l) (at + length bs) e
+
   pub put-in : (i : ℕ) → i < length bs → getD (put l at bs) (at + i) 0 ≡ getD bs i 0
   put-in i h = sym (getD-drop at (put l at bs) i 0) ∙ rw put-at (List·getD-append bs (drop (at + length bs) l) 0 i h)
 

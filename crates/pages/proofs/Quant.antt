@@ -108,3 +108,14 @@ pub all-each : (n : ℕ) (p : ℕ → Bool) → ((i : ℕ) → i < n → p i ≡
 unfolding allTo
 all-each zero p h = refl
 all-each (suc n) p h = rw (all-each n p (λ i l. h i (omega arith))) (h n (omega arith))
+
+-- what some number passes, the first one passes below the bound
+pub first-below : (p : ℕ → Bool) (n : ℕ) → anyTo n p ≡ true → firstTo n p < n
+unfolding anyTo firstTo
+first-below p zero e = let z : _≡_ {A = ℕ} 0 1 = cc in absurd (omega arith)
+first-below p (suc n) e = go (anyTo n p) (p n) refl e (first-below p n)
+  where
+    go : (a b : Bool) → anyTo n p ≡ a → cond a true b ≡ true → (anyTo n p ≡ true → firstTo n p < n) → cond a (firstTo n p) (cond b n (suc n)) < suc n
+    go true b f h ih = omega (arith, ih f)
+    go false true f h ih = omega arith
+    go false false f h ih = let z : _≡_ {A = ℕ} 0 1 = cc in absurd (omega arith)

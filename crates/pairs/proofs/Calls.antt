@@ -1,10 +1,10 @@
 -- What the calls on a page of pairs come to, one law for each return. Assumes nothing.
-use mathlib.Core.Path.{_≡_, refl, sym, _∙_, ap}
+use mathlib.Core.Path.{_≡_, refl, sym, _∙_, ap, subst}
 use mathlib.Core.Bool.{Bool, true, false, _&&_, not, cond}
 use mathlib.Core.List.{List, [], _∷_}
 use Prim.Native.Nat.{ℕ, _+_, _-_, _*_, _<_, _≤_}
 use native.Mathlib.Omega.{arith}
-use lib.Dec.{leb, ltb}
+use lib.Dec.{T, leb, ltb}
 use lib.ListN.{length, take, drop, replicate}
 use borrow.Author.Tests.{le-leb, lt-leb, lt-ltb, le-ltb, leb-false, not-false}
 use Rattle.refusals.specs.Numbers.{isRefused}
@@ -16,20 +16,19 @@ use Rattle.refusals.specs.declared.Verdict.the-variants.{Passed, Refused}
 use Rattle.refusals.proofs.Lowest.{first-holds, passed-parts, passed-is}
 use Rattle.pages.specs.Quant.{firstTo}
 use Rattle.pages.specs.Bytes.{countBytes, countOf, put}
-use Rattle.pages.proofs.Quant.{and-true}
 use Rattle.names.specs.Table.{namesMax}
 use Rattle.names.specs.Calls.{lentBroken, usedOf}
 use Rattle.groups.specs.Groups.{Pair, pair, selves, walk, parentsOf, rootOf}
 use Rattle.pairs.specs.Table.{pairsMax, pairBytes, listed, bothUsed, insertVerdict, withPair, insertion}
 use Rattle.pairs.specs.Table as tables
 use Rattle.pairs.specs.Page.{parentsAt, sizeOf, bodiesIn, parentsIn, tableIn, listedIn, holds, formed, withTable}
-use Rattle.pairs.specs.Calls.{emptyVerdict, emptyPage, pairVerdict, pageAfter, symbolVerdict, rootAnswer, isOf, factorOf, firstFactor, factorAnswer}
+use Rattle.pairs.specs.Calls.{tableBroken, emptyVerdict, emptyPage, pairVerdict, pageAfter, symbolVerdict, rootAnswer, isOf, factorOf, firstFactor, factorAnswer}
 use Rattle.pairs.specs.declared.ConversionTable.{ConversionTable}
 use Rattle.pairs.specs.declared.Outcome.{Outcome}
 use Rattle.pairs.specs.declared.Root.{Root}
 use Rattle.pairs.specs.declared.Factor.{Factor}
-use Rattle.pairs.proofs.Table.{length-pairs, form}
-use Rattle.pairs.proofs.Page.{held, form-held, count-in}
+use Rattle.pairs.proofs.Table.{length-pairs}
+use Rattle.pairs.proofs.Page.{form-held, form-unheld, formed-parts, count-in}
 
 -- ---- making a table
 
@@ -42,12 +41,37 @@ module _ (page : List ℕ) where
   unfolding emptyVerdict emptyPage
   empty-made h = (rw (le-ltb (length page) (sizeOf 0) h), rw (le-ltb (length page) (sizeOf 0) h))
 
+-- ---- names and table
+
+module _ (page names : List ℕ) (lent : Bool) where
+  pub broken-names : lentBroken names lent ≡ true → true ≡ tableBroken page names lent
+  unfolding tableBroken
+  broken-names l = rw l
+
+  pub broken-rest : lentBroken names lent ≡ false → not (formed page (usedOf names lent)) ≡ tableBroken page names lent
+  unfolding tableBroken
+  broken-rest l = rw l
+
+  -- where neither breaks its form
+  pub unbroken : tableBroken page names lent ≡ false → (lentBroken names lent ≡ false) × (formed page (usedOf names lent) ≡ true)
+  unfolding tableBroken
+  unbroken e = go (lentBroken names lent) refl
+    where
+      go : (b : Bool) → lentBroken names lent ≡ b → (b ≡ false) × (formed page (usedOf names lent) ≡ true)
+      go true l = let z : _≡_ {A = Bool} true false = rw l at e in absurd (subst T z tt)
+      go false l = (refl, not-false (formed page (usedOf names lent)) (rw l at e))
+
 -- ---- insertion
 
 -- a verdict, or 10 where nothing else is refused and there is no room
 roomed : Verdict → Bool → Verdict
 roomed Passed cramped = cond cramped (Refused Full) Passed
 roomed (Refused r) cramped = Refused r
+
+roomy : (v : Verdict) → roomed v false ≡ v
+unfolding roomed
+roomy Passed = refl
+roomy (Refused r) = refl
 
 lowest-room : (a b c d : Bool)
     → lowest ((Broken when a) ∷ (Unused when b) ∷ (Full when c) ∷ (Full when d) ∷ []) ≡ roomed (lowest ((Broken when a) ∷ (Unused when b) ∷ (Full when c) ∷ [])) d
@@ -71,28 +95,32 @@ module _ (page names : List ℕ) (lent : Bool) (s f b : ℕ) where
   unfolding pageAfter
   refused r v = (sym v, rw v)
 
-  pub pair-unnamed : lentBroken names lent ≡ true → (Refused Broken ≡ pairVerdict page names lent (pair s b)) × (page ≡ pageAfter page names lent s f b)
+  pub pair-broken : tableBroken page names lent ≡ true → (Refused Broken ≡ pairVerdict page names lent (pair s b)) × (page ≡ pageAfter page names lent s f b)
   unfolding pairVerdict
-  pair-unnamed l = refused Broken v
+  pair-broken t = refused Broken v
     where
       v : pairVerdict page names lent (pair s b) ≡ Refused Broken
-      v = rw l (first-holds Broken ((Broken when not (formed page (usedOf names lent))) ∷ (Unused when not (bothUsed (usedOf names lent) (pair s b))) ∷ (Full when leb pairsMax (countOf page)) ∷ (Full when ltb (length page) (sizeOf (countOf page + 1))) ∷ []) refl)
+      v = rw t (first-holds Broken ((Unused when not (bothUsed (usedOf names lent) (pair s b))) ∷ (Full when leb pairsMax (countOf page)) ∷ (Full when ltb (length page) (sizeOf (countOf page + 1))) ∷ []) refl)
+
+  pub pair-unnamed : lentBroken names lent ≡ true → (Refused Broken ≡ pairVerdict page names lent (pair s b)) × (page ≡ pageAfter page names lent s f b)
+  pair-unnamed l = pair-broken (sym (broken-names page names lent l))
 
   module _ (l : lentBroken names lent ≡ false) where
-    pub pair-broken : formed page (usedOf names lent) ≡ false → (Refused Broken ≡ pairVerdict page names lent (pair s b)) × (page ≡ pageAfter page names lent s f b)
-    unfolding pairVerdict
-    pair-broken e = refused Broken v
-      where
-        v : pairVerdict page names lent (pair s b) ≡ Refused Broken
-        v = rw (l, e) (first-holds Broken ((Unused when not (bothUsed (usedOf names lent) (pair s b))) ∷ (Full when leb pairsMax (countOf page)) ∷ (Full when ltb (length page) (sizeOf (countOf page + 1))) ∷ []) refl)
+    pub pair-unheld : holds page ≡ false → (Refused Broken ≡ pairVerdict page names lent (pair s b)) × (page ≡ pageAfter page names lent s f b)
+    pair-unheld h = pair-broken (sym (broken-rest page names lent l) ∙ rw (← form-unheld page (usedOf names lent) h))
 
-    module _ (h : held page ≡ true) where
+    module _ (h : holds page ≡ true) where
       -- the verdict is that of the insertion by value, or the page has no room
       by-value : pairVerdict page names lent (pair s b) ≡ roomed (insertVerdict (tableIn page) (usedOf names lent) (pair s b)) (ltb (length page) (sizeOf (countOf page + 1)))
       unfolding pairVerdict insertVerdict tableIn
       by-value =
-          rw (l, ← form-held page (usedOf names lent) h)
+          rw (← broken-rest page names lent l, ← form-held page (usedOf names lent) h)
           (lowest-room (not (tables.formed (tableIn page) (usedOf names lent))) (not (bothUsed (usedOf names lent) (pair s b))) (leb pairsMax (countOf page)) (ltb (length page) (sizeOf (countOf page + 1))))
+
+      -- where the page has room for one more pair, it is that of the insertion by value of the page's table
+      pub page-verdict : sizeOf (countOf page + 1) ≤ length page → pairVerdict page names lent (pair s b) ≡ insertion (tableIn page) (usedOf names lent) s f b .verdict
+      unfolding insertion
+      page-verdict room = by-value ∙ rw (le-ltb (length page) (sizeOf (countOf page + 1)) room) (roomy (insertVerdict (tableIn page) (usedOf names lent) (pair s b)))
 
       module _ (o : Outcome) (is : o ≡ insertion (tableIn page) (usedOf names lent) s f b) where
         verdict-is : o .verdict ≡ insertVerdict (tableIn page) (usedOf names lent) (pair s b)
@@ -140,31 +168,23 @@ module _ (page names : List ℕ) (lent : Bool) (s f b : ℕ) where
 -- ---- looking up a symbol
 
 module _ (page names : List ℕ) (lent : Bool) (s : ℕ) where
-  pub symbol-unnamed : lentBroken names lent ≡ true → Refused Broken ≡ symbolVerdict page names lent s
+  pub symbol-broken : tableBroken page names lent ≡ true → Refused Broken ≡ symbolVerdict page names lent s
   unfolding symbolVerdict
-  symbol-unnamed l = sym (rw l (first-holds Broken ((Broken when not (formed page (usedOf names lent))) ∷ (Unused when leb (usedOf names lent) s) ∷ []) refl))
+  symbol-broken t = sym (rw t (first-holds Broken ((Unused when not (ltb s (usedOf names lent))) ∷ []) refl))
 
-  module _ (l : lentBroken names lent ≡ false) where
-    pub symbol-broken : formed page (usedOf names lent) ≡ false → Refused Broken ≡ symbolVerdict page names lent s
+  module _ (t : tableBroken page names lent ≡ false) where
+    pub symbol-unused : usedOf names lent ≤ s → Refused Unused ≡ symbolVerdict page names lent s
     unfolding symbolVerdict
-    symbol-broken e = sym (rw (l, e) (first-holds Broken ((Unused when leb (usedOf names lent) s) ∷ []) refl))
+    symbol-unused h = rw (t, le-ltb s (usedOf names lent) h)
 
-    module _ (e : formed page (usedOf names lent) ≡ true) where
-      pub symbol-unused : usedOf names lent ≤ s → Refused Unused ≡ symbolVerdict page names lent s
-      unfolding symbolVerdict
-      symbol-unused h = rw (l, e, le-leb (usedOf names lent) s h)
-
-      pub symbol-used : s < usedOf names lent → Passed ≡ symbolVerdict page names lent s
-      unfolding symbolVerdict
-      symbol-used h = rw (l, e, lt-leb (usedOf names lent) s h)
+    pub symbol-used : s < usedOf names lent → Passed ≡ symbolVerdict page names lent s
+    unfolding symbolVerdict
+    symbol-used h = rw (t, lt-ltb s (usedOf names lent) h)
 
   -- a symbol that is looked up is looked up in a page in form
   pub passed-formed : Passed ≡ symbolVerdict page names lent s → formed page (usedOf names lent) ≡ true
   unfolding symbolVerdict
-  passed-formed v =
-      let x = passed-parts Broken (lentBroken names lent) ((Broken when not (formed page (usedOf names lent))) ∷ (Unused when leb (usedOf names lent) s) ∷ []) (sym v) in
-      let y = passed-parts Broken (not (formed page (usedOf names lent))) ((Unused when leb (usedOf names lent) s) ∷ []) (x .1) in
-      not-false (formed page (usedOf names lent)) (y .0)
+  passed-formed v = unbroken page names lent (passed-parts Broken (tableBroken page names lent) ((Unused when not (ltb s (usedOf names lent))) ∷ []) (sym v) .0) .1
 
 -- the bytes of the pairs, as a part of the page
 pub bodies-read : (page : List ℕ) (k at : ℕ) → k ≡ countOf page → at ≡ parentsAt k → take (at - countBytes) (drop countBytes page) ≡ bodiesIn page
@@ -174,9 +194,9 @@ bodies-read page k at e is =
 
 -- the parents that stand in a page in form are those that its pairs give
 pub root-in : (page : List ℕ) (n k s : ℕ) → formed page n ≡ true → k ≡ countOf page → walk k (parentsIn page) s ≡ rootOf namesMax (listedIn page) s
-unfolding formed rootOf tableIn
+unfolding rootOf tableIn
 root-in page n k s e is =
-    let f = form (tableIn page) n (and-true (holds page) (tables.formed (tableIn page) n) e .1) in
+    let f = formed-parts page n e .1 in
     let l = length-pairs (tableIn page .pairs) (countOf page) in
     rw (l, is) (ap (λ (p : List ℕ). walk (countOf page) p s) (f .given))
 

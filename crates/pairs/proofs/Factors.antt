@@ -1,30 +1,29 @@
--- "The first factor of a symbol stays": an insertion that is not refused changes no factor that there was (`factor-stays`), and
--- gives a symbol without one the factor that came, bit for bit, with its base (`factor-comes`). Assumes nothing.
+-- "The first factor of a symbol stays": an insertion that is not refused changes no factor that there was (`factor-stays`) nor
+-- that of another symbol (`factor-others`), and gives a symbol without one the factor that came, bit for bit, with its base
+-- (`factor-comes`). Assumes nothing.
 use mathlib.Core.Path.{_≡_, refl, sym, _∙_, ap, ap₂}
 use mathlib.Core.Bool.{Bool, true, false, _&&_, cond}
 use mathlib.Core.List.{List, [], _∷_}
 use Prim.Native.Nat.{ℕ, zero, suc, _+_, _*_, _^_, _<_, _≤_}
 use native.Mathlib.Nat.{add-zero}
 use native.Mathlib.Numerals.{add-one}
+use native.Mathlib.Decide.{decLt}
 use native.Mathlib.Omega.{arith}
 use lib.Dec.{ltb, eqb}
-use lib.ListN.{length, getD}
-use borrow.Author.Tests.{lt-ltb, le-ltb, ltb-true, ltb-false, eq-eqb}
+use lib.ListN.{length, getD, length-take, length-drop, List·getD-append}
+use lib.Seq.{getD-append-add}
+use borrow.Author.Tests.{lt-ltb, le-ltb, ltb-false, eq-eqb, ne-eqb}
 use Rattle.pages.specs.Quant.{anyTo, firstTo}
-use Rattle.pages.specs.Bytes.{countOf, bigEndian, numberAt, longBytes, put}
-use Rattle.pages.proofs.Quant.{any-cong, first-cong, first-none, first-le}
+use Rattle.pages.specs.Bytes.{countOf, bigEndian, numberAt, longBytes}
+use Rattle.pages.proofs.Quant.{any-cong, first-cong, first-none, first-le, first-below}
 use Rattle.pages.proofs.Bytes.{number-back}
-use Rattle.pages.proofs.Put.{put-before, put-in}
-use Rattle.pages.proofs.Pad.{getD-pad, length-pad}
-use Rattle.names.specs.Table.{namesMax}
-use Rattle.groups.specs.Groups.{pair}
-use Rattle.pairs.specs.Table.{pairsMax, pairBytes, factorAt, bodyOf, pairAt, withPair}
-use Rattle.pairs.specs.Page.{bodiesIn, tableIn, formed, withTable}
+use Rattle.pairs.specs.Table.{pairBytes, baseAt, factorAt}
+use Rattle.pairs.specs.Page.{bodiesIn, formed}
 use Rattle.pairs.specs.Calls.{isOf, factorOf, firstFactor, factorIn}
-use Rattle.pairs.specs.Runs.{Request, accepts, after}
+use Rattle.pairs.specs.Runs.{Request, bodyAsked, Lends, accepts, after}
 use Rattle.pairs.specs.declared.Factor.{Factor}
-use Rattle.pairs.proofs.Grown.{written-count, written-body}
-use Rattle.pairs.proofs.Run.{Added, added}
+use Rattle.pairs.proofs.Page.{formed-held}
+use Rattle.pairs.proofs.Run.{added-bodies, added-count}
 
 -- ---- bodies with one more behind them
 
@@ -38,7 +37,7 @@ module _ (l m : List ℕ) (k s : ℕ) (agree : (i : ℕ) → i < pairBytes * k �
   is-same i lt = ap (λ (x : ℕ). eqb x s) (agree (pairBytes * i) (omega arith))
 
   factor-same : (i : ℕ) → i < k → factorOf l i ≡ factorOf m i
-  factor-same i lt = ap₂ Factor.Of (number-same l m (pairBytes * i + factorAt) longBytes (λ j o. agree (pairBytes * i + factorAt + j) (omega arith))) (agree (pairBytes * i + 1) (omega arith))
+  factor-same i lt = ap₂ Factor.Of (number-same l m (pairBytes * i + factorAt) longBytes (λ j o. agree (pairBytes * i + factorAt + j) (omega arith))) (agree (pairBytes * i + baseAt) (omega arith))
 
   -- a symbol that was found is found where it was
   first-stays : firstTo k (isOf l s) < k → firstTo (k + 1) (isOf m s) ≡ firstTo k (isOf l s)
@@ -71,48 +70,75 @@ module _ (l m : List ℕ) (k s : ℕ) (agree : (i : ℕ) → i < pairBytes * k �
       let o : k < k + 1 = omega arith in
       rw (first-comes h e, lt-ltb k (k + 1) o)
 
+  -- one that neither they nor the new pair has is not found
+  first-none-more : k ≤ firstTo k (isOf l s) → isOf m s k ≡ false → k + 1 ≤ firstTo (k + 1) (isOf m s)
+  unfolding firstTo
+  first-none-more h e = rw add-one (go (anyTo k (isOf l s)) refl)
+    where
+      go : (b : Bool) → anyTo k (isOf l s) ≡ b → suc k ≤ cond (anyTo k (isOf m s)) (firstTo k (isOf m s)) (cond (isOf m s k) k (suc k))
+      go true f = absurd (found f)
+        where
+          found : anyTo k (isOf l s) ≡ true → ⊥
+          found t = let x = first-below (isOf l s) k t in omega (arith, x)
+      go false f = rw (← any-cong (isOf l s) (isOf m s) k is-same, f, e) (omega arith)
+
+  pub found-none : k ≤ firstTo k (isOf l s) → isOf m s k ≡ false → firstFactor m (k + 1) s ≡ firstFactor l k s
+  found-none h e = rw (le-ltb (firstTo (k + 1) (isOf m s)) (k + 1) (first-none-more h e), le-ltb (firstTo k (isOf l s)) k h)
+
 -- ---- a page
 
-module _ (page : List ℕ) (r : Request) (g : formed page namesMax ≡ true) (e : accepts page r ≡ true) where
-  k : ℕ
-  k = countOf page
+module _ (page : List ℕ) (r : Request) (n : ℕ) (g : formed page n ≡ true) (lends : Lends n r) (e : accepts page r ≡ true) where
+  size : length (bodiesIn page) ≡ pairBytes * countOf page
+  size = simp (length-take, length-drop) (omega (arith, formed-held page n g .room))
 
-  step : Added page r
-  step = added page r g e
+  old : (i : ℕ) → i < pairBytes * countOf page → getD (bodiesIn page) i 0 ≡ getD (bodiesIn (after page r)) i 0
+  old i l = rw (added-bodies page r n g lends e) (sym (List·getD-append (bodiesIn page) (bodyAsked r) 0 i (omega (arith, size))))
 
-  body : List ℕ
-  body = bodyOf (r .symbol) (r .factor) (r .base)
+  new : (i : ℕ) → getD (bodiesIn (after page r)) (pairBytes * countOf page + i) 0 ≡ getD (bodyAsked r) i 0
+  new i = ap₂ (λ (l : List ℕ) (j : ℕ). getD l (j + i) 0) (added-bodies page r n g lends e) (sym size) ∙ getD-append-add (bodiesIn page) (bodyAsked r) i 0
 
-  count-is : countOf (after page r) ≡ k + 1
-  unfolding k
-  count-is = step .count
+  counted : (s : ℕ) → factorIn (after page r) s ≡ firstFactor (bodiesIn (after page r)) (countOf page + 1) s
+  counted s = ap (λ (j : ℕ). firstFactor (bodiesIn (after page r)) j s) (added-count page r n g lends e)
 
-  -- the bytes of the pairs that there were
-  old : (i : ℕ) → i < pairBytes * k → getD (bodiesIn page) i 0 ≡ getD (bodiesIn (after page r)) i 0
-  unfolding k
-  old i l = step .old i l
+  first : getD (bodiesIn (after page r)) (pairBytes * countOf page) 0 ≡ r .symbol
+  first = rw add-zero at (new 0)
 
-  new : (i : ℕ) → i < pairBytes → getD (bodiesIn (after page r)) (pairBytes * k + i) 0 ≡ getD body i 0
-  unfolding k body
-  new i l = step .new i l
+  -- a symbol has a factor exactly where a pair has the symbol
+  absent : (s : ℕ) → factorIn page s ≡ Factor.Absent → countOf page ≤ firstTo (countOf page) (isOf (bodiesIn page) s)
+  absent s f = go (ltb (firstTo (countOf page) (isOf (bodiesIn page) s)) (countOf page)) refl f
+    where
+      go : (b : Bool) → ltb (firstTo (countOf page) (isOf (bodiesIn page) s)) (countOf page) ≡ b
+          → cond b (factorOf (bodiesIn page) (firstTo (countOf page) (isOf (bodiesIn page) s))) Factor.Absent ≡ Factor.Absent → countOf page ≤ firstTo (countOf page) (isOf (bodiesIn page) s)
+      go true t c = let z : _≡_ {A = ℕ} 0 1 = cc in absurd (omega arith)
+      go false t c = ltb-false (firstTo (countOf page) (isOf (bodiesIn page) s)) (countOf page) t
 
   -- the factor of a symbol that had one is what it was
-  pub factor-stays : (s : ℕ) → firstTo (countOf page) (isOf (bodiesIn page) s) < countOf page → factorIn (after page r) s ≡ factorIn page s
-  unfolding k
-  factor-stays s h = ap (λ (j : ℕ). firstFactor (bodiesIn (after page r)) j s) count-is ∙ found-stays (bodiesIn page) (bodiesIn (after page r)) (countOf page) s old h
+  pub factor-stays : (s : ℕ) → (factorIn page s ≡ Factor.Absent → ⊥) → factorIn (after page r) s ≡ factorIn page s
+  factor-stays s had = go (decLt (firstTo (countOf page) (isOf (bodiesIn page) s)) (countOf page))
+    where
+      go : Dec (firstTo (countOf page) (isOf (bodiesIn page) s) < countOf page) → factorIn (after page r) s ≡ factorIn page s
+      go (yes h) = counted s ∙ found-stays (bodiesIn page) (bodiesIn (after page r)) (countOf page) s old h
+      go (no h) = absurd (had (rw (le-ltb (firstTo (countOf page) (isOf (bodiesIn page) s)) (countOf page) (omega arith))))
 
-  -- that of one that had none is the factor that came, any 64 bits, with its base
-  pub factor-comes : r .factor < 2 ^ 64 → countOf page ≤ firstTo (countOf page) (isOf (bodiesIn page) (r .symbol)) → factorIn (after page r) (r .symbol) ≡ Factor.Of (r .factor) (r .base)
-  unfolding k body
-  factor-comes f h =
+  -- that of every other symbol than the request's is, too, or it still has none
+  pub factor-others : (s : ℕ) → (r .symbol ≡ s → ⊥) → factorIn (after page r) s ≡ factorIn page s
+  factor-others s other = go (decLt (firstTo (countOf page) (isOf (bodiesIn page) s)) (countOf page))
+    where
+      go : Dec (firstTo (countOf page) (isOf (bodiesIn page) s) < countOf page) → factorIn (after page r) s ≡ factorIn page s
+      go (yes h) = counted s ∙ found-stays (bodiesIn page) (bodiesIn (after page r)) (countOf page) s old h
+      go (no h) =
+          let no-match : isOf (bodiesIn (after page r)) s (countOf page) ≡ false = ne-eqb (getD (bodiesIn (after page r)) (pairBytes * countOf page) 0) s (λ q. other (sym first ∙ q)) in
+          counted s ∙ found-none (bodiesIn page) (bodiesIn (after page r)) (countOf page) s old (omega arith) no-match
+
+  -- that of the request's symbol, where it had none, is the factor that came, any 64 bits, with its base
+  pub factor-comes : r .factor < 256 ^ longBytes → factorIn page (r .symbol) ≡ Factor.Absent → factorIn (after page r) (r .symbol) ≡ Factor.Of (r .factor) (r .base)
+  factor-comes f had =
       let at = pairBytes * countOf page in
       let m = bodiesIn (after page r) in
-      let x : getD m (at + 0) 0 ≡ r .symbol = new 0 (omega arith) in
-      let y : getD m (at + 1) 0 ≡ r .base = new 1 (omega arith) in
-      let found : isOf m (r .symbol) (countOf page) ≡ true = eq-eqb (getD m at 0) (r .symbol) (rw add-zero at x) in
+      let found : isOf m (r .symbol) (countOf page) ≡ true = eq-eqb (getD m at 0) (r .symbol) first in
       let bits : numberAt m (at + factorAt) longBytes ≡ r .factor =
-      number-back m (at + factorAt) (r .factor) longBytes f (λ i l. let s : at + factorAt + i ≡ at + (factorAt + i) = omega arith in rw s (new (factorAt + i) (omega arith) ∙ shift i)) in
-      ap (λ (j : ℕ). firstFactor m j (r .symbol)) count-is ∙ found-new (bodiesIn page) m (countOf page) (r .symbol) old h found ∙ ap₂ Factor.Of bits y
+      number-back m (at + factorAt) (r .factor) longBytes f (λ i l. let s : at + factorAt + i ≡ at + (factorAt + i) = omega arith in rw s (new (factorAt + i) ∙ shift i)) in
+      counted (r .symbol) ∙ found-new (bodiesIn page) m (countOf page) (r .symbol) old (absent (r .symbol) had) found ∙ ap₂ Factor.Of bits (new baseAt)
     where
-      shift : (i : ℕ) → getD (bodyOf (r .symbol) (r .factor) (r .base)) (factorAt + i) 0 ≡ getD (bigEndian longBytes (r .factor)) i 0
+      shift : (i : ℕ) → getD (bodyAsked r) (factorAt + i) 0 ≡ getD (bigEndian longBytes (r .factor)) i 0
       shift i = let c : factorAt + i ≡ suc (suc i) = omega arith in rw c

@@ -1,4 +1,4 @@
--- A fresh table is in form and lists nothing (`empty-formed`), and a page of zeros is no table (`zeros-unformed`).
+-- A fresh table is in form and lists nothing, by value (`fresh-formed`) and in a page (`empty-formed`), and a page of zeros is no table (`zeros-unformed`).
 -- Assumes nothing.
 use mathlib.Core.Path.{_≡_, refl, sym, _∙_, ap}
 use mathlib.Core.Bool.{Bool, true, false, _&&_}
@@ -17,7 +17,7 @@ use Rattle.pages.proofs.Put.{put-length, put-before, put-part, put-drop}
 use Rattle.names.specs.Table.{namesMax}
 use Rattle.groups.specs.Groups.{Pair, enterAll, selves, parentsOf}
 use Rattle.groups.proofs.UnionFind.{length-selves, getD-selves}
-use Rattle.pairs.specs.Table.{pairsMax, pairsIn, usedAt}
+use Rattle.pairs.specs.Table.{pairsMax, pairBytes, pairsIn, listed, usedAt, freshTable}
 use Rattle.pairs.specs.Table as tables
 use Rattle.pairs.specs.Page.{sizeOf, bodiesIn, parentsIn, tableIn, listedIn, holds, formed}
 use Rattle.pairs.specs.Calls.{emptyVerdict, emptyPage}
@@ -25,7 +25,13 @@ use Rattle.pairs.proofs.Table.{Form, form}
 use Rattle.pairs.proofs.Calls.{empty-made}
 use Rattle.pairs.proofs.Grown.{form-formed}
 
--- ---- a fresh table
+-- ---- a fresh table by value
+
+pub fresh-formed : (n : ℕ) → (tables.formed freshTable n ≡ true) × (listed freshTable ≡ [])
+unfolding pairsIn parentsOf enterAll
+fresh-formed n = (form-formed freshTable n (record { few = omega arith; given = refl; used = all-none (usedAt (replicate (pairBytes * pairsMax) 0) n) }), refl)
+
+-- ---- a fresh page
 
 module _ (len : ℕ) (long : sizeOf 0 ≤ len) where
   page : List ℕ
@@ -107,7 +113,7 @@ zeros-unformed len n = go (formed (replicate len 0) n) refl
         nobody = unfold tableIn pairsIn in (ap (pairsIn (tableIn (replicate len 0) .pairs)) none)
 
         zero! : getD (parentsIn (replicate len 0)) 1 0 ≡ 0
-        zero! = getD-take namesMax (drop (countBytes + 10 * countOf (replicate len 0)) (replicate len 0)) 1 0 (omega arith) ∙ getD-drop (countBytes + 10 * countOf (replicate len 0)) (replicate len 0) 1 0 ∙ made-at len (countBytes + 10 * countOf (replicate len 0) + 1)
+        zero! = getD-take namesMax (drop (countBytes + pairBytes * countOf (replicate len 0)) (replicate len 0)) 1 0 (omega arith) ∙ getD-drop (countBytes + pairBytes * countOf (replicate len 0)) (replicate len 0) 1 0 ∙ made-at len (countBytes + pairBytes * countOf (replicate len 0) + 1)
 
         never : Form (tableIn (replicate len 0)) n → ⊥
         never f =

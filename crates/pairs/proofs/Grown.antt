@@ -9,21 +9,21 @@ use native.Mathlib.Nat.{add-zero}
 use native.Mathlib.Numerals.{add-one}
 use native.Mathlib.Omega.{arith}
 use lib.Dec.{leb, ltb}
-use lib.ListN.{length, getD, take, drop, length-take}
-use lib.Seq.{getD-take, getD-drop, drop-drop}
+use lib.ListN.{length, getD, take, drop, length-take, length-drop}
+use lib.Seq.{getD-take, getD-drop, ext-getD}
 use borrow.Author.Tests.{le-leb, leb-true, ltb-true, lt-ltb}
 use Rattle.pages.specs.Quant.{allTo}
 use Rattle.pages.specs.Bytes.{eqs, zeros, countBytes, countOf, bytesOf, put}
 use Rattle.pages.specs.Pad.{pad}
 use Rattle.pages.proofs.Quant.{and-true, all-at, all-more, all-cong, all-each}
 use Rattle.pages.proofs.Bytes.{eqs-refl, zeros-drop}
-use Rattle.pages.proofs.Put.{put-length, put-before, put-part, put-in, put-drop, put-after}
-use Rattle.pages.proofs.Pad.{getD-pad, length-pad}
+use Rattle.pages.proofs.Put.{put-length, put-before, put-part, put-in, put-drop, put-after, put-front}
+use Rattle.pages.proofs.Pad.{getD-pad, length-pad, pad-front}
 use Rattle.names.specs.Table.{namesMax}
 use Rattle.groups.specs.Groups.{Pair, pair, Within, parentsOf}
 use Rattle.groups.proofs.Walks.{length-parents}
 use Rattle.pairs.specs.Table.{pairsMax, pairBytes, bodyOf, pairAt, pairsIn, listed, bothUsed, usedAt, formed, withPair}
-use Rattle.pairs.specs.Page.{parentsAt, sizeOf, bodiesIn, parentsIn, tableIn, listedIn, holds, withTable}
+use Rattle.pairs.specs.Page.{parentsAt, sizeOf, bodiesIn, parentsIn, tableIn, listedIn, holds, Held, withTable}
 use Rattle.pairs.specs.Page as pages
 use Rattle.pairs.specs.declared.ConversionTable.{ConversionTable}
 use Rattle.pairs.proofs.Table.{pairs-next, Form, form}
@@ -56,7 +56,7 @@ within-listed n bodies (suc k) h q m =
 
 pub form-formed : (t : ConversionTable) (n : ℕ) → Form t n → formed t n ≡ true
 unfolding formed
-form-formed t n f = rw (le-leb (t .count) pairsMax (f .few), f .given, eqs-refl (parentsOf namesMax (listed t))) (f .used)
+form-formed t n f = rw (le-leb (t .count) pairsMax (f .few), f .used, f .given) (eqs-refl (parentsOf namesMax (listed t)))
 
 pub form-within : (t : ConversionTable) (n : ℕ) → Form t n → Within n (listed t)
 form-within t n f = within-listed n (t .pairs) (t .count) (λ i l. all-at (usedAt (t .pairs) n) (t .count) i (f .used) l)
@@ -68,6 +68,11 @@ more-used n m q h u =
     let s : q .symbol < m = omega (arith, ltb-true (q .symbol) n (a .0)) in
     let b : q .base < m = omega (arith, ltb-true (q .base) n (a .1)) in
     rw (lt-ltb (q .symbol) m s, lt-ltb (q .base) m b)
+
+-- pairs of symbols below n are pairs of symbols below m
+pub within-all : (n m : ℕ) → n ≤ m → (ps : List Pair) → Within n ps → Within m ps
+unfolding Within
+within-all n m h ps w q i = let o = w q i in let a : q .symbol < m = omega (arith, o .0) in let b : q .base < m = omega (arith, o .1) in (a, b)
 
 -- ---- with one more pair
 
@@ -216,16 +221,24 @@ module _ (page : List ℕ) (t : ConversionTable) (n : ℕ) (fm : Form t n) (size
       few : countOf after ≤ pairsMax
       few = rw after-count (unfold k in (fm .few))
 
+  written-after : (i : ℕ) → i < pairBytes * t .count → getD (bodiesIn after) i 0 ≡ getD (t .pairs) i 0
+  unfolding k
+  written-after i l =
+      let c : countOf after ≡ t .count = after-count in
+      getD-take (pairBytes * countOf after) (drop countBytes after) i 0 (omega (arith, c)) ∙ getD-drop countBytes after i 0 ∙ after-body i l
+
   pub written-count : countOf (withTable page t) ≡ t .count
   unfolding k
   written-count = rw after-is after-count
 
   -- the bytes of its pairs are the table's
-  pub written-body : (i : ℕ) → i < pairBytes * t .count → getD (bodiesIn (withTable page t)) i 0 ≡ getD (t .pairs) i 0
-  unfolding k
-  written-body i l =
+  pub written-bodies : bodiesIn (withTable page t) ≡ take (pairBytes * t .count) (t .pairs)
+  unfolding bodies k
+  written-bodies =
       let c : countOf after ≡ t .count = after-count in
-      rw after-is (getD-take (pairBytes * countOf after) (drop countBytes after) i 0 (omega (arith, c)) ∙ getD-drop countBytes after i 0 ∙ after-body i l)
+      let l : length (bodiesIn after) ≡ pairBytes * t .count = simp (length-take, length-drop) (omega (arith, c, room, after-length)) in
+      rw after-is (ext-getD 0 (bodiesIn after) (take (pairBytes * t .count) (t .pairs)) (l ∙ sym bodies-length)
+      (λ i h. written-after i (omega (arith, l)) ∙ sym (getD-take (pairBytes * t .count) (t .pairs) i 0 (omega (arith, l)))))
 
   -- the page lists what the table lists
   pub written-listed : listedIn (withTable page t) ≡ listed t
@@ -243,4 +256,18 @@ module _ (page : List ℕ) (t : ConversionTable) (n : ℕ) (fm : Form t n) (size
       ∙ put-drop one (parentsAt k) (t .parents) two-fits (sizeOf k) (omega (arith, parents-length))
       ∙ put-drop page countBytes bodies one-fits (sizeOf k) (omega (arith, bodies-length)) in
       let r : sizeOf k ≤ length after = omega (arith, room, after-length) in
-      rw (after-is, after-count, le-leb (sizeOf k) (length after) r, d, z) (form-formed (tableIn after) n after-form)
+      rw (after-is, after-count, le-leb k pairsMax (fm .few), le-leb (sizeOf k) (length after) r, d, z) (form-formed (tableIn after) n after-form)
+
+-- the bytes of a table's pairs, with one more
+pub bodies-more : (page : List ℕ) (s f b : ℕ) → Held page → countOf page < pairsMax
+    → take (pairBytes * withPair (tableIn page) s f b .count) (withPair (tableIn page) s f b .pairs) ≡ bodiesIn page ++ bodyOf s f b
+unfolding withPair tableIn
+bodies-more page s f b h few =
+    let big = pairBytes * pairsMax in
+    let k = pairBytes * countOf page in
+    let l : length (bodiesIn page) ≡ k = simp (length-take, length-drop) (omega (arith, h .room)) in
+    let p : length (pad big 0 (bodiesIn page)) ≡ big = length-pad big 0 (bodiesIn page) in
+    let fits : k + length (bodyOf s f b) ≤ length (pad big 0 (bodiesIn page)) = omega (arith, p, few) in
+    let e : pairBytes * (countOf page + 1) ≡ k + length (bodyOf s f b) = omega arith in
+    let front : take k (pad big 0 (bodiesIn page)) ≡ bodiesIn page = pad-front big (bodiesIn page) k l (omega arith) in
+    rw e (put-front (pad big 0 (bodiesIn page)) k (bodyOf s f b) fits ∙ ap (λ (x : List ℕ). x ++ bodyOf s f b) front)

@@ -7,7 +7,7 @@ use native.Mathlib.Nat.{sub-zero}
 use native.Mathlib.Omega.{arith}
 use lib.Dec.{leb, ltb}
 use lib.ListN.{length, getD, take, drop, replicate, length-take, length-drop}
-use borrow.Author.Tests.{le-leb, lt-leb, leb-true, leb-false}
+use borrow.Author.Tests.{le-leb, lt-leb, leb-true}
 use Rattle.pages.specs.Bytes.{eqs, zeros, countBytes, countOf, bytesOf, put}
 use Rattle.pages.specs.Pad.{pad}
 use Rattle.pages.proofs.Quant.{and-true}
@@ -21,39 +21,40 @@ use Rattle.pairs.specs.Table.{pairsMax, pairBytes}
 use Rattle.pairs.specs.Table as tables
 use Rattle.pairs.specs.Page.{parentsAt, sizeOf, bodiesIn, parentsIn, tableIn, holds, Held, formed, withTable}
 use Rattle.pairs.specs.declared.ConversionTable.{ConversionTable}
-use Rattle.pairs.proofs.Table.{Form, form, form-many}
+use Rattle.pairs.proofs.Table.{Form, form}
 
 -- ---- a page that holds a table
 
--- is the count no more than 512, and the table there
-abbrev pub held : List ℕ → Bool
-held page = leb (countOf page) pairsMax && holds page
-
 module _ (page : List ℕ) where
-  pub held-short : length page < sizeOf 0 → false ≡ held page
+  pub held-short : length page < countBytes → false ≡ holds page
   unfolding holds
   held-short h =
       let l : length page < sizeOf (countOf page) = omega arith in
       rw (lt-leb (sizeOf (countOf page)) (length page) l) (sym (and-false (leb (countOf page) pairsMax)))
 
-  pub held-many : (k : ℕ) → k ≡ countOf page → pairsMax < k → false ≡ held page
+  pub held-many : (k : ℕ) → k ≡ countOf page → pairsMax < k → false ≡ holds page
+  unfolding holds
   held-many k e h = rw (← e, lt-leb k pairsMax h)
 
   module _ (k : ℕ) (e : k ≡ countOf page) (few : k ≤ pairsMax) where
-    pub held-cut : length page < sizeOf k → false ≡ held page
+    pub held-cut : length page < sizeOf k → false ≡ holds page
     unfolding holds
     held-cut h = rw (← e, le-leb k pairsMax few, lt-leb (sizeOf k) (length page) h)
 
-    pub held-rest : sizeOf k ≤ length page → zeros (drop (sizeOf k) page) ≡ held page
+    pub held-rest : sizeOf k ≤ length page → zeros (drop (sizeOf k) page) ≡ holds page
     unfolding holds
     held-rest h = rw (← e, le-leb k pairsMax few, le-leb (sizeOf k) (length page) h)
 
-pub held-parts : (page : List ℕ) → held page ≡ true → Held page
+pub held-parts : (page : List ℕ) → holds page ≡ true → Held page
 unfolding holds
 held-parts page e =
     let a = and-true (leb (countOf page) pairsMax) _ e in
     let b = and-true (leb (sizeOf (countOf page)) (length page)) _ (a .1) in
     record { few = leb-true _ _ (a .0); room = leb-true _ _ (b .0) }
+
+pub held-zeros : (page : List ℕ) → holds page ≡ true → zeros (drop (sizeOf (countOf page)) page) ≡ true
+unfolding holds
+held-zeros page e = and-true (leb (sizeOf (countOf page)) (length page)) _ (and-true (leb (countOf page) pairsMax) _ e .1) .1
 
 -- ---- the table read from such a page
 
@@ -78,27 +79,21 @@ module _ (page : List ℕ) (n : ℕ) where
   unfolding tableIn
   count-in = refl
 
-  pub form-held : held page ≡ true → tables.formed (tableIn page) n ≡ formed page n
+  pub form-held : holds page ≡ true → tables.formed (tableIn page) n ≡ formed page n
   unfolding formed
-  form-held h = rw (and-true (leb (countOf page) pairsMax) (holds page) h .1)
+  form-held h = rw h
 
-  pub form-unheld : held page ≡ false → false ≡ formed page n
+  pub form-unheld : holds page ≡ false → false ≡ formed page n
   unfolding formed
-  form-unheld h = go (leb (countOf page) pairsMax) refl
-    where
-      go : (b : Bool) → leb (countOf page) pairsMax ≡ b → false ≡ (holds page && tables.formed (tableIn page) n)
-      go true e = let o : holds page ≡ false = rw e at h in rw o
-      go false e =
-          let t : tables.formed (tableIn page) n ≡ false = sym (form-many (tableIn page) n (rw count-in (leb-false (countOf page) pairsMax e))) in
-          rw t (sym (and-false (holds page)))
+  form-unheld h = rw h
+
+  -- a page in form holds its table, and that is in form
+  pub formed-parts : formed page n ≡ true → (holds page ≡ true) × Form (tableIn page) n
+  unfolding formed
+  formed-parts e = let a = and-true (holds page) (tables.formed (tableIn page) n) e in (a .0, form (tableIn page) n (a .1))
 
   pub formed-held : formed page n ≡ true → Held page
-  unfolding formed
-  formed-held e =
-      let a = and-true (holds page) (tables.formed (tableIn page) n) e in
-      let f : Form (tableIn page) n = form (tableIn page) n (a .1) in
-      let few : countOf page ≤ pairsMax = rw count-in at (f .few) in
-      held-parts page (rw (le-leb (countOf page) pairsMax few) (a .0))
+  formed-held e = held-parts page (formed-parts e .0)
 
 -- ---- a table written
 

@@ -19,8 +19,7 @@ use Rattle.refusals.proofs.Lowest.{passed-parts, passed-is, kept}
 use Rattle.pages.specs.Bytes.{zeros, countOf, put}
 use Rattle.pages.proofs.Quant.{and-true, all-at, all-each}
 use Rattle.pages.proofs.Bytes.{zeros-drop}
-use Rattle.pages.proofs.Put.{put-before, put-in}
-use Rattle.pages.proofs.Pad.{length-pad, getD-pad}
+use Rattle.pages.proofs.Pad.{length-pad}
 use Rattle.names.specs.Table.{namesMax}
 use Rattle.names.specs.Calls.{lentBroken, usedOf}
 use Rattle.names.proofs.Calls.{used-few}
@@ -29,80 +28,80 @@ use Rattle.groups.proofs.UnionFind.{groups, walk-short}
 use Rattle.pairs.specs.Table.{pairsMax, pairBytes, bodyOf, pairAt, listed, bothUsed, usedAt, insertVerdict, withPair, insertion}
 use Rattle.pairs.specs.Table as tables
 use Rattle.pairs.specs.Page.{sizeOf, bodiesIn, parentsIn, tableIn, listedIn, holds, formed, withTable}
-use Rattle.pairs.specs.Calls.{pairVerdict, pageAfter}
-use Rattle.pairs.specs.Runs.{afterAll, acceptedBy, Request, asked, accepts, after, pageAfterAll, accepted, TableRequest, askedOf, tableAccepts, tableAfter, tableAfterAll, tableAccepted}
+use Rattle.pairs.specs.Calls.{tableBroken, pairVerdict, pageAfter}
+use Rattle.pairs.specs.Runs.{afterAll, takenBy, Every, Request, asked, bodyAsked, Lends, accepts, after, pageAfterAll, acceptedPairs, TableRequest, tableAsked, tableAccepts, tableAfter, tableAfterAll, tableAcceptedPairs}
 use Rattle.pairs.specs.declared.ConversionTable.{ConversionTable}
 use Rattle.pairs.proofs.Table.{Form, form}
-use Rattle.pairs.proofs.Page.{count-in}
-use Rattle.pairs.proofs.Grown.{form-formed, form-within, more-used, listed-more, sized-more, form-more, written-count, written-body, written-listed, written-formed}
+use Rattle.pairs.proofs.Page.{held-zeros, formed-parts, formed-held}
+use Rattle.pairs.proofs.Calls.{unbroken}
+use Rattle.pairs.proofs.Grown.{form-formed, form-within, more-used, listed-more, sized-more, form-more, written-count, written-bodies, written-listed, written-formed, bodies-more, within-all}
 
 -- ---- of any kind of table
 
-module _ {T R : Type 0} (after : T → R → T) (accepts : T → R → Bool) (asked : R → Pair) (Good : T → Type 0) (listedOf : T → List Pair)
+module _ {T R A : Type 0} (after : T → R → T) (accepts : T → R → Bool) (adds : R → List A) (Good : T → Type 0) (Fine : R → Type 0) (holding : T → List A)
     (stays : (t : T) (r : R) → accepts t r ≡ false → after t r ≡ t)
-    (grows : (t : T) (r : R) → Good t → accepts t r ≡ true → Good (after t r) × (listedOf (after t r) ≡ listedOf t ++ (asked r ∷ []))) where
-  run : (rs : List R) (t : T) → Good t → Good (afterAll after t rs) × (listedOf (afterAll after t rs) ≡ listedOf t ++ acceptedBy after accepts asked t rs)
-  run [] t g = (g, sym (append-nil (listedOf t)))
-  run (r ∷ rs) t g = go (accepts t r) refl (run rs (after t r))
+    (grows : (t : T) (r : R) → Good t → Fine r → accepts t r ≡ true → Good (after t r) × (holding (after t r) ≡ holding t ++ adds r)) where
+  run : (rs : List R) (t : T) → Good t → Every Fine rs → Good (afterAll after t rs) × (holding (afterAll after t rs) ≡ holding t ++ takenBy after accepts adds t rs)
+  run [] t g all = (g, sym (append-nil (holding t)))
+  run (r ∷ rs) t g all = go (accepts t r) refl (λ h. run rs (after t r) h (all .1))
     where
+      rest : List A
+      rest = takenBy after accepts adds (after t r) rs
+
       go : (d : Bool) → accepts t r ≡ d
-          → (Good (after t r) → Good (afterAll after (after t r) rs) × (listedOf (afterAll after (after t r) rs) ≡ listedOf (after t r) ++ acceptedBy after accepts asked (after t r) rs))
-          → Good (afterAll after (after t r) rs)
-          × (listedOf (afterAll after (after t r) rs) ≡ listedOf t ++ cond d (asked r ∷ acceptedBy after accepts asked (after t r) rs) (acceptedBy after accepts asked (after t r) rs))
+          → (Good (after t r) → Good (afterAll after (after t r) rs) × (holding (afterAll after (after t r) rs) ≡ holding (after t r) ++ takenBy after accepts adds (after t r) rs))
+          → Good (afterAll after (after t r) rs) × (holding (afterAll after (after t r) rs) ≡ holding t ++ (cond d (adds r) [] ++ takenBy after accepts adds (after t r) rs))
       go true e ih =
-          let n = grows t r g e in
+          let n = grows t r g (all .0) e in
           let h = ih (n .0) in
-          (h .0, h .1 ∙ ap (λ (ps : List Pair). ps ++ acceptedBy after accepts asked (after t r) rs) (n .1) ∙ append-assoc (listedOf t) (asked r ∷ []) (acceptedBy after accepts asked (after t r) rs))
+          (h .0, h .1 ∙ ap (λ (l : List A). l ++ takenBy after accepts adds (after t r) rs) (n .1) ∙ append-assoc (holding t) (adds r) (takenBy after accepts adds (after t r) rs))
       go false e ih =
           let s = stays t r e in
           let h = ih (subst Good (sym s) g) in
-          (h .0, h .1 ∙ ap (λ (u : T). listedOf u ++ acceptedBy after accepts asked (after t r) rs) s)
+          (h .0, h .1 ∙ ap (λ (u : T). holding u ++ takenBy after accepts adds (after t r) rs) s)
 
--- ---- of a table by value
+-- ---- of a table by value, which has as many bytes for pairs as every value of the struct
 
--- in form, with as many bytes for pairs as every value of the struct has
-pub record Sized (t : ConversionTable) : Type 0 where
-  pub form! : Form t namesMax
-  pub bytes : length (t .pairs) ≡ pairBytes * pairsMax
+-- in form, with n names in use
+abbrev Whole : ℕ → ConversionTable → Type 0
+Whole n t = (tables.formed t n ≡ true) × (length (t .pairs) ≡ pairBytes * pairsMax)
 
 table-stays : (t : ConversionTable) (r : TableRequest) → tableAccepts t r ≡ false → tableAfter t r ≡ t
 unfolding insertion
 table-stays t r e =
-    sym (kept (insertVerdict t (r .used) (askedOf r)) (withPair t (r .symbol) (r .factor) (r .base)) t (not-false (isRefused (insertVerdict t (r .used) (askedOf r))) e))
+    sym (kept (insertVerdict t (r .used) (tableAsked r)) (withPair t (r .symbol) (r .factor) (r .base)) t (not-false (isRefused (insertVerdict t (r .used) (tableAsked r))) e))
 
-table-grows : (t : ConversionTable) (r : TableRequest) → Sized t → tableAccepts t r ≡ true → Sized (tableAfter t r) × (listed (tableAfter t r) ≡ listed t ++ (askedOf r ∷ []))
+table-grows : (n : ℕ) (t : ConversionTable) (r : TableRequest) → Whole n t → r .used ≤ n → tableAccepts t r ≡ true → Whole n (tableAfter t r) × (listed (tableAfter t r) ≡ listed t ++ (tableAsked r ∷ []))
 unfolding insertVerdict insertion
-table-grows t r g e =
-    let v : insertVerdict t (r .used) (askedOf r) ≡ Passed = passed-is (insertVerdict t (r .used) (askedOf r)) (not-true (isRefused (insertVerdict t (r .used) (askedOf r))) e) in
-    let x = passed-parts Broken (not (tables.formed t (r .used))) ((Unused when not (bothUsed (r .used) (askedOf r))) ∷ (Full when leb pairsMax (t .count)) ∷ []) v in
-    let y = passed-parts Unused (not (bothUsed (r .used) (askedOf r))) ((Full when leb pairsMax (t .count)) ∷ []) (x .1) in
+table-grows n t r g most e =
+    let v : insertVerdict t (r .used) (tableAsked r) ≡ Passed = passed-is (insertVerdict t (r .used) (tableAsked r)) (not-true (isRefused (insertVerdict t (r .used) (tableAsked r))) e) in
+    let x = passed-parts Broken (not (tables.formed t (r .used))) ((Unused when not (bothUsed (r .used) (tableAsked r))) ∷ (Full when leb pairsMax (t .count)) ∷ []) v in
+    let y = passed-parts Unused (not (bothUsed (r .used) (tableAsked r))) ((Full when leb pairsMax (t .count)) ∷ []) (x .1) in
     let z = passed-parts Full (leb pairsMax (t .count)) [] (y .1) in
     let few : t .count < pairsMax = leb-false pairsMax (t .count) (z .0) in
-    let u = more-used (r .used) namesMax (askedOf r) (r .few) (not-false (bothUsed (r .used) (askedOf r)) (y .0)) in
+    let u = more-used (r .used) n (tableAsked r) most (not-false (bothUsed (r .used) (tableAsked r)) (y .0)) in
     let done : tableAfter t r ≡ withPair t (r .symbol) (r .factor) (r .base) = rw v in
-    let made : Sized (withPair t (r .symbol) (r .factor) (r .base)) = record {
-      form! = form-more t (r .symbol) (r .factor) (r .base) (g .bytes) few namesMax (g .form!) u;
-      bytes = sized-more t (r .symbol) (r .factor) (r .base) (g .bytes) few;
-    } in
-    (subst Sized (sym done) made, ap listed done ∙ listed-more t (r .symbol) (r .factor) (r .base) (g .bytes) few)
+    let grown = withPair t (r .symbol) (r .factor) (r .base) in
+    let made : Whole n grown = (form-formed grown n (form-more t (r .symbol) (r .factor) (r .base) (g .1) few n (form t n (g .0)) u), sized-more t (r .symbol) (r .factor) (r .base) (g .1) few) in
+    (subst (Whole n) (sym done) made, ap listed done ∙ listed-more t (r .symbol) (r .factor) (r .base) (g .1) few)
 
--- a run keeps the form, and lists what it accepts
-pub table-run : (rs : List TableRequest) (t : ConversionTable) → Sized t → Sized (tableAfterAll t rs) × (listed (tableAfterAll t rs) ≡ listed t ++ tableAccepted t rs)
-table-run rs t g = run tableAfter tableAccepts askedOf Sized listed table-stays table-grows rs t g
+module _ (n : ℕ) (rs : List TableRequest) (t : ConversionTable) (g : tables.formed t n ≡ true) (bytes : length (t .pairs) ≡ pairBytes * pairsMax) (all : Every (λ (r : TableRequest). r .used ≤ n) rs) where
+  end : Whole n (tableAfterAll t rs) × (listed (tableAfterAll t rs) ≡ tableAcceptedPairs t rs)
+  end = run tableAfter tableAccepts (λ (r : TableRequest). tableAsked r ∷ []) (Whole n) (λ (r : TableRequest). r .used ≤ n) listed table-stays (table-grows n) rs t (g, bytes) all
 
--- the groups at the end are those of the pairs at the start and of the accepted ones
-pub table-groups : (rs : List TableRequest) (t : ConversionTable) → Sized t → (a b : ℕ) → a < namesMax → b < namesMax
-    → (rootOf namesMax (listed (tableAfterAll t rs)) a ≡ rootOf namesMax (listed (tableAfterAll t rs)) b) ↔ Joined (listed t ++ tableAccepted t rs) a b
-table-groups rs t g a b la lb =
-    let end = table-run rs t g in
-    let w : Within namesMax (listed (tableAfterAll t rs)) = form-within (tableAfterAll t rs) namesMax (end .0 .form!) in
-    rw (end .1) (groups namesMax (listed t ++ tableAccepted t rs) (subst (Within namesMax) (end .1) w) a b la lb)
+  -- the table at the end is in form, and lists the accepted pairs
+  pub table-run : (tables.formed (tableAfterAll t rs) n ≡ true) × (listed (tableAfterAll t rs) ≡ tableAcceptedPairs t rs)
+  table-run = (end .0 .0, end .1)
+
+  -- its groups are theirs
+  pub table-groups : n ≤ namesMax → (a b : ℕ) → a < namesMax → b < namesMax
+      → (rootOf namesMax (listed (tableAfterAll t rs)) a ≡ rootOf namesMax (listed (tableAfterAll t rs)) b) ↔ Joined (tableAcceptedPairs t rs) a b
+  table-groups few a b la lb =
+      let w : Within n (listed (tableAfterAll t rs)) = form-within (tableAfterAll t rs) n (form (tableAfterAll t rs) n (end .0 .0)) in
+      subst (λ (ps : List Pair). (rootOf namesMax ps a ≡ rootOf namesMax ps b) ↔ Joined (tableAcceptedPairs t rs) a b) (sym (end .1))
+      (groups namesMax (tableAcceptedPairs t rs) (within-all n namesMax few (tableAcceptedPairs t rs) (subst (Within n) (end .1) w)) a b la lb)
 
 -- ---- of a page
-
-page-form : (page : List ℕ) (n : ℕ) → formed page n ≡ true → (holds page ≡ true) × Form (tableIn page) n
-unfolding formed
-page-form page n e = let a = and-true (holds page) (tables.formed (tableIn page) n) e in (a .0, form (tableIn page) n (a .1))
 
 -- a page in form is so without names, too
 pub form-all : (page : List ℕ) (n : ℕ) → n ≤ namesMax → formed page n ≡ true → formed page namesMax ≡ true
@@ -125,7 +124,8 @@ page-stays page r e =
 record Taken (page : List ℕ) (r : Request) : Type 0 where
   few : countOf page < pairsMax
   room : sizeOf (countOf page + 1) ≤ length page
-  used : bothUsed namesMax (asked r) ≡ true
+  named : lentBroken (r .names) (r .lent) ≡ false
+  used : bothUsed (usedOf (r .names) (r .lent)) (asked r) ≡ true
   done : after page r ≡ withTable page (withPair (tableIn page) (r .symbol) (r .factor) (r .base))
 
 taken : (page : List ℕ) (r : Request) → accepts page r ≡ true → Taken page r
@@ -134,78 +134,118 @@ taken page r e =
     let n = usedOf (r .names) (r .lent) in
     let v : pairVerdict page (r .names) (r .lent) (asked r) ≡ Passed = passed-is (pairVerdict page (r .names) (r .lent) (asked r)) (not-true (isRefused (pairVerdict page (r .names) (r .lent) (asked r))) e) in
     let last = (Full when ltb (length page) (sizeOf (countOf page + 1))) ∷ [] in
-    let w = passed-parts Broken (lentBroken (r .names) (r .lent)) ((Broken when not (formed page n)) ∷ (Unused when not (bothUsed n (asked r))) ∷ (Full when leb pairsMax (countOf page)) ∷ last) v in
-    let x = passed-parts Broken (not (formed page n)) ((Unused when not (bothUsed n (asked r))) ∷ (Full when leb pairsMax (countOf page)) ∷ last) (w .1) in
+    let x = passed-parts Broken (tableBroken page (r .names) (r .lent)) ((Unused when not (bothUsed n (asked r))) ∷ (Full when leb pairsMax (countOf page)) ∷ last) v in
     let y = passed-parts Unused (not (bothUsed n (asked r))) ((Full when leb pairsMax (countOf page)) ∷ last) (x .1) in
     let z = passed-parts Full (leb pairsMax (countOf page)) last (y .1) in
     let o = passed-parts Full (ltb (length page) (sizeOf (countOf page + 1))) [] (z .1) in
     record {
       few = leb-false pairsMax (countOf page) (z .0);
       room = ltb-false (length page) (sizeOf (countOf page + 1)) (o .0);
-      used = more-used n namesMax (asked r) (used-few (r .names) (r .lent) (w .0)) (not-false (bothUsed n (asked r)) (y .0));
+      named = unbroken page (r .names) (r .lent) (x .0) .0;
+      used = not-false (bothUsed n (asked r)) (y .0);
       done = rw v;
     }
 
 -- zeros behind a table are zeros behind one of one pair more
 zeros-more : (page : List ℕ) → holds page ≡ true → zeros (drop (sizeOf (countOf page + 1)) page) ≡ true
-unfolding holds
 zeros-more page h =
-    let a = and-true (leb (sizeOf (countOf page)) (length page)) (zeros (drop (sizeOf (countOf page)) page)) h in
     let e : sizeOf (countOf page + 1) ≡ sizeOf (countOf page) + pairBytes = omega arith in
-    rw (e, ← drop-drop pairBytes (sizeOf (countOf page)) page) (zeros-drop (drop (sizeOf (countOf page)) page) pairBytes (a .1))
+    rw (e, ← drop-drop pairBytes (sizeOf (countOf page)) page) (zeros-drop (drop (sizeOf (countOf page)) page) pairBytes (held-zeros page h))
 
 -- what an insertion that is not refused leaves
-pub record Added (page : List ℕ) (r : Request) : Type 0 where
-  pub form! : formed (after page r) namesMax ≡ true
-  pub lists : listedIn (after page r) ≡ listedIn page ++ (asked r ∷ [])
-  pub count : countOf (after page r) ≡ countOf page + 1
-  pub old : (i : ℕ) → i < pairBytes * countOf page → getD (bodiesIn page) i 0 ≡ getD (bodiesIn (after page r)) i 0
-  pub new : (i : ℕ) → i < pairBytes → getD (bodiesIn (after page r)) (pairBytes * countOf page + i) 0 ≡ getD (bodyOf (r .symbol) (r .factor) (r .base)) i 0
+module _ (page : List ℕ) (r : Request) (n : ℕ) (g : formed page n ≡ true) (lends : Lends n r) (e : accepts page r ≡ true) where
+  k : Taken page r
+  k = taken page r e
 
-pub added : (page : List ℕ) (r : Request) → formed page namesMax ≡ true → accepts page r ≡ true → Added page r
-unfolding tableIn withPair
-added page r g e =
-    let k = taken page r e in
-    let f = page-form page namesMax g in
-    let t = tableIn page in
-    let body = bodyOf (r .symbol) (r .factor) (r .base) in
-    let sized : length (t .pairs) ≡ pairBytes * pairsMax = length-pad (pairBytes * pairsMax) 0 (bodiesIn page) in
-    let fits : pairBytes * countOf page + length body ≤ length (t .pairs) = omega (arith, k .few, sized) in
-    let grown = withPair t (r .symbol) (r .factor) (r .base) in
-    let fm : Form grown namesMax = form-more t (r .symbol) (r .factor) (r .base) sized (k .few) namesMax (f .1) (k .used) in
-    let sz = sized-more t (r .symbol) (r .factor) (r .base) sized (k .few) in
-    let made = written-formed page grown namesMax fm sz (k .room) (zeros-more page (f .0)) in
-    let lists = written-listed page grown namesMax fm sz (k .room) ∙ listed-more t (r .symbol) (r .factor) (r .base) sized (k .few) in
-    let byte : (i : ℕ) → i < pairBytes * (countOf page + 1) → getD (bodiesIn (withTable page grown)) i 0 ≡ getD (put (t .pairs) (pairBytes * countOf page) body) i 0 =
-    λ i l. written-body page grown namesMax fm sz (k .room) i l in
-    record {
-      form! = rw (k .done) made;
-      lists = rw (k .done) lists;
-      count = rw (k .done) (written-count page grown namesMax fm sz (k .room));
-      old = λ i l. rw (k .done) (sym (byte i (omega arith) ∙ put-before (t .pairs) (pairBytes * countOf page) body fits i l ∙ getD-pad (pairBytes * pairsMax) 0 (bodiesIn page) i (omega (arith, k .few))));
-      new = λ i l. rw (k .done) (byte (pairBytes * countOf page + i) (omega arith) ∙ put-in (t .pairs) (pairBytes * countOf page) body fits i l);
-    }
+  sized : length (tableIn page .pairs) ≡ pairBytes * pairsMax
+  unfolding tableIn
+  sized = length-pad (pairBytes * pairsMax) 0 (bodiesIn page)
 
--- a run keeps the form, and lists what it accepts
-pub page-run : (rs : List Request) (page : List ℕ) → formed page namesMax ≡ true → (formed (pageAfterAll page rs) namesMax ≡ true) × (listedIn (pageAfterAll page rs) ≡ listedIn page ++ accepted page rs)
-page-run rs page g = run after accepts asked (λ (p : List ℕ). formed p namesMax ≡ true) listedIn page-stays (λ p r f e. (added p r f e .form!, added p r f e .lists)) rs page g
+  few : tableIn page .count < pairsMax
+  unfolding tableIn
+  few = k .few
+
+  grown : ConversionTable
+  grown = withPair (tableIn page) (r .symbol) (r .factor) (r .base)
+
+  grown-count : grown .count ≡ countOf page + 1
+  unfolding grown withPair tableIn
+  grown-count = refl
+
+  grown-form : Form grown n
+  unfolding grown
+  grown-form = form-more (tableIn page) (r .symbol) (r .factor) (r .base) sized few n (formed-parts page n g .1) (more-used (usedOf (r .names) (r .lent)) n (asked r) (lends (k .named)) (k .used))
+
+  grown-sized : length (grown .pairs) ≡ pairBytes * pairsMax
+  unfolding grown
+  grown-sized = sized-more (tableIn page) (r .symbol) (r .factor) (r .base) sized few
+
+  room : sizeOf (grown .count) ≤ length page
+  room = rw grown-count (k .room)
+
+  done : after page r ≡ withTable page grown
+  unfolding grown
+  done = k .done
+
+  -- the page is in form
+  pub added-formed : formed (after page r) n ≡ true
+  added-formed = rw done (written-formed page grown n grown-form grown-sized room (rw grown-count (zeros-more page (formed-parts page n g .0))))
+
+  -- its pairs are those that there were, and the new one
+  pub added-listed : listedIn (after page r) ≡ listedIn page ++ (asked r ∷ [])
+  added-listed = rw done (written-listed page grown n grown-form grown-sized room ∙ unfold grown in (listed-more (tableIn page) (r .symbol) (r .factor) (r .base) sized few))
+
+  pub added-count : countOf (after page r) ≡ countOf page + 1
+  added-count = rw done (written-count page grown n grown-form grown-sized room ∙ grown-count)
+
+  -- its bytes are those that there were, and the new one's: the factor's too
+  pub added-bodies : bodiesIn (after page r) ≡ bodiesIn page ++ bodyAsked r
+  added-bodies = rw done (written-bodies page grown n grown-form grown-sized room ∙ unfold grown in (bodies-more page (r .symbol) (r .factor) (r .base) (formed-held page n g) (k .few)))
+
+-- ---- any list of requests whose names are at most n
+
+module _ (n : ℕ) (rs : List Request) (page : List ℕ) (g : formed page n ≡ true) (all : Every (Lends n) rs) where
+  -- the page at the end is in form, and lists the accepted pairs
+  pub page-run : (formed (pageAfterAll page rs) n ≡ true) × (listedIn (pageAfterAll page rs) ≡ acceptedPairs page rs)
+  page-run =
+      run after accepts (λ (r : Request). asked r ∷ []) (λ (p : List ℕ). formed p n ≡ true) (Lends n) listedIn page-stays
+      (λ p r f l e. (added-formed p r n f l e, added-listed p r n f l e)) rs page g all
+
+  -- the bytes of its pairs are those of the start and of the accepted requests, factors included
+  pub page-bodies : bodiesIn (pageAfterAll page rs) ≡ bodiesIn page ++ takenBy after accepts bodyAsked page rs
+  page-bodies =
+      run after accepts bodyAsked (λ (p : List ℕ). formed p n ≡ true) (Lends n) bodiesIn page-stays
+      (λ p r f l e. (added-formed p r n f l e, added-bodies p r n f l e)) rs page g all .1
+
+-- no request has more names than there can be
+pub all-lend : (rs : List Request) → Every (Lends namesMax) rs
+all-lend [] = tt
+all-lend (r ∷ rs) = (used-few (r .names) (r .lent), all-lend rs)
 
 pub page-within : (page : List ℕ) (n : ℕ) → formed page n ≡ true → Within n (listedIn page)
-page-within page n g = form-within (tableIn page) n (page-form page n g .1)
+page-within page n g = form-within (tableIn page) n (formed-parts page n g .1)
 
--- the pairs of the start and the accepted ones are pairs of symbols
-pub run-within : (rs : List Request) (page : List ℕ) → formed page namesMax ≡ true → Within namesMax (listedIn page ++ accepted page rs)
-run-within rs page g = let end = page-run rs page g in subst (Within namesMax) (end .1) (page-within (pageAfterAll page rs) namesMax (end .0))
+module _ (rs : List Request) (page : List ℕ) (g : formed page namesMax ≡ true) where
+  end-run : (formed (pageAfterAll page rs) namesMax ≡ true) × (listedIn (pageAfterAll page rs) ≡ acceptedPairs page rs)
+  end-run = page-run namesMax rs page g (all-lend rs)
 
--- the groups at the end are those of the pairs at the start and of the accepted ones
-pub page-groups : (rs : List Request) (page : List ℕ) → formed page namesMax ≡ true → (a b : ℕ) → a < namesMax → b < namesMax
-    → (rootOf namesMax (listedIn (pageAfterAll page rs)) a ≡ rootOf namesMax (listedIn (pageAfterAll page rs)) b) ↔ Joined (listedIn page ++ accepted page rs) a b
-page-groups rs page g a b la lb = rw (page-run rs page g .1) (groups namesMax (listedIn page ++ accepted page rs) (run-within rs page g) a b la lb)
+  -- whatever names are lent, the accepted pairs are listed at the end
+  pub run-listed : listedIn (pageAfterAll page rs) ≡ acceptedPairs page rs
+  run-listed = end-run .1
 
--- in a page in form as many steps as there are joining pairs lead to a root
-pub page-short : (page : List ℕ) (j : ℕ) → formed page namesMax ≡ true → Joining [] (listedIn page) j → (s : ℕ) → s < namesMax
-    → getD (parentsIn page) (walk j (parentsIn page) s) 0 ≡ walk j (parentsIn page) s
+  pub run-within : Within namesMax (acceptedPairs page rs)
+  run-within = subst (Within namesMax) run-listed (page-within (pageAfterAll page rs) namesMax (end-run .0))
+
+  -- the groups at the end are those of the accepted pairs
+  pub page-groups : (a b : ℕ) → a < namesMax → b < namesMax
+      → (rootOf namesMax (listedIn (pageAfterAll page rs)) a ≡ rootOf namesMax (listedIn (pageAfterAll page rs)) b) ↔ Joined (acceptedPairs page rs) a b
+  page-groups a b la lb =
+      subst (λ (ps : List Pair). (rootOf namesMax ps a ≡ rootOf namesMax ps b) ↔ Joined (acceptedPairs page rs) a b) (sym run-listed)
+      (groups namesMax (acceptedPairs page rs) run-within a b la lb)
+
+-- in a page in form as many steps as there are joining pairs lead to the root
+pub page-short : (page : List ℕ) (j : ℕ) → formed page namesMax ≡ true → Joining [] (listedIn page) j → (s : ℕ) → s < namesMax → walk j (parentsIn page) s ≡ rootOf namesMax (listedIn page) s
 unfolding tableIn
 page-short page j g c s l =
-    let p : parentsIn page ≡ parentsOf namesMax (listedIn page) = page-form page namesMax g .1 .given in
+    let p : parentsIn page ≡ parentsOf namesMax (listedIn page) = formed-parts page namesMax g .1 .given in
     rw p (walk-short namesMax (listedIn page) j (page-within page namesMax g) c s l)

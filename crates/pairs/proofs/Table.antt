@@ -64,26 +64,26 @@ module _ (t : ConversionTable) (n : ℕ) where
   form-many h = rw (lt-leb (t .count) pairsMax h)
 
   module _ (few : t .count ≤ pairsMax) where
-    pub form-other : eqs (t .parents) (parentsOf namesMax (listed t)) ≡ false → false ≡ formed t n
+    pub form-unused : allTo (t .count) (usedAt (t .pairs) n) ≡ false → false ≡ formed t n
     unfolding formed
-    form-other h = rw (le-leb (t .count) pairsMax few, h)
+    form-unused h = rw (le-leb (t .count) pairsMax few, h)
 
-    pub form-rest : eqs (t .parents) (parentsOf namesMax (listed t)) ≡ true → allTo (t .count) (usedAt (t .pairs) n) ≡ formed t n
+    pub form-rest : allTo (t .count) (usedAt (t .pairs) n) ≡ true → eqs (t .parents) (parentsOf namesMax (listed t)) ≡ formed t n
     unfolding formed
     form-rest h = rw (le-leb (t .count) pairsMax few, h)
 
 -- what a table in form has
 pub record Form (t : ConversionTable) (n : ℕ) : Type 0 where
   pub few : t .count ≤ pairsMax
-  pub given : t .parents ≡ parentsOf namesMax (listed t)
   pub used : allTo (t .count) (usedAt (t .pairs) n) ≡ true
+  pub given : t .parents ≡ parentsOf namesMax (listed t)
 
 pub form : (t : ConversionTable) (n : ℕ) → formed t n ≡ true → Form t n
 unfolding formed
 form t n e =
     let a = and-true (leb (t .count) pairsMax) _ e in
-    let b = and-true (eqs (t .parents) (parentsOf namesMax (listed t))) _ (a .1) in
-    record { few = leb-true _ _ (a .0); given = eqs-true _ _ (b .0); used = b .1 }
+    let b = and-true (allTo (t .count) (usedAt (t .pairs) n)) _ (a .1) in
+    record { few = leb-true _ _ (a .0); used = b .0; given = eqs-true _ _ (b .1) }
 
 -- ---- one more pair
 

@@ -1,6 +1,6 @@
 -- What the calls on a page of pairs answer, and leave in the page (document 01, "Units and pairs" and the table of refusals).
 -- Names are lent where `lent` is true.
-use mathlib.Core.Bool.{Bool, not, cond}
+use mathlib.Core.Bool.{Bool, _||_, not, cond}
 use mathlib.Core.List.{List, [], _∷_}
 use Prim.Native.Nat.{ℕ, _+_, _*_}
 use lib.Dec.{ltb, leb, eqb}
@@ -19,6 +19,10 @@ use Rattle.pairs.specs.Page.{sizeOf, bodiesIn, tableIn, listedIn, formed
 use Rattle.pairs.specs.declared.Root.{Root}
 use Rattle.pairs.specs.declared.Factor.{Factor}
 
+-- do the names that are lent, or the table, break their form
+unfoldable pub tableBroken : List ℕ → List ℕ → Bool → Bool
+tableBroken page names lent = lentBroken names lent || not (formed page (usedOf names lent))
+
 -- ---- making a table
 
 -- refused (2) is a page too short for a table without pairs
@@ -35,8 +39,7 @@ emptyPage page = unlessRefused (emptyVerdict page) (put (replicate (length page)
 unfoldable pub pairVerdict : List ℕ → List ℕ → Bool → Pair → Verdict
 pairVerdict page names lent q =
     lowest
-    ((Broken when lentBroken names lent)
-    ∷ (Broken when not (formed page (usedOf names lent)))
+    ((Broken when tableBroken page names lent)
     ∷ (Unused when not (bothUsed (usedOf names lent) q))
     ∷ (Full when leb pairsMax (countOf page))
     ∷ (Full when ltb (length page) (sizeOf (countOf page + 1)))
@@ -50,12 +53,7 @@ pageAfter page names lent s f b = unlessRefused (pairVerdict page names lent (pa
 
 -- why it is refused, if it is: 2 the names or the table, 3 the symbol is not in use
 unfoldable pub symbolVerdict : List ℕ → List ℕ → Bool → ℕ → Verdict
-symbolVerdict page names lent s =
-    lowest
-    ((Broken when lentBroken names lent)
-    ∷ (Broken when not (formed page (usedOf names lent)))
-    ∷ (Unused when leb (usedOf names lent) s)
-    ∷ [])
+symbolVerdict page names lent s = lowest ((Broken when tableBroken page names lent) ∷ (Unused when not (ltb s (usedOf names lent))) ∷ [])
 
 -- a root, or the refusal
 abbrev pub rooted : Verdict → ℕ → Root

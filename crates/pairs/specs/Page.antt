@@ -37,11 +37,12 @@ tableIn page = record { count = countOf page; pairs = pad (pairBytes * pairsMax)
 abbrev pub listedIn : List ℕ → List Pair
 listedIn page = listed (tableIn page)
 
--- the page holds the table whose count it says, and zeros behind it
+-- the page holds the table whose count it says, of few enough pairs, and zeros behind it
 unfoldable pub holds : List ℕ → Bool
-holds page = leb (sizeOf (countOf page)) (length page) && zeros (drop (sizeOf (countOf page)) page)
+holds page =
+    leb (countOf page) pairsMax && (leb (sizeOf (countOf page)) (length page) && zeros (drop (sizeOf (countOf page)) page))
 
--- what a page has in which parents and pairs can be read
+-- what lets pairs and parents be read from such a page
 pub record Held (page : List ℕ) : Type 0 where
   pub few : countOf page ≤ pairsMax
   pub room : sizeOf (countOf page) ≤ length page

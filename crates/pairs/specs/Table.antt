@@ -4,14 +4,14 @@ use mathlib.Core.Bool.{Bool, _&&_, not}
 use mathlib.Core.List.{List, [], _∷_, _++_}
 use Prim.Native.Nat.{ℕ, zero, suc, _+_, _*_}
 use lib.Dec.{ltb, leb}
-use lib.ListN.{getD}
+use lib.ListN.{getD, replicate}
 use Rattle.refusals.specs.Lowest.{_when_, lowest, unlessRefused}
 use Rattle.refusals.specs.declared.Refusal.the-variants.{Broken, Unused, Full}
 use Rattle.refusals.specs.declared.Verdict.{Verdict}
 use Rattle.pages.specs.Quant.{allTo}
 use Rattle.pages.specs.Bytes.{eqs, bigEndian, longBytes, put}
 use Rattle.names.specs.Table.{namesMax}
-use Rattle.groups.specs.Groups.{Pair, pair, parentsOf}
+use Rattle.groups.specs.Groups.{Pair, pair, selves, parentsOf}
 use Rattle.pairs.specs.declared.ConversionTable.{ConversionTable}
 use Rattle.pairs.specs.declared.Outcome.{Outcome}
 
@@ -19,7 +19,11 @@ use Rattle.pairs.specs.declared.Outcome.{Outcome}
 abbrev pub pairsMax : ℕ
 pairsMax = 512
 
--- where a pair's factor begins, after its symbol and its base
+-- where a pair's base stands, after its symbol
+abbrev pub baseAt : ℕ
+baseAt = 1
+
+-- where its factor begins
 abbrev pub factorAt : ℕ
 factorAt = 2
 
@@ -35,7 +39,7 @@ bodyOf s f b = s ∷ b ∷ bigEndian longBytes f
 
 -- pair i of bodies that stand one after another
 abbrev pub pairAt : List ℕ → ℕ → Pair
-pairAt bodies i = pair (getD bodies (pairBytes * i) 0) (getD bodies (pairBytes * i + 1) 0)
+pairAt bodies i = pair (getD bodies (pairBytes * i) 0) (getD bodies (pairBytes * i + baseAt) 0)
 
 -- the first k pairs
 unfoldable pub pairsIn : List ℕ → ℕ → List Pair
@@ -46,19 +50,23 @@ pairsIn bodies (suc k) = pairsIn bodies k ++ (pairAt bodies k ∷ [])
 abbrev pub listed : ConversionTable → List Pair
 listed t = pairsIn (t .pairs) (t .count)
 
+-- a table without pairs, "one without pairs included": each symbol its own parent
+abbrev pub freshTable : ConversionTable
+freshTable = record { count = 0; pairs = replicate (pairBytes * pairsMax) 0; parents = selves 0 namesMax }
+
 -- ---- a table in form
 
 -- are both symbols of a pair numbers in use
 abbrev pub bothUsed : ℕ → Pair → Bool
 bothUsed n q = ltb (q .symbol) n && ltb (q .base) n
 
--- are those of pair i
+-- are both symbols of pair i of bodies
 abbrev pub usedAt : List ℕ → ℕ → ℕ → Bool
 usedAt bodies n i = bothUsed n (pairAt bodies i)
 
--- at most 512 pairs, the parents "just as the pairs give them", and no symbol that is not in use
+-- at most 512 pairs, no symbol that is not in use, and the parents "just as the pairs give them"
 unfoldable pub formed : ConversionTable → ℕ → Bool
-formed t n = leb (t .count) pairsMax && (eqs (t .parents) (parentsOf namesMax (listed t)) && allTo (t .count) (usedAt (t .pairs) n))
+formed t n = leb (t .count) pairsMax && (allTo (t .count) (usedAt (t .pairs) n) && eqs (t .parents) (parentsOf namesMax (listed t)))
 
 -- ---- insertion
 

@@ -8,24 +8,26 @@ use pages::COUNT_BYTES;
 use refusals::Refusal;
 use refusals::Verdict;
 ghost use mathlib.Core.Path.{_≡_};
-ghost use mathlib.Core.Bool.{true, false, _&&_};
+ghost use mathlib.Core.Bool.{true};
 ghost use Prim.Native.Nat.{_+_, _*_, _≤_, _<_};
-ghost use lib.Dec.{leb};
 ghost use lib.ListN.{length, replicate};
 ghost use Rattle.refusals.specs.declared.Verdict.{Verdict};
 ghost use Rattle.pages.specs.Quant.{allTo, firstTo};
 ghost use Rattle.pages.specs.Bytes.{countOf};
 ghost use Rattle.names.specs.Table.{namesMax};
 ghost use Rattle.groups.specs.Groups.{pair, parentsOf};
-ghost use Rattle.pairs.specs.Table.{pairsMax, pairBytes, pairsIn, bothUsed, usedAt, insertion, withPair};
+ghost use Rattle.pairs.specs.Table.{pairsMax, pairBytes, pairsIn, freshTable, bothUsed, usedAt, insertion, withPair};
 ghost use Rattle.pairs.specs.Table as tables;
 ghost use Rattle.pairs.specs.Page.{parentsAt, sizeOf, parentsIn, tableIn, holds, Held, formed, withTable};
-ghost use Rattle.pairs.specs.Calls.{emptyVerdict, emptyPage, pairVerdict, pageAfter, symbolVerdict, rootAnswer, isOf, factorAnswer};
+ghost use Rattle.pairs.specs.Calls.{tableBroken, emptyVerdict, emptyPage, pairVerdict, pageAfter, symbolVerdict, rootAnswer, isOf, factorAnswer};
 
 // How many pairs a table has at most.
 pub const PAIRS: usize = 512;
 
-// Where a pair's factor begins, after its symbol and its base.
+// Where a pair's base stands, after its symbol.
+pub const BASE_AT: usize = 1;
+
+// Where its factor begins.
 pub const FACTOR_AT: usize = 2;
 
 // How many bytes a pair takes.
@@ -70,7 +72,7 @@ fn are_used(symbol: Symbol, base: Symbol, n: usize) -> bool
     symbol_index(base) < n
 }
 
-// Whether those of all of the first k pairs are.
+// Whether both symbols of each of the first k pairs are numbers in use.
 fn all_used(pairs: &[u8], k: usize, n: usize) -> bool
     requires { ⌜ pairBytes * k ≤ length (now pairs) ⌝ }
     ensures { λ r. ⌜ r ≡ allTo k (usedAt (now (pairs .entry)) n) ⌝ }
@@ -78,7 +80,7 @@ fn all_used(pairs: &[u8], k: usize, n: usize) -> bool
     let mut i: usize = 0;
     while i < k {
         let at = PAIR_BYTES * i;
-        if !are_used(pairs[at], pairs[at + 1], n) {
+        if !are_used(pairs[at], pairs[at + BASE_AT], n) {
             return false;
         }
         i += 1;
@@ -95,7 +97,7 @@ fn replayed(pairs: &[u8], k: usize) -> Parents
     let mut i: usize = 0;
     while i < k {
         let at = PAIR_BYTES * i;
-        groups::join(&mut parents, i, pairs[at], pairs[at + 1]);
+        groups::join(&mut parents, i, pairs[at], pairs[at + BASE_AT]);
         i += 1;
     }
     parents
@@ -110,12 +112,12 @@ fn is_table(t: ConversionTable, n: usize) -> bool
         return false;
     }
     let pairs = t.pairs;
-    let parents = t.parents;
-    let given = replayed(&pairs, k);
-    if !pages::same(&parents, &given) {
+    if !all_used(&pairs, k, n) {
         return false;
     }
-    all_used(&pairs, k, n)
+    let parents = t.parents;
+    let given = replayed(&pairs, k);
+    pages::same(&parents, &given)
 }
 
 // A table in form with one more pair.
@@ -146,6 +148,19 @@ fn kept(t: ConversionTable, refusal: Refusal) -> Outcome
     Outcome {
         verdict: Verdict::Refused(refusal),
         table: t,
+    }
+}
+
+// A table without pairs.
+pub fn fresh_table() -> ConversionTable
+    ensures { λ r. ⌜ r ≡ freshTable ⌝ }
+{
+    let pairs = no_bodies();
+    let parents = groups::own_parents();
+    ConversionTable {
+        count: 0,
+        pairs,
+        parents,
     }
 }
 
@@ -186,30 +201,39 @@ pub fn insert(
 
 // Where the parents stand in a page, behind k pairs.
 fn parents_at(k: usize) -> usize
-    requires { ⌜ k ≤ 65535 ⌝ }
+    requires { ⌜ k ≤ pairsMax ⌝ }
     ensures { λ r. ⌜ r ≡ parentsAt k ⌝ }
 {
     COUNT_BYTES + PAIR_BYTES * k
 }
 
+// How many bytes a table of k pairs takes.
+fn size_of(k: usize) -> usize
+    requires { ⌜ k ≤ pairsMax ⌝ }
+    ensures { λ r. ⌜ r ≡ sizeOf k ⌝ }
+{
+    parents_at(k) + NAMES
+}
+
 // Whether the page holds the table whose count it says, of few enough pairs, and zeros behind it.
 fn holds_table(page: &[u8]) -> bool
-    ensures { λ r. ⌜ r ≡ (leb (countOf (now (page .entry))) pairsMax && holds (now (page .entry))) ⌝ }
+    ensures { λ r. ⌜ r ≡ holds (now (page .entry)) ⌝ }
 {
-    if page.len() < COUNT_BYTES + NAMES {
+    if page.len() < COUNT_BYTES {
         return false;
     }
     let k = pages::count(page);
     if PAIRS < k {
         return false;
     }
-    let end = parents_at(k) + NAMES;
+    let end = size_of(k);
     if page.len() < end {
         return false;
     }
     pages::zeros_from(page, end)
 }
 
+// As many bytes as 512 pairs take, all 0.
 fn no_bodies() -> Bodies
     ensures { λ r. ⌜ r ≡ replicate (pairBytes * pairsMax) 0 ⌝ }
 {
@@ -263,7 +287,7 @@ fn write_table(page: &mut [u8], t: ConversionTable)
 pub fn empty_pairs(page: &mut [u8]) -> Verdict
     ensures { λ r. ⌜ (r ≡ emptyVerdict (now (page .entry))) × (now (page .exit) ≡ emptyPage (now (page .entry))) ⌝ }
 {
-    if page.len() < COUNT_BYTES + NAMES {
+    if page.len() < size_of(0) {
         return Verdict::Refused(Refusal::Broken);
     }
     let parents = groups::own_parents();
@@ -296,31 +320,37 @@ pub fn insert_pair(
         return verdict;
     }
     let t = out.table;
-    if page.len() < parents_at(t.count) + NAMES {
+    if page.len() < size_of(t.count) {
         return Verdict::Refused(Refusal::Full);
     }
     write_table(page, t);
     Verdict::Passed
 }
 
+// Whether the names that are lent, or the table, break their form, for crates above.
+pub fn is_broken(page: &[u8], names: &[u8], lent: bool) -> bool
+    ensures { λ r. ⌜ r ≡ tableBroken (now (page .entry)) (now (names .entry)) lent ⌝ }
+{
+    if names::is_broken(names, lent) {
+        return true;
+    }
+    !is_formed(page, names::in_use(names, lent))
+}
+
 // Whether a symbol can be looked up in a page of pairs.
 fn symbol_verdict(page: &[u8], names: &[u8], lent: bool, symbol: Symbol) -> Verdict
     ensures { λ r. ⌜ r ≡ symbolVerdict (now (page .entry)) (now (names .entry)) lent symbol ⌝ }
 {
-    if names::is_broken(names, lent) {
+    if is_broken(page, names, lent) {
         return Verdict::Refused(Refusal::Broken);
     }
-    let n = names::in_use(names, lent);
-    if !is_formed(page, n) {
-        return Verdict::Refused(Refusal::Broken);
-    }
-    if n <= symbol_index(symbol) {
+    if names::in_use(names, lent) <= symbol_index(symbol) {
         return Verdict::Refused(Refusal::Unused);
     }
     Verdict::Passed
 }
 
-// The parents in a page that an entry call found in form.
+// The parents in a page that an entry call found in form, for crates above (`canonical` tests it).
 pub fn parents_of(page: &[u8]) -> &[u8]
     requires { ⌜ Held (now page) ⌝ }
     ensures { λ r. ⌜ (now r ≡ parentsIn (now (page .entry))) × (length (now r) ≡ namesMax) ⌝ }
@@ -370,7 +400,7 @@ pub fn first_factor(page: &[u8], names: &[u8], lent: bool, symbol: Symbol) -> Fa
         let at = PAIR_BYTES * i;
         return Factor::Of {
             factor: pages::long(bodies, at + FACTOR_AT),
-            base: bodies[at + 1],
+            base: bodies[at + BASE_AT],
         };
     }
     Factor::Absent

@@ -7,7 +7,7 @@ use native.Mathlib.Omega.{arith}
 use lib.ListN.{length}
 use borrow.Author.Tests.{not-false}
 use Rattle.refusals.specs.Numbers.{isRefused}
-use Rattle.refusals.specs.Lowest.{_when_, lowest}
+use Rattle.refusals.specs.Lowest.{_when_}
 use Rattle.refusals.specs.declared.Refusal.{Refusal}
 use Rattle.refusals.specs.declared.Refusal.the-variants.{Broken, Unused, BadUnit}
 use Rattle.refusals.specs.declared.Verdict.{Verdict}
@@ -27,7 +27,8 @@ use Rattle.units.specs.declared.MaybeUnit.{MaybeUnit}
 use Rattle.groups.specs.Groups.{walk}
 use Rattle.pairs.specs.Page.{parentsIn, Held, formed}
 use Rattle.pairs.proofs.Page.{formed-held}
-use Rattle.pairs.proofs.Calls.{root-in}
+use Rattle.pairs.specs.Calls.{tableBroken}
+use Rattle.pairs.proofs.Calls.{unbroken, root-in}
 use Rattle.pairs.proofs.Run.{form-all}
 use Rattle.sums.specs.Sums.{groupSums, convertible, sumsOf}
 use Rattle.sums.specs.Calls.{allUsed, allFormed, unitsVerdict, rootsIn, summed, sumsAnswer, counted, convertAnswer}
@@ -37,67 +38,60 @@ use Rattle.sums.specs.declared.Conversion.{Conversion}
 -- ---- two units
 
 module _ (page names : List ℕ) (lent : Bool) (a b : Unit) where
-  pub units-unnamed : lentBroken names lent ≡ true → Refused Broken ≡ unitsVerdict page names lent (a ∷ b ∷ [])
+  pub units-broken : tableBroken page names lent ≡ true → Refused Broken ≡ unitsVerdict page names lent (a ∷ b ∷ [])
   unfolding unitsVerdict
-  units-unnamed l =
-      sym (rw l (first-holds Broken ((Broken when not (formed page (usedOf names lent))) ∷ (Unused when not (allUsed (usedOf names lent) (a ∷ b ∷ []))) ∷ (BadUnit when not (allFormed (a ∷ b ∷ []))) ∷ []) refl))
+  units-broken t = sym (rw t (first-holds Broken ((Unused when not (allUsed (usedOf names lent) (a ∷ b ∷ []))) ∷ (BadUnit when not (allFormed (a ∷ b ∷ []))) ∷ []) refl))
 
-  module _ (l : lentBroken names lent ≡ false) where
-    pub units-broken : formed page (usedOf names lent) ≡ false → Refused Broken ≡ unitsVerdict page names lent (a ∷ b ∷ [])
+  module _ (t : tableBroken page names lent ≡ false) where
+    unused : allUsed (usedOf names lent) (a ∷ b ∷ []) ≡ false → Refused Unused ≡ unitsVerdict page names lent (a ∷ b ∷ [])
     unfolding unitsVerdict
-    units-broken e = sym (rw (l, e) (first-holds Broken ((Unused when not (allUsed (usedOf names lent) (a ∷ b ∷ []))) ∷ (BadUnit when not (allFormed (a ∷ b ∷ []))) ∷ []) refl))
+    unused u = sym (rw (t, u) (first-holds Unused ((BadUnit when not (allFormed (a ∷ b ∷ []))) ∷ []) refl))
 
-    module _ (e : formed page (usedOf names lent) ≡ true) where
-      unused : allUsed (usedOf names lent) (a ∷ b ∷ []) ≡ false → Refused Unused ≡ unitsVerdict page names lent (a ∷ b ∷ [])
-      unfolding unitsVerdict
-      unused u = sym (rw (l, e, u) (first-holds Unused ((BadUnit when not (allFormed (a ∷ b ∷ []))) ∷ []) refl))
+    pub left-unused : inUse (usedOf names lent) (present a) ≡ false → Refused Unused ≡ unitsVerdict page names lent (a ∷ b ∷ [])
+    left-unused u = unused (rw u)
 
-      pub left-unused : inUse (usedOf names lent) (present a) ≡ false → Refused Unused ≡ unitsVerdict page names lent (a ∷ b ∷ [])
-      left-unused u = unused (rw u)
+    module _ (ua : inUse (usedOf names lent) (present a) ≡ true) where
+      pub right-unused : inUse (usedOf names lent) (present b) ≡ false → Refused Unused ≡ unitsVerdict page names lent (a ∷ b ∷ [])
+      right-unused u = unused (rw (ua, u))
 
-      module _ (ua : inUse (usedOf names lent) (present a) ≡ true) where
-        pub right-unused : inUse (usedOf names lent) (present b) ≡ false → Refused Unused ≡ unitsVerdict page names lent (a ∷ b ∷ [])
-        right-unused u = unused (rw (ua, u))
+      module _ (ub : inUse (usedOf names lent) (present b) ≡ true) where
+        bad : allFormed (a ∷ b ∷ []) ≡ false → Refused BadUnit ≡ unitsVerdict page names lent (a ∷ b ∷ [])
+        unfolding unitsVerdict
+        bad f = rw (t, ua, ub, f)
 
-        module _ (ub : inUse (usedOf names lent) (present b) ≡ true) where
-          bad : allFormed (a ∷ b ∷ []) ≡ false → Refused BadUnit ≡ unitsVerdict page names lent (a ∷ b ∷ [])
+        pub left-bad : units.formed placesMax namesMax (termsOf a) ≡ false → Refused BadUnit ≡ unitsVerdict page names lent (a ∷ b ∷ [])
+        left-bad f = bad (rw f)
+
+        module _ (fa : units.formed placesMax namesMax (termsOf a) ≡ true) where
+          pub right-bad : units.formed placesMax namesMax (termsOf b) ≡ false → Refused BadUnit ≡ unitsVerdict page names lent (a ∷ b ∷ [])
+          right-bad f = bad (rw (fa, f))
+
+          pub units-passed : units.formed placesMax namesMax (termsOf b) ≡ true → Passed ≡ unitsVerdict page names lent (a ∷ b ∷ [])
           unfolding unitsVerdict
-          bad f = rw (l, e, ua, ub, f)
-
-          pub left-bad : units.formed placesMax namesMax (termsOf a) ≡ false → Refused BadUnit ≡ unitsVerdict page names lent (a ∷ b ∷ [])
-          left-bad f = bad (rw f)
-
-          module _ (fa : units.formed placesMax namesMax (termsOf a) ≡ true) where
-            pub right-bad : units.formed placesMax namesMax (termsOf b) ≡ false → Refused BadUnit ≡ unitsVerdict page names lent (a ∷ b ∷ [])
-            right-bad f = bad (rw (fa, f))
-
-            pub units-passed : units.formed placesMax namesMax (termsOf b) ≡ true → Passed ≡ unitsVerdict page names lent (a ∷ b ∷ [])
-            unfolding unitsVerdict
-            units-passed fb = rw (l, e, ua, ub, fa, fb)
+          units-passed fb = rw (t, ua, ub, fa, fb)
 
   -- what two units have that are not refused
   module _ (v : unitsVerdict page names lent (a ∷ b ∷ []) ≡ Passed) where
-    named : (lentBroken names lent ≡ false) × (lowest ((Broken when not (formed page (usedOf names lent))) ∷ (Unused when not (allUsed (usedOf names lent) (a ∷ b ∷ []))) ∷ (BadUnit when not (allFormed (a ∷ b ∷ []))) ∷ []) ≡ Passed)
+    rest : (tableBroken page names lent ≡ false) × (allFormed (a ∷ b ∷ []) ≡ true)
     unfolding unitsVerdict
-    named =
-        passed-parts Broken (lentBroken names lent) ((Broken when not (formed page (usedOf names lent))) ∷ (Unused when not (allUsed (usedOf names lent) (a ∷ b ∷ []))) ∷ (BadUnit when not (allFormed (a ∷ b ∷ []))) ∷ []) v
-
-    rest : (formed page (usedOf names lent) ≡ true) × (allFormed (a ∷ b ∷ []) ≡ true)
     rest =
-        let x = passed-parts Broken (not (formed page (usedOf names lent))) ((Unused when not (allUsed (usedOf names lent) (a ∷ b ∷ []))) ∷ (BadUnit when not (allFormed (a ∷ b ∷ []))) ∷ []) (named .1) in
+        let x = passed-parts Broken (tableBroken page names lent) ((Unused when not (allUsed (usedOf names lent) (a ∷ b ∷ []))) ∷ (BadUnit when not (allFormed (a ∷ b ∷ []))) ∷ []) v in
         let y = passed-parts Unused (not (allUsed (usedOf names lent) (a ∷ b ∷ []))) ((BadUnit when not (allFormed (a ∷ b ∷ []))) ∷ []) (x .1) in
         let z = passed-parts BadUnit (not (allFormed (a ∷ b ∷ []))) [] (y .1) in
-        (not-false (formed page (usedOf names lent)) (x .0), not-false (allFormed (a ∷ b ∷ [])) (z .0))
+        (x .0, not-false (allFormed (a ∷ b ∷ [])) (z .0))
+
+    sound : (lentBroken names lent ≡ false) × (formed page (usedOf names lent) ≡ true)
+    sound = unbroken page names lent (rest .0)
 
     -- the page is in form, whether or not names are lent
     pub passed-all-names : formed page namesMax ≡ true
-    passed-all-names = form-all page (usedOf names lent) (used-few names lent (named .0)) (rest .0)
+    passed-all-names = form-all page (usedOf names lent) (used-few names lent (sound .0)) (sound .1)
 
     pub passed-held : Held page
-    passed-held = formed-held page (usedOf names lent) (rest .0)
+    passed-held = formed-held page (usedOf names lent) (sound .1)
 
     pub passed-root : (k s : ℕ) → k ≡ countOf page → walk k (parentsIn page) s ≡ rootsIn page s
-    passed-root k s is = root-in page (usedOf names lent) k s (rest .0) is
+    passed-root k s is = root-in page (usedOf names lent) k s (sound .1) is
 
     both : (units.formed placesMax namesMax (termsOf a) ≡ true) × (allFormed (b ∷ []) ≡ true)
     both = and-true (units.formed placesMax namesMax (termsOf a)) (allFormed (b ∷ [])) (rest .1)

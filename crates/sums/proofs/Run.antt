@@ -17,8 +17,8 @@ use Rattle.units.specs.declared.MaybeUnit.{MaybeUnit}
 use Rattle.units.proofs.Form.{formed-ordered}
 use Rattle.units.proofs.Used.{ordered-used}
 use Rattle.pairs.specs.Page.{listedIn, formed}
-use Rattle.pairs.specs.Runs.{Request, pageAfterAll, accepted}
-use Rattle.pairs.proofs.Run.{page-within, page-run}
+use Rattle.pairs.specs.Runs.{Request, pageAfterAll, acceptedPairs}
+use Rattle.pairs.proofs.Run.{page-within, run-listed}
 use Rattle.sums.specs.Sums.{convertible, SameSums}
 use Rattle.sums.specs.Calls.{unitsVerdict, rootsIn, counted, convertAnswer}
 use Rattle.sums.specs.declared.Conversion.{Conversion}
@@ -38,6 +38,7 @@ module _ (page names : List ℕ) (lent : Bool) (left right : MaybeUnit) (v : uni
   unfolding convertAnswer
   answer-is = rw v (answer-yes (convertible namesMax (rootsIn page) (termsOf (counted left)) (termsOf (counted right))))
 
+  -- of the pairs that the page lists
   pub converts : (convertAnswer page names lent left right ≡ Conversion.Yes) ↔ SameSums namesMax (listedIn page) (termsOf (counted left)) (termsOf (counted right))
   converts =
       let f = passed-all-names page names lent (counted left) (counted right) v in
@@ -47,9 +48,10 @@ module _ (page names : List ℕ) (lent : Bool) (left right : MaybeUnit) (v : uni
       (formed-used (counted right) (passed-right page names lent (counted left) (counted right) v)) in
       (λ e. g .0 (answer-is .0 e), λ s. answer-is .1 (g .1 s))
 
+-- after any list of insertions: of the accepted pairs
 pub run-converts : (rs : List Request) (page names : List ℕ) (lent : Bool) (left right : MaybeUnit)
     → formed page namesMax ≡ true → unitsVerdict (pageAfterAll page rs) names lent (counted left ∷ counted right ∷ []) ≡ Passed
-    → (convertAnswer (pageAfterAll page rs) names lent left right ≡ Conversion.Yes) ↔ SameSums namesMax (listedIn page ++ accepted page rs) (termsOf (counted left)) (termsOf (counted right))
+    → (convertAnswer (pageAfterAll page rs) names lent left right ≡ Conversion.Yes) ↔ SameSums namesMax (acceptedPairs page rs) (termsOf (counted left)) (termsOf (counted right))
 run-converts rs page names lent left right g v =
     subst (λ ps. (convertAnswer (pageAfterAll page rs) names lent left right ≡ Conversion.Yes) ↔ SameSums namesMax ps (termsOf (counted left)) (termsOf (counted right)))
-    (page-run rs page g .1) (converts (pageAfterAll page rs) names lent left right v)
+    (run-listed rs page g) (converts (pageAfterAll page rs) names lent left right v)

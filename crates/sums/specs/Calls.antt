@@ -8,14 +8,15 @@ use Rattle.refusals.specs.declared.Refusal.the-variants.{Broken, Unused, BadUni
 use Rattle.refusals.specs.declared.Verdict.{Verdict}
 use Rattle.refusals.specs.declared.Verdict.the-variants.{Passed, Refused}
 use Rattle.names.specs.Table.{namesMax}
-use Rattle.names.specs.Calls.{lentBroken, usedOf}
+use Rattle.names.specs.Calls.{usedOf}
 use Rattle.units.specs.Unit.{placesMax, Term, inUse}
 use Rattle.units.specs.Unit as units
 use Rattle.units.specs.Calls.{termsOf, present, unitOf}
 use Rattle.units.specs.declared.Unit.{Unit}
 use Rattle.units.specs.declared.MaybeUnit.{MaybeUnit}
 use Rattle.groups.specs.Groups.{rootOf}
-use Rattle.pairs.specs.Page.{listedIn, formed}
+use Rattle.pairs.specs.Page.{listedIn}
+use Rattle.pairs.specs.Calls.{tableBroken}
 use Rattle.sums.specs.Sums.{groupSums, convertible, sumsOf}
 use Rattle.sums.specs.declared.SumsResult.{SumsResult}
 use Rattle.sums.specs.declared.Conversion.{Conversion}
@@ -36,8 +37,7 @@ allFormed (u ∷ us) = units.formed placesMax namesMax (termsOf u) && allFormed 
 unfoldable pub unitsVerdict : List ℕ → List ℕ → Bool → List Unit → Verdict
 unitsVerdict page names lent us =
     lowest
-    ((Broken when lentBroken names lent)
-    ∷ (Broken when not (formed page (usedOf names lent)))
+    ((Broken when tableBroken page names lent)
     ∷ (Unused when not (allUsed (usedOf names lent) us))
     ∷ (BadUnit when not (allFormed us))
     ∷ [])

@@ -190,13 +190,10 @@ pub fn convertible(parents: &[Symbol], steps: usize, left: Unit, right: Unit) ->
 fn units_verdict(page: &[u8], names: &[u8], lent: bool, a: Unit, b: Unit) -> Verdict
     ensures { λ r. ⌜ r ≡ unitsVerdict (now (page .entry)) (now (names .entry)) lent (a ∷ b ∷ []) ⌝ }
 {
-    if names::is_broken(names, lent) {
+    if pairs::is_broken(page, names, lent) {
         return Verdict::Refused(Refusal::Broken);
     }
     let n = names::in_use(names, lent);
-    if !pairs::is_formed(page, n) {
-        return Verdict::Refused(Refusal::Broken);
-    }
     if !units::is_used(a, n) {
         return Verdict::Refused(Refusal::Unused);
     }
@@ -212,7 +209,7 @@ fn units_verdict(page: &[u8], names: &[u8], lent: bool, a: Unit, b: Unit) -> Ver
     Verdict::Passed
 }
 
-// The group sums of a unit, over the pairs of a page: `canonicalize` of the source.
+// The group sums of a unit, over the pairs of a page: `canonicalize` of the source. A unit by itself is judged as if given twice.
 pub fn canonicalize(page: &[u8], names: &[u8], lent: bool, u: Unit) -> SumsResult
     ensures { λ r. ⌜ r ≡ sumsAnswer (now (page .entry)) (now (names .entry)) lent u ⌝ }
 {

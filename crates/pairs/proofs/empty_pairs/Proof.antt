@@ -8,11 +8,11 @@ use borrow.Author.Needs.{needs}
 use Rattle.pairs.proofs.empty_pairs.Statement.{statement}
 use Rattle.pairs.proofs.empty_pairs.Tie as tie
 
-add-if1 : tie.Need-add-if1
-add-if1 c = search needs
+size-of-requires : tie.Need-size-of-requires
+size-of-requires c κs = search needs
 
 returns : tie.Need-returns
-returns c = empty-short (now (c .before .before .args .page)) (c .if1 .taken)
+returns c = empty-short (now (c .before .before .before .args .page)) (rw (c .before .size-of .ensures) at (c .if1 .taken))
 
 own-parents-requires : tie.Need-own-parents-requires
 own-parents-requires c κs = search needs
@@ -31,14 +31,14 @@ same-length c = search needs
 
 returns-2 : tie.Need-returns-2
 returns-2 c =
-    let m = empty-made (now (c .before .before .before .before .before .before .before .before .before .before .before .before .args .page)) (c .before .before .before .before .before .before .before .before .before .before .if1 .left) in
+    let m = empty-made (now (c .before .before .before .before .before .before .before .before .before .before .before .before .before .args .page)) (rw (c .before .before .before .before .before .before .before .before .before .before .before .size-of .ensures) at (c .before .before .before .before .before .before .before .before .before .before .if1 .left)) in
     (m .0, c .before .before .put-bytes .ensures ∙ rw (c .before .before .before .before .before .before .before .clear .ensures, c .before .before .before .before .before .before .before .before .before .own-parents .ensures) (m .1))
 
 pub empty-pairs-spec : {M : Type 1} → statement M
 empty-pairs-spec =
     tie.close
     (tie.spec
-    add-if1
+    size-of-requires
     returns
     own-parents-requires
     clear-requires

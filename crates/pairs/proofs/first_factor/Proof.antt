@@ -33,7 +33,11 @@ count-requires c κs =
     omega (arith, h .room)
 
 parents-at-requires : tie.Need-parents-at-requires
-parents-at-requires c κs = search needs
+parents-at-requires c κs =
+    let a = c .before .before .before .before .before .before .args in
+    let v = sym (c .before .enum-told .given .1) ∙ c .before .before .before .symbol-verdict .ensures in
+    let h = formed-held (now (a .page)) (usedOf (now (a .names)) (a .lent)) (passed-formed (now (a .page)) (now (a .names)) (a .lent) (a .symbol) v) in
+    omega (arith, h .few, c .count .ensures .0)
 
 sub-bodies : tie.Need-sub-bodies
 sub-bodies c = search needs

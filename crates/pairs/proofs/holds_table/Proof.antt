@@ -1,18 +1,11 @@
 -- `pairs::holds_table` meets its contract. Assumes nothing.
-use mathlib.Core.Path.{_∙_, ap}
-use mathlib.Core.List.{List}
-use Prim.Native.Nat.{ℕ, _+_}
-use native.Mathlib.Omega.{arith}
+use mathlib.Core.Path.{_∙_}
 use denote.Ref.{now}
-use Rattle.pages.specs.Bytes.{zeros}
 use Rattle.pairs.proofs.Page.{held-short, held-many, held-cut, held-rest}
 use borrow.Author.Needs.{needs}
 use borrow.Author.Needs.{needs}
 use Rattle.pairs.proofs.holds_table.Statement.{statement}
 use Rattle.pairs.proofs.holds_table.Tie as tie
-
-add-if1 : tie.Need-add-if1
-add-if1 c = search needs
 
 returns : tie.Need-returns
 returns c = held-short (now (c .before .before .args .page)) (c .if1 .taken)
@@ -23,33 +16,28 @@ count-requires c κs = search needs
 returns-2 : tie.Need-returns-2
 returns-2 c = held-many (now (c .before .before .before .before .args .page)) (c .before .count .result) (c .before .count .ensures .0) (c .if2 .taken)
 
-parents-at-requires : tie.Need-parents-at-requires
-parents-at-requires c κs = search needs
-
-add-end : tie.Need-add-end
-add-end c = search needs
+size-of-requires : tie.Need-size-of-requires
+size-of-requires c κs = search needs
 
 returns-3 : tie.Need-returns-3
 returns-3 c =
-    held-cut (now (c .before .before .before .before .before .before .args .page)) (c .before .before .before .count .result) (c .before .before .before .count .ensures .0) (c .before .before .if2 .left) (rw (c .before .parents-at .ensures) at (c .if3 .taken))
+    held-cut (now (c .before .before .before .before .before .before .args .page)) (c .before .before .before .count .result) (c .before .before .before .count .ensures .0) (c .before .before .if2 .left) (rw (c .before .size-of .ensures) at (c .if3 .taken))
 
 zeros-from-requires : tie.Need-zeros-from-requires
 zeros-from-requires c κs = search needs
 
 returns-4 : tie.Need-returns-4
 returns-4 c =
-    c .zeros-from .ensures ∙ rw (c .before .before .parents-at .ensures) (held-rest (now (c .before .before .before .before .before .before .before .args .page)) (c .before .before .before .before .count .result) (c .before .before .before .before .count .ensures .0) (c .before .before .before .if2 .left) (rw (c .before .before .parents-at .ensures) at (c .before .if3 .left)))
+    c .zeros-from .ensures ∙ rw (c .before .before .size-of .ensures) (held-rest (now (c .before .before .before .before .before .before .before .args .page)) (c .before .before .before .before .count .result) (c .before .before .before .before .count .ensures .0) (c .before .before .before .if2 .left) (rw (c .before .before .size-of .ensures) at (c .before .if3 .left)))
 
 pub holds-table-spec : {M : Type 1} → statement M
 holds-table-spec =
     tie.close
     (tie.spec
-    add-if1
     returns
     count-requires
     returns-2
-    parents-at-requires
-    add-end
+    size-of-requires
     returns-3
     zeros-from-requires
     returns-4)

@@ -3,8 +3,8 @@ use mathlib.Core.Path.{_≡_, sym, _∙_}
 use native.Mathlib.Omega.{arith}
 use denote.Ref.{now}
 use borrow.Author.Tests.{not-true, not-false}
-use Rattle.pairs.proofs.Page.{held-parts, form-unheld}
-use Rattle.pairs.proofs.Calls.{pair-unnamed, pair-broken, pair-refused, pair-few, count-grown, pair-cramped, pair-done}
+use Rattle.pairs.proofs.Page.{held-parts}
+use Rattle.pairs.proofs.Calls.{pair-unnamed, pair-unheld, pair-refused, pair-few, count-grown, pair-cramped, pair-done}
 use borrow.Author.Needs.{needs}
 use borrow.Author.Needs.{needs}
 use Rattle.pairs.proofs.insert_pair.Statement.{statement}
@@ -29,7 +29,7 @@ returns-2 c =
     let a = c .before .before .before .before .before .before .before .args in
     let l = sym (c .before .before .before .before .is-broken .ensures) ∙ c .before .before .before .if1 .left in
     let h = sym (c .before .holds-table .ensures) ∙ not-true (c .before .holds-table .result) (c .if2 .taken) in
-    pair-broken (now (a .page)) (now (a .names)) (a .lent) (a .symbol) (a .factor) (a .base) l (sym (form-unheld (now (a .page)) _ h))
+    pair-unheld (now (a .page)) (now (a .names)) (a .lent) (a .symbol) (a .factor) (a .base) l h
 
 in-use-requires : tie.Need-in-use-requires
 in-use-requires c κs = sym (c .before .before .before .before .is-broken .ensures) ∙ c .before .before .before .if1 .left
@@ -55,8 +55,8 @@ returns-3 c =
     let o = rw (c .before .before .before .table-in .ensures, c .before .before .before .before .before .in-use .ensures .0) at (c .before .before .inserted .ensures) in
     pair-refused (now (a .page)) (now (a .names)) (a .lent) (a .symbol) (a .factor) (a .base) l h (c .before .before .inserted .result) o (sym (c .before .is-refused .ensures) ∙ c .if3 .taken)
 
-parents-at-requires : tie.Need-parents-at-requires
-parents-at-requires c κs =
+size-of-requires : tie.Need-size-of-requires
+size-of-requires c κs =
     let a = c .before .before .before .before .before .before .before .before .before .before .before .before .before .before .args in
     let l = sym (c .before .before .before .before .before .before .before .before .before .before .before .is-broken .ensures) ∙ c .before .before .before .before .before .before .before .before .before .before .if1 .left in
     let h = sym (c .before .before .before .before .before .before .before .before .holds-table .ensures) ∙ not-false (c .before .before .before .before .before .before .before .before .holds-table .result) (c .before .before .before .before .before .before .before .if2 .left) in
@@ -65,17 +65,6 @@ parents-at-requires c κs =
     let few = pair-few (now (a .page)) (now (a .names)) (a .lent) (a .symbol) (a .factor) (a .base) l h (c .before .before .before .inserted .result) o p in
     let grown = count-grown (now (a .page)) (now (a .names)) (a .lent) (a .symbol) (a .factor) (a .base) l h (c .before .before .before .inserted .result) o p in
     omega (arith, few, grown)
-
-add-if4 : tie.Need-add-if4
-add-if4 c =
-    let a = c .before .before .before .before .before .before .before .before .before .before .before .before .before .before .before .args in
-    let l = sym (c .before .before .before .before .before .before .before .before .before .before .before .before .is-broken .ensures) ∙ c .before .before .before .before .before .before .before .before .before .before .before .if1 .left in
-    let h = sym (c .before .before .before .before .before .before .before .before .before .holds-table .ensures) ∙ not-false (c .before .before .before .before .before .before .before .before .before .holds-table .result) (c .before .before .before .before .before .before .before .before .if2 .left) in
-    let o = rw (c .before .before .before .before .before .table-in .ensures, c .before .before .before .before .before .before .before .in-use .ensures .0) at (c .before .before .before .before .inserted .ensures) in
-    let p = sym (c .before .before .before .is-refused .ensures) ∙ c .before .before .if3 .left in
-    let few = pair-few (now (a .page)) (now (a .names)) (a .lent) (a .symbol) (a .factor) (a .base) l h (c .before .before .before .before .inserted .result) o p in
-    let grown = count-grown (now (a .page)) (now (a .names)) (a .lent) (a .symbol) (a .factor) (a .base) l h (c .before .before .before .before .inserted .result) o p in
-    record { fits = omega (arith, few, grown, c .parents-at .ensures) }
 
 same-length-3 : tie.Need-same-length-3
 same-length-3 c = search needs
@@ -87,7 +76,7 @@ returns-4 c =
     let h = sym (c .before .before .before .before .before .before .before .before .before .before .holds-table .ensures) ∙ not-false (c .before .before .before .before .before .before .before .before .before .before .holds-table .result) (c .before .before .before .before .before .before .before .before .before .if2 .left) in
     let o = rw (c .before .before .before .before .before .before .table-in .ensures, c .before .before .before .before .before .before .before .before .in-use .ensures .0) at (c .before .before .before .before .before .inserted .ensures) in
     let p = sym (c .before .before .before .before .is-refused .ensures) ∙ c .before .before .before .if3 .left in
-    pair-cramped (now (a .page)) (now (a .names)) (a .lent) (a .symbol) (a .factor) (a .base) l h (c .before .before .before .before .before .inserted .result) o p (rw (c .before .parents-at .ensures) at (c .if4 .taken))
+    pair-cramped (now (a .page)) (now (a .names)) (a .lent) (a .symbol) (a .factor) (a .base) l h (c .before .before .before .before .before .inserted .result) o p (rw (c .before .size-of .ensures) at (c .if4 .taken))
 
 write-table-requires : tie.Need-write-table-requires
 write-table-requires c κs =
@@ -98,7 +87,7 @@ write-table-requires c κs =
     let p = sym (c .before .before .before .before .before .is-refused .ensures) ∙ c .before .before .before .before .if3 .left in
     let few = pair-few (now (a .page)) (now (a .names)) (a .lent) (a .symbol) (a .factor) (a .base) l h (c .before .before .before .before .before .before .inserted .result) o p in
     let grown = count-grown (now (a .page)) (now (a .names)) (a .lent) (a .symbol) (a .factor) (a .base) l h (c .before .before .before .before .before .before .inserted .result) o p in
-    (omega (arith, few, grown), rw (c .before .before .parents-at .ensures) at (c .before .if4 .left))
+    (omega (arith, few, grown), rw (c .before .before .size-of .ensures) at (c .before .if4 .left))
 
 same-length-4 : tie.Need-same-length-4
 same-length-4 c = search needs
@@ -110,7 +99,7 @@ returns-5 c =
     let h = sym (c .before .before .before .before .before .before .before .before .before .before .before .before .before .before .holds-table .ensures) ∙ not-false (c .before .before .before .before .before .before .before .before .before .before .before .before .before .before .holds-table .result) (c .before .before .before .before .before .before .before .before .before .before .before .before .before .if2 .left) in
     let o = rw (c .before .before .before .before .before .before .before .before .before .before .table-in .ensures, c .before .before .before .before .before .before .before .before .before .before .before .before .in-use .ensures .0) at (c .before .before .before .before .before .before .before .before .before .inserted .ensures) in
     let p = sym (c .before .before .before .before .before .before .before .before .is-refused .ensures) ∙ c .before .before .before .before .before .before .before .if3 .left in
-    let d = pair-done (now (a .page)) (now (a .names)) (a .lent) (a .symbol) (a .factor) (a .base) l h (c .before .before .before .before .before .before .before .before .before .inserted .result) o p (rw (c .before .before .before .before .before .parents-at .ensures) at (c .before .before .before .before .if4 .left)) in
+    let d = pair-done (now (a .page)) (now (a .names)) (a .lent) (a .symbol) (a .factor) (a .base) l h (c .before .before .before .before .before .before .before .before .before .inserted .result) o p (rw (c .before .before .before .before .before .size-of .ensures) at (c .before .before .before .before .if4 .left)) in
     (d .0, c .before .before .write-table .ensures ∙ d .1)
 
 pub insert-pair-spec : {M : Type 1} → statement M
@@ -128,8 +117,7 @@ insert-pair-spec =
     is-refused-requires
     same-length-2
     returns-3
-    parents-at-requires
-    add-if4
+    size-of-requires
     same-length-3
     returns-4
     write-table-requires

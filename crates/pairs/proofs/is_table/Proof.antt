@@ -1,12 +1,12 @@
 -- `pairs::is_table` meets its contract. Assumes nothing.
 use mathlib.Core.Path.{_≡_, sym, _∙_, ap}
-use mathlib.Core.List.{List}
-use Prim.Native.Nat.{ℕ}
+use Prim.Native.Nat.{_*_}
 use native.Mathlib.Omega.{arith}
 use lib.ListN.{length}
 use borrow.Author.Tests.{not-true, not-false}
 use Rattle.pages.specs.Bytes.{eqs}
-use Rattle.pairs.proofs.Table.{form-many, form-other, form-rest}
+use Rattle.pairs.specs.Table.{pairsMax, pairBytes}
+use Rattle.pairs.proofs.Table.{form-many, form-unused, form-rest}
 use borrow.Author.Needs.{needs}
 use borrow.Author.Needs.{needs}
 use Rattle.pairs.proofs.is_table.Statement.{statement}
@@ -15,13 +15,25 @@ use Rattle.pairs.proofs.is_table.Tie as tie
 returns : tie.Need-returns
 returns c = form-many (c .before .args .t) (c .before .args .n) (c .if1 .taken)
 
+slice-aggregate-all-used : tie.Need-slice-aggregate-all-used
+slice-aggregate-all-used c = search needs
+
+all-used-requires : tie.Need-all-used-requires
+all-used-requires c κs =
+    let z : length (c .before .before .before .args .t .pairs) ≡ pairBytes * pairsMax = search needs in
+    omega (arith, z, c .before .before .if1 .left)
+
+returns-2 : tie.Need-returns-2
+returns-2 c =
+    form-unused (c .before .before .before .before .before .args .t) (c .before .before .before .before .before .args .n) (c .before .before .before .before .if1 .left) (sym (c .before .all-used .ensures) ∙ not-true (c .before .all-used .result) (c .if2 .taken))
+
 slice-aggregate-replayed : tie.Need-slice-aggregate-replayed
 slice-aggregate-replayed c = search needs
 
 replayed-requires : tie.Need-replayed-requires
 replayed-requires c κs =
-    let z : length (c .before .before .before .before .args .t .pairs) ≡ 5120 = search needs in
-    omega (arith, z, c .before .before .before .if1 .left)
+    let z : length (c .before .before .before .before .before .before .before .args .t .pairs) ≡ pairBytes * pairsMax = search needs in
+    omega (arith, z, c .before .before .before .before .before .before .if1 .left)
 
 slice-aggregate-same : tie.Need-slice-aggregate-same
 slice-aggregate-same c = search needs
@@ -32,37 +44,23 @@ slice-aggregate-same-2 c = search needs
 same-requires : tie.Need-same-requires
 same-requires c κs = search needs
 
-returns-2 : tie.Need-returns-2
-returns-2 c =
-    let t = c .before .before .before .before .before .before .before .before .before .args .t in
-    let e = sym (ap (eqs (t .parents)) (c .before .before .before .before .replayed .ensures)) ∙ sym (c .before .same .ensures) ∙ not-true (c .before .same .result) (c .if2 .taken) in
-    form-other t (c .before .before .before .before .before .before .before .before .before .args .n) (c .before .before .before .before .before .before .before .before .if1 .left) e
-
-slice-aggregate-all-used : tie.Need-slice-aggregate-all-used
-slice-aggregate-all-used c = search needs
-
-all-used-requires : tie.Need-all-used-requires
-all-used-requires c κs =
-    let z : length (c .before .before .before .before .before .before .before .before .before .before .args .t .pairs) ≡ 5120 = search needs in
-    omega (arith, z, c .before .before .before .before .before .before .before .before .before .if1 .left)
-
 returns-3 : tie.Need-returns-3
 returns-3 c =
     let t = c .before .before .before .before .before .before .before .before .before .before .before .args .t in
-    let e = sym (ap (eqs (t .parents)) (c .before .before .before .before .before .before .replayed .ensures)) ∙ sym (c .before .before .before .same .ensures) ∙ not-false (c .before .before .before .same .result) (c .before .before .if2 .left) in
-    c .all-used .ensures ∙ form-rest t (c .before .before .before .before .before .before .before .before .before .before .before .args .n) (c .before .before .before .before .before .before .before .before .before .before .if1 .left) e
+    let u = sym (c .before .before .before .before .before .before .before .all-used .ensures) ∙ not-false (c .before .before .before .before .before .before .before .all-used .result) (c .before .before .before .before .before .before .if2 .left) in
+    c .same .ensures ∙ rw (c .before .before .before .replayed .ensures) (form-rest t (c .before .before .before .before .before .before .before .before .before .before .before .args .n) (c .before .before .before .before .before .before .before .before .before .before .if1 .left) u)
 
 pub is-table-spec : {M : Type 1} → statement M
 is-table-spec =
     tie.close
     (tie.spec
     returns
+    slice-aggregate-all-used
+    all-used-requires
+    returns-2
     slice-aggregate-replayed
     replayed-requires
     slice-aggregate-same
     slice-aggregate-same-2
     same-requires
-    returns-2
-    slice-aggregate-all-used
-    all-used-requires
     returns-3)

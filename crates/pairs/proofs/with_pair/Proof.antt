@@ -2,6 +2,9 @@
 use native.Mathlib.Omega.{arith}
 use mathlib.Core.Path.{_≡_, refl, _∙_}
 use lib.ListN.{length}
+use Prim.Native.Nat.{_*_}
+use Rattle.names.specs.Table.{namesMax}
+use Rattle.pairs.specs.Table.{pairsMax, pairBytes}
 use Rattle.pairs.proofs.Table.{with-pair}
 use borrow.Author.Needs.{needs}
 use borrow.Author.Needs.{needs}
@@ -22,7 +25,7 @@ slice-aggregate-put-bytes-2 c = search needs
 
 put-bytes-requires : tie.Need-put-bytes-requires
 put-bytes-requires c κs =
-    let z : length (c .before .before .before .before .before .args .t .pairs) ≡ 5120 = search needs in
+    let z : length (c .before .before .before .before .before .args .t .pairs) ≡ pairBytes * pairsMax = search needs in
     omega (arith, z, c .before .before .before .before .before .pre .0)
 
 slice-aggregate-put-bytes-3 : tie.Need-slice-aggregate-put-bytes-3
@@ -49,7 +52,7 @@ add-t19 c = search needs
 returns : tie.Need-returns
 returns c =
     let a = c .before .before .before .before .before .before .before .before .before .before .before .before .before .before .args in
-    let z : length (a .t .pairs) ≡ 5120 = search needs in
+    let z : length (a .t .pairs) ≡ pairBytes * pairsMax = search needs in
     with-pair (a .t) (a .symbol) (a .factor) (a .base) (a .t .count) refl (omega (arith, z)) (c .before .before .before .before .before .before .before .before .before .before .before .before .before .before .pre .1) _ _
     (c .before .before .before .before .put-bytes2 .ensures ∙ rw (c .before .before .before .before .before .before .before .before .put-bytes .ensures, c .before .before .before .before .before .before .before .before .before .before .before .long-bytes .ensures)) (c .before .join .ensures)
 

@@ -3,6 +3,9 @@ use mathlib.Core.Path.{_≡_, refl, _∙_}
 use native.Mathlib.Omega.{arith}
 use denote.Ref.{now}
 use lib.ListN.{length}
+use Prim.Native.Nat.{_*_}
+use Rattle.names.specs.Table.{namesMax}
+use Rattle.pairs.specs.Table.{pairsMax, pairBytes}
 use Rattle.pairs.proofs.Page.{table-written}
 use borrow.Author.Needs.{needs}
 use borrow.Author.Needs.{needs}
@@ -26,7 +29,7 @@ part-put-bytes-start c = search needs
 
 part-put-bytes-end : tie.Need-part-put-bytes-end
 part-put-bytes-end c =
-    let z : length (c .before .before .before .before .before .before .before .args .t .pairs) ≡ 5120 = search needs in
+    let z : length (c .before .before .before .before .before .before .before .args .t .pairs) ≡ pairBytes * pairsMax = search needs in
     omega (arith, z, c .before .before .before .before .before .before .before .pre .0)
 
 put-bytes-requires : tie.Need-put-bytes-requires
@@ -37,7 +40,7 @@ slice-aggregate-put-bytes c = search needs
 
 put-bytes-requires-2 : tie.Need-put-bytes-requires-2
 put-bytes-requires-2 c κs =
-    let z : length (c .before .before .before .before .before .before .before .before .before .before .before .before .before .args .t .parents) ≡ 256 = search needs in
+    let z : length (c .before .before .before .before .before .before .before .before .before .before .before .before .before .args .t .parents) ≡ namesMax = search needs in
     omega (arith, z, c .before .before .before .before .before .before .before .before .before .before .before .parents-at .ensures, c .before .before .before .before .before .before .before .before .before .before .before .before .before .pre .1, c .before .before .before .before .put-bytes .kept .0)
 
 slice-aggregate-put-bytes-2 : tie.Need-slice-aggregate-put-bytes-2

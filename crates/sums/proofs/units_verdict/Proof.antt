@@ -2,12 +2,12 @@
 use mathlib.Core.Path.{_≡_, sym, _∙_}
 use denote.Ref.{now}
 use borrow.Author.Tests.{not-true, not-false}
-use Rattle.sums.proofs.Calls.{units-unnamed, units-broken, left-unused, right-unused, left-bad, right-bad, units-passed}
+use Rattle.pairs.proofs.Calls.{unbroken}
+use Rattle.sums.proofs.Calls.{units-broken, left-unused, right-unused, left-bad, right-bad, units-passed}
 use borrow.Author.Needs.{needs}
 use borrow.Author.Needs.{needs}
 use Rattle.sums.proofs.units_verdict.Statement.{statement}
 use Rattle.sums.proofs.units_verdict.Tie as tie
-use Rattle.units.proofs.is_formed.Reads as is-formed-reads′
 
 is-broken-requires : tie.Need-is-broken-requires
 is-broken-requires c κs = search needs
@@ -15,43 +15,45 @@ is-broken-requires c κs = search needs
 returns : tie.Need-returns
 returns c =
     let g = c .before .before .before .before .args in
-    units-unnamed (now (g .page)) (now (g .names)) (g .lent) (g .a) (g .b) (sym (c .before .is-broken .ensures) ∙ c .if1 .taken)
+    units-broken (now (g .page)) (now (g .names)) (g .lent) (g .a) (g .b) (sym (c .before .is-broken .ensures) ∙ c .if1 .taken)
 
 in-use-requires : tie.Need-in-use-requires
-in-use-requires c κs = sym (c .before .is-broken .ensures) ∙ c .if1 .left
-
-is-formed-requires : tie.Need-is-formed-requires
-is-formed-requires c κs = search needs
-
-returns-2 : tie.Need-returns-2
-returns-2 c =
-    let g = c .before .before .before .before .before .before .before .args in
-    let l = sym (c .before .before .before .before .is-broken .ensures) ∙ c .before .before .before .if1 .left in
-    let f = sym (c .before .is-formed .ensures) ∙ not-true (c .before .is-formed .result) (c .if2 .taken) in
-    units-broken (now (g .page)) (now (g .names)) (g .lent) (g .a) (g .b) l (rw (c .before .before .in-use .ensures .0) at f)
+in-use-requires c κs =
+    let g = c .before .before .before .before .args in
+    unbroken (now (g .page)) (now (g .names)) (g .lent) (sym (c .before .is-broken .ensures) ∙ c .if1 .left) .0
 
 is-used-requires : tie.Need-is-used-requires
 is-used-requires c κs = search needs
 
-returns-3 : tie.Need-returns-3
-returns-3 c =
-    let g = c .before .before .before .before .before .before .before .before .before .args in
-    let l = sym (c .before .before .before .before .before .before .is-broken .ensures) ∙ c .before .before .before .before .before .if1 .left in
-    let f = sym (c .before .before .before .is-formed .ensures) ∙ not-false (c .before .before .before .is-formed .result) (c .before .before .if2 .left) in
-    let u = sym (c .before .is-used .ensures) ∙ not-true (c .before .is-used .result) (c .if3 .taken) in
-    left-unused (now (g .page)) (now (g .names)) (g .lent) (g .a) (g .b) l (rw (c .before .before .before .before .in-use .ensures .0) at f) (rw (c .before .before .before .before .in-use .ensures .0) at u)
+returns-2 : tie.Need-returns-2
+returns-2 c =
+    let g = c .before .before .before .before .before .before .before .args in
+    let t = sym (c .before .before .before .before .is-broken .ensures) ∙ c .before .before .before .if1 .left in
+    let u = sym (c .before .is-used .ensures) ∙ not-true (c .before .is-used .result) (c .if2 .taken) in
+    left-unused (now (g .page)) (now (g .names)) (g .lent) (g .a) (g .b) t (rw (c .before .before .in-use .ensures .0) at u)
 
 is-used-requires-2 : tie.Need-is-used-requires-2
 is-used-requires-2 c κs = search needs
 
+returns-3 : tie.Need-returns-3
+returns-3 c =
+    let g = c .before .before .before .before .before .before .before .before .before .args in
+    let t = sym (c .before .before .before .before .before .before .is-broken .ensures) ∙ c .before .before .before .before .before .if1 .left in
+    let u = sym (c .before .before .before .is-used .ensures) ∙ not-false (c .before .before .before .is-used .result) (c .before .before .if2 .left) in
+    let w = sym (c .before .is-used2 .ensures) ∙ not-true (c .before .is-used2 .result) (c .if3 .taken) in
+    right-unused (now (g .page)) (now (g .names)) (g .lent) (g .a) (g .b) t (rw (c .before .before .before .before .in-use .ensures .0) at u) (rw (c .before .before .before .before .in-use .ensures .0) at w)
+
+is-formed-requires : tie.Need-is-formed-requires
+is-formed-requires c κs = search needs
+
 returns-4 : tie.Need-returns-4
 returns-4 c =
     let g = c .before .before .before .before .before .before .before .before .before .before .before .args in
-    let l = sym (c .before .before .before .before .before .before .before .before .is-broken .ensures) ∙ c .before .before .before .before .before .before .before .if1 .left in
-    let f = sym (c .before .before .before .before .before .is-formed .ensures) ∙ not-false (c .before .before .before .before .before .is-formed .result) (c .before .before .before .before .if2 .left) in
-    let u = sym (c .before .before .before .is-used .ensures) ∙ not-false (c .before .before .before .is-used .result) (c .before .before .if3 .left) in
-    let w = sym (c .before .is-used2 .ensures) ∙ not-true (c .before .is-used2 .result) (c .if4 .taken) in
-    right-unused (now (g .page)) (now (g .names)) (g .lent) (g .a) (g .b) l (rw (c .before .before .before .before .before .before .in-use .ensures .0) at f) (rw (c .before .before .before .before .before .before .in-use .ensures .0) at u) (rw (c .before .before .before .before .before .before .in-use .ensures .0) at w)
+    let t = sym (c .before .before .before .before .before .before .before .before .is-broken .ensures) ∙ c .before .before .before .before .before .before .before .if1 .left in
+    let u = sym (c .before .before .before .before .before .is-used .ensures) ∙ not-false (c .before .before .before .before .before .is-used .result) (c .before .before .before .before .if2 .left) in
+    let w = sym (c .before .before .before .is-used2 .ensures) ∙ not-false (c .before .before .before .is-used2 .result) (c .before .before .if3 .left) in
+    let x = sym (c .before .is-formed .ensures) ∙ not-true (c .before .is-formed .result) (c .if4 .taken) in
+    left-bad (now (g .page)) (now (g .names)) (g .lent) (g .a) (g .b) t (rw (c .before .before .before .before .before .before .in-use .ensures .0) at u) (rw (c .before .before .before .before .before .before .in-use .ensures .0) at w) x
 
 is-formed-requires-2 : tie.Need-is-formed-requires-2
 is-formed-requires-2 c κs = search needs
@@ -59,37 +61,22 @@ is-formed-requires-2 c κs = search needs
 returns-5 : tie.Need-returns-5
 returns-5 c =
     let g = c .before .before .before .before .before .before .before .before .before .before .before .before .before .args in
-    let l = sym (c .before .before .before .before .before .before .before .before .before .before .is-broken .ensures) ∙ c .before .before .before .before .before .before .before .before .before .if1 .left in
-    let f = sym (c .before .before .before .before .before .before .before .is-formed .ensures) ∙ not-false (c .before .before .before .before .before .before .before .is-formed .result) (c .before .before .before .before .before .before .if2 .left) in
-    let u = sym (c .before .before .before .before .before .is-used .ensures) ∙ not-false (c .before .before .before .before .before .is-used .result) (c .before .before .before .before .if3 .left) in
-    let w = sym (c .before .before .before .is-used2 .ensures) ∙ not-false (c .before .before .before .is-used2 .result) (c .before .before .if4 .left) in
-    let x = sym (c .before .is-formed2 .ensures) ∙ not-true (c .before .is-formed2 .result) (c .if5 .taken) in
-    left-bad (now (g .page)) (now (g .names)) (g .lent) (g .a) (g .b) l (rw (c .before .before .before .before .before .before .before .before .in-use .ensures .0) at f) (rw (c .before .before .before .before .before .before .before .before .in-use .ensures .0) at u) (rw (c .before .before .before .before .before .before .before .before .in-use .ensures .0) at w) x
-
-is-formed-requires-3 : tie.Need-is-formed-requires-3
-is-formed-requires-3 c κs = search needs
+    let t = sym (c .before .before .before .before .before .before .before .before .before .before .is-broken .ensures) ∙ c .before .before .before .before .before .before .before .before .before .if1 .left in
+    let u = sym (c .before .before .before .before .before .before .before .is-used .ensures) ∙ not-false (c .before .before .before .before .before .before .before .is-used .result) (c .before .before .before .before .before .before .if2 .left) in
+    let w = sym (c .before .before .before .before .before .is-used2 .ensures) ∙ not-false (c .before .before .before .before .before .is-used2 .result) (c .before .before .before .before .if3 .left) in
+    let x = sym (c .before .before .before .is-formed .ensures) ∙ not-false (c .before .before .before .is-formed .result) (c .before .before .if4 .left) in
+    let y = sym (c .before .is-formed2 .ensures) ∙ not-true (c .before .is-formed2 .result) (c .if5 .taken) in
+    right-bad (now (g .page)) (now (g .names)) (g .lent) (g .a) (g .b) t (rw (c .before .before .before .before .before .before .before .before .in-use .ensures .0) at u) (rw (c .before .before .before .before .before .before .before .before .in-use .ensures .0) at w) x y
 
 returns-6 : tie.Need-returns-6
 returns-6 c =
-    let g = c .before .before .before .before .before .before .before .before .before .before .before .before .before .before .before .args in
-    let l = sym (c .before .before .before .before .before .before .before .before .before .before .before .before .is-broken .ensures) ∙ c .before .before .before .before .before .before .before .before .before .before .before .if1 .left in
-    let f = sym (c .before .before .before .before .before .before .before .before .before .is-formed .ensures) ∙ not-false (c .before .before .before .before .before .before .before .before .before .is-formed .result) (c .before .before .before .before .before .before .before .before .if2 .left) in
-    let u = sym (c .before .before .before .before .before .before .before .is-used .ensures) ∙ not-false (c .before .before .before .before .before .before .before .is-used .result) (c .before .before .before .before .before .before .if3 .left) in
-    let w = sym (c .before .before .before .before .before .is-used2 .ensures) ∙ not-false (c .before .before .before .before .before .is-used2 .result) (c .before .before .before .before .if4 .left) in
-    let x = sym (c .before .before .before .is-formed2 .ensures) ∙ not-false (c .before .before .before .is-formed2 .result) (c .before .before .if5 .left) in
-    let y = sym (c .before .is-formed3 .ensures) ∙ not-true (c .before .is-formed3 .result) (c .if6 .taken) in
-    right-bad (now (g .page)) (now (g .names)) (g .lent) (g .a) (g .b) l (rw (c .before .before .before .before .before .before .before .before .before .before .in-use .ensures .0) at f) (rw (c .before .before .before .before .before .before .before .before .before .before .in-use .ensures .0) at u) (rw (c .before .before .before .before .before .before .before .before .before .before .in-use .ensures .0) at w) x y
-
-returns-7 : tie.Need-returns-7
-returns-7 c =
-    let g = c .before .before .before .before .before .before .before .before .before .before .before .before .before .before .before .args in
-    let l = sym (c .before .before .before .before .before .before .before .before .before .before .before .before .is-broken .ensures) ∙ c .before .before .before .before .before .before .before .before .before .before .before .if1 .left in
-    let f = sym (c .before .before .before .before .before .before .before .before .before .is-formed .ensures) ∙ not-false (c .before .before .before .before .before .before .before .before .before .is-formed .result) (c .before .before .before .before .before .before .before .before .if2 .left) in
-    let u = sym (c .before .before .before .before .before .before .before .is-used .ensures) ∙ not-false (c .before .before .before .before .before .before .before .is-used .result) (c .before .before .before .before .before .before .if3 .left) in
-    let w = sym (c .before .before .before .before .before .is-used2 .ensures) ∙ not-false (c .before .before .before .before .before .is-used2 .result) (c .before .before .before .before .if4 .left) in
-    let x = sym (c .before .before .before .is-formed2 .ensures) ∙ not-false (c .before .before .before .is-formed2 .result) (c .before .before .if5 .left) in
-    let y = sym (c .before .is-formed3 .ensures) ∙ not-false (c .before .is-formed3 .result) (c .if6 .left) in
-    units-passed (now (g .page)) (now (g .names)) (g .lent) (g .a) (g .b) l (rw (c .before .before .before .before .before .before .before .before .before .before .in-use .ensures .0) at f) (rw (c .before .before .before .before .before .before .before .before .before .before .in-use .ensures .0) at u) (rw (c .before .before .before .before .before .before .before .before .before .before .in-use .ensures .0) at w) x y
+    let g = c .before .before .before .before .before .before .before .before .before .before .before .before .before .args in
+    let t = sym (c .before .before .before .before .before .before .before .before .before .before .is-broken .ensures) ∙ c .before .before .before .before .before .before .before .before .before .if1 .left in
+    let u = sym (c .before .before .before .before .before .before .before .is-used .ensures) ∙ not-false (c .before .before .before .before .before .before .before .is-used .result) (c .before .before .before .before .before .before .if2 .left) in
+    let w = sym (c .before .before .before .before .before .is-used2 .ensures) ∙ not-false (c .before .before .before .before .before .is-used2 .result) (c .before .before .before .before .if3 .left) in
+    let x = sym (c .before .before .before .is-formed .ensures) ∙ not-false (c .before .before .before .is-formed .result) (c .before .before .if4 .left) in
+    let y = sym (c .before .is-formed2 .ensures) ∙ not-false (c .before .is-formed2 .result) (c .if5 .left) in
+    units-passed (now (g .page)) (now (g .names)) (g .lent) (g .a) (g .b) t (rw (c .before .before .before .before .before .before .before .before .in-use .ensures .0) at u) (rw (c .before .before .before .before .before .before .before .before .in-use .ensures .0) at w) x y
 
 pub units-verdict-spec : {M : Type 1} → statement M
 units-verdict-spec =
@@ -98,14 +85,12 @@ units-verdict-spec =
     is-broken-requires
     returns
     in-use-requires
-    is-formed-requires
-    returns-2
     is-used-requires
-    returns-3
+    returns-2
     is-used-requires-2
+    returns-3
+    is-formed-requires
     returns-4
     is-formed-requires-2
     returns-5
-    is-formed-requires-3
-    returns-6
-    returns-7)
+    returns-6)
