@@ -1,4 +1,4 @@
-//! Tells the linker where `libcalls.a` lies, where the program `compare` is wanted.
+//! Tells the linker where `libcalls.a` lies, where a program that calls it is wanted.
 
 use std::env;
 

@@ -29,7 +29,8 @@ impl<Library: Fn(&Question) -> Result<Answer, String>> Comparison<Library> {
         Self { library, tallies: BTreeMap::new() }
     }
 
-    pub fn put(&mut self, question: Question) {
+    /// Asks both sides; what comes back is the expected answer.
+    pub fn put(&mut self, question: Question) -> Answer {
         let expected = expected(&question);
         let found = (self.library)(&question);
 
@@ -42,6 +43,7 @@ impl<Library: Fn(&Question) -> Result<Answer, String>> Comparison<Library> {
                 tally.first.push(difference(&question, &expected, &found));
             }
         }
+        expected
     }
 
     pub fn differences(&self) -> u64 {
@@ -86,11 +88,13 @@ fn difference(question: &Question, expected: &Answer, found: &Result<Answer, Str
         Err(misdeed) => misdeed.clone(),
     };
     format!(
-        "  argument {} page [{}] first [{}] second [{}]\n    expected {}\n    found    {found}\n",
+        "  argument {} page [{}] first [{}] second [{}] names [{}]\n    \
+         expected {}\n    found    {found}\n",
         question.argument,
         hexadecimal(&question.page),
         hexadecimal(&question.first),
         hexadecimal(&question.second),
+        hexadecimal(&question.names),
         answer_text(expected),
     )
 }

@@ -1,10 +1,11 @@
 //! The expected answer to any question, from the oracle and the model alone.
 
 use crate::call::{Answer, Call, Question};
-use crate::{names, units};
+use crate::{names, pairs, units};
 
 pub fn expected(question: &Question) -> Answer {
-    let Question { call, argument, page, first, second } = question;
+    let Question { call, argument, page, first, second, names } = question;
+    let (symbol, lent) = (question.symbol(), question.lent());
     let outcome = match call {
         Call::EmptyNames => names::empty_names(page),
         Call::AddName => names::add_name(page, first),
@@ -12,9 +13,15 @@ pub fn expected(question: &Question) -> Answer {
         Call::ReadName => names::read_name(page, *argument),
         Call::UnitForm => units::unit_form(first),
         Call::Product => units::product(first, second, *argument == 1),
-        Call::Exponent => units::exponent(first, *argument as u8),
+        Call::Exponent => units::exponent(first, symbol),
         Call::IsDimensionless => units::is_dimensionless(first),
         Call::UnitText => units::unit_text(page, first),
+        Call::EmptyPairs => pairs::empty_pairs(page),
+        Call::InsertPair => pairs::insert_pair(page, names, lent, question.pair()),
+        Call::Canonical => pairs::canonical(page, names, lent, symbol),
+        Call::Factor => pairs::factor(page, names, lent, symbol),
+        Call::Canonicalize => pairs::canonicalize(page, names, lent, first),
+        Call::IsConvertibleTo => pairs::is_convertible_to(page, names, lent, first, second),
     };
     Answer::new(question, outcome)
 }

@@ -4,6 +4,7 @@ pub const MAX_NAMES: usize = 256;
 pub const MAX_NAME_BYTES: usize = 31;
 pub const MAX_SYMBOLS: usize = 8;
 pub const MAX_EXPONENT: i32 = 1000;
+pub const MAX_PAIRS: usize = 512;
 
 /// Count byte, then a symbol byte and two exponent bytes for each symbol.
 pub const UNIT_BYTES: usize = 1 + 3 * MAX_SYMBOLS;
@@ -14,7 +15,16 @@ pub const TEXT_BYTES: usize = 2 + MAX_SYMBOLS * (MAX_NAME_BYTES + 5) + (MAX_SYMB
 /// The unit bytes that say "no unit".
 pub const NO_UNIT: [u8; 1] = [255];
 
-/// What `find_name` answers where the table has no such name.
+pub const FACTOR_BYTES: usize = 8;
+
+/// A pair's symbol byte, base byte and factor.
+pub const PAIR_BYTES: usize = 2 + FACTOR_BYTES;
+
+/// A pair table without pairs: the count, and a parent byte for each symbol.
+pub const EMPTY_PAIRS_BYTES: usize = 2 + MAX_NAMES;
+
+/// What `find_name` answers where the table has no such name, and `factor` where no pair has
+/// the symbol.
 pub const ABSENT: u32 = 65_535;
 
 /// A number of document 01's table of refusals.
@@ -32,5 +42,5 @@ pub const BROKEN_UNIT: Refusal = 5;
 pub const EXPONENT_TOO_LARGE: Refusal = 8;
 /// A result with nine symbols or more.
 pub const TOO_MANY_SYMBOLS: Refusal = 9;
-/// One more name than the limit, or than the lent page holds.
+/// One more name or pair than the limit, or than the lent page holds.
 pub const NO_ROOM: Refusal = 10;

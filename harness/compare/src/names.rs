@@ -47,6 +47,11 @@ impl Names {
         Some(page)
     }
 
+    /// The names as the oracle takes them.
+    pub fn strings(&self) -> Vec<String> {
+        self.0.iter().map(|name| String::from_utf8(name.clone()).expect("ASCII")).collect()
+    }
+
     fn number(&self, name: &[u8]) -> Option<u32> {
         self.0.iter().position(|known| known == name).map(|number| number as u32)
     }

@@ -6,8 +6,8 @@
 
 use crate::call::{Given, Outcome};
 use crate::limits::{
-    BROKEN_TABLE, BROKEN_UNIT, EXPONENT_TOO_LARGE, MAX_EXPONENT, MAX_SYMBOLS, NOT_IN_USE, NO_UNIT,
-    TOO_MANY_SYMBOLS,
+    Refusal, BROKEN_TABLE, BROKEN_UNIT, EXPONENT_TOO_LARGE, MAX_EXPONENT, MAX_SYMBOLS, NOT_IN_USE,
+    NO_UNIT, TOO_MANY_SYMBOLS,
 };
 use crate::names::Names;
 use oracle::units::Unit;
@@ -48,12 +48,22 @@ fn within_limit(exponent: i32) -> bool {
 }
 
 /// The terms of a unit in form.
-fn terms_of(unit: &[u8]) -> Result<Vec<Term>, u32> {
+fn terms_of(unit: &[u8]) -> Result<Vec<Term>, Refusal> {
     shaped_terms(unit).filter(|terms| in_form(terms)).ok_or(BROKEN_UNIT)
 }
 
+/// The terms of a unit in form where so many numbers are in use. A symbol not in
+/// use comes before any other fault of a term.
+pub fn terms_in_use(unit: &[u8], in_use: usize) -> Result<Vec<Term>, Refusal> {
+    let shaped = shaped_terms(unit).ok_or(BROKEN_UNIT)?;
+    if shaped.iter().any(|&(symbol, _)| usize::from(symbol) >= in_use) {
+        return Err(NOT_IN_USE);
+    }
+    terms_of(unit)
+}
+
 /// The oracle's unit of the terms, built by its own functions.
-fn oracle_unit(terms: &[Term], name: impl Fn(u8) -> String) -> Unit {
+pub fn oracle_unit(terms: &[Term], name: impl Fn(u8) -> String) -> Unit {
     terms.iter().fold(Unit::dimensionless(), |unit, &(symbol, exponent)| {
         unit.multiply(&Unit::powers(name(symbol), exponent.into()))
     })
@@ -61,7 +71,7 @@ fn oracle_unit(terms: &[Term], name: impl Fn(u8) -> String) -> Unit {
 
 /// A name of its own for each symbol, where no table gives one. Their byte
 /// order is not the order of the numbers, so that no answer can lean on either.
-fn stand_in_name(symbol: u8) -> String {
+pub fn stand_in_name(symbol: u8) -> String {
     format!("s{symbol}")
 }
 
@@ -120,14 +130,9 @@ pub fn is_dimensionless(unit: &[u8]) -> Outcome {
 }
 
 pub fn unit_text(names: &[u8], unit: &[u8]) -> Outcome {
-    let Names(names) = Names::read(names).ok_or(BROKEN_TABLE)?;
-    let shaped = shaped_terms(unit).ok_or(BROKEN_UNIT)?;
-    // A symbol not in use comes before any other fault of a term.
-    if shaped.iter().any(|&(symbol, _)| usize::from(symbol) >= names.len()) {
-        return Err(NOT_IN_USE);
-    }
-    let name = |symbol: u8| String::from_utf8(names[usize::from(symbol)].clone()).expect("ASCII");
-    let text = oracle_unit(&terms_of(unit)?, name).to_string();
+    let names = Names::read(names).ok_or(BROKEN_TABLE)?.strings();
+    let terms = terms_in_use(unit, names.len())?;
+    let text = oracle_unit(&terms, |symbol| names[usize::from(symbol)].clone()).to_string();
     Ok(Given { value: text.len() as u32, out: text.into_bytes(), ..Given::default() })
 }
 

@@ -2,19 +2,22 @@
 //! every limit, and damaged ones. All follow from the seed.
 
 pub mod names;
+pub mod pairs;
 pub mod units;
 
-use crate::call::Question;
+use crate::call::{Answer, Question};
 use crate::random::Random;
 
-/// Where the questions go, one by one: there are too many to keep.
-pub type Sink<'a> = &'a mut dyn FnMut(Question);
+/// Where the questions go, one by one: there are too many to keep. What comes
+/// back is the expected answer.
+pub type Sink<'a> = &'a mut dyn FnMut(Question) -> Answer;
 
 /// All questions; `rounds` says how many random ones each call gets.
 pub fn questions(seed: u64, rounds: usize, ask: Sink) {
     let mut random = Random::new(seed);
     names::questions(&mut random, rounds, ask);
     units::questions(&mut random, rounds, ask);
+    pairs::questions(&mut random, rounds, ask);
 }
 
 /// Good bytes harmed in every place: each byte changed in several ways, the
@@ -86,7 +89,9 @@ mod tests {
         let mut outcomes = BTreeSet::new();
         questions(seed, 500, &mut |question| {
             question.hash(&mut hasher);
-            outcomes.insert((question.call, expected(&question).refusal));
+            let answer = expected(&question);
+            outcomes.insert((question.call, answer.refusal));
+            answer
         });
         (hasher.finish(), outcomes)
     }

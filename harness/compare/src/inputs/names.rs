@@ -2,7 +2,6 @@
 
 use super::{damaged_everywhere, damaged_somewhere, short_strings, Sink};
 use crate::call::Question;
-use crate::expected::expected;
 use crate::limits::{MAX_NAMES, MAX_NAME_BYTES};
 use crate::names::is_name;
 use crate::random::Random;
@@ -327,9 +326,7 @@ fn grow(names: &[Vec<u8>], length: usize, ask: Sink) {
     let mut page = vec![0; length];
     for name in names {
         assert!(is_name(name), "only names are added here");
-        let question = Question::add_name(&page, name);
-        page = expected(&question).page;
-        ask(question);
+        page = ask(Question::add_name(&page, name)).page;
     }
     for number in [0, 1, 254, 255, 256] {
         ask(Question::read_name(&page, number));

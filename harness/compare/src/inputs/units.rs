@@ -29,7 +29,7 @@ pub fn questions(random: &mut Random, rounds: usize, ask: Sink) {
 // ---- Units ----
 
 /// A nonzero exponent: small, near a limit, near half of one, or any.
-fn some_exponent(random: &mut Random) -> i16 {
+pub fn some_exponent(random: &mut Random) -> i16 {
     let size = match random.below(8) {
         0..=3 => random.between(1, 3),
         4 | 5 => MAX_EXPONENT - random.between(0, 3),
@@ -44,7 +44,7 @@ fn some_exponent(random: &mut Random) -> i16 {
 }
 
 /// Different symbols, ascending, all below `bound`.
-fn some_symbols(random: &mut Random, count: usize, bound: usize) -> Vec<u8> {
+pub fn some_symbols(random: &mut Random, count: usize, bound: usize) -> Vec<u8> {
     let mut symbols: Vec<u8> = Vec::new();
     while symbols.len() < count {
         let symbol = random.below(bound) as u8;
@@ -61,7 +61,7 @@ fn with_exponents(random: &mut Random, symbols: &[u8]) -> Vec<Term> {
 }
 
 /// A unit in form over the symbols below `bound`.
-fn some_terms(random: &mut Random, bound: usize) -> Vec<Term> {
+pub fn some_terms(random: &mut Random, bound: usize) -> Vec<Term> {
     let count = random.below(bound.min(MAX_SYMBOLS) + 1);
     let symbols = some_symbols(random, count, bound);
     with_exponents(random, &symbols)
@@ -69,7 +69,7 @@ fn some_terms(random: &mut Random, bound: usize) -> Vec<Term> {
 
 /// A breach of form that keeps the shape: exponent 0, an exponent out of range,
 /// symbols equal, symbols not ascending.
-fn broken_terms(random: &mut Random, mut terms: Vec<Term>) -> Vec<Term> {
+pub fn broken_terms(random: &mut Random, mut terms: Vec<Term>) -> Vec<Term> {
     if terms.is_empty() {
         terms.push((random.byte(), 1));
     }

@@ -2,21 +2,26 @@
 //! random ones, each with the answer of the oracle or the model.
 
 pub mod names;
+pub mod pairs;
 pub mod rows;
 pub mod units;
 
 use crate::call::{Call, Question};
 use crate::expected::expected;
 use crate::inputs;
+use crate::limits::EMPTY_PAIRS_BYTES;
 use crate::random::Random;
 use rows::Row;
 use std::collections::{BTreeMap, BTreeSet};
 
 /// The most bytes that a stored sample may have.
-pub const MAX_BYTES: usize = 60_000;
+pub const MAX_BYTES: usize = 400_000;
 
 /// A random question larger than this is left out, since it would crowd out others.
 const MAX_QUESTION: usize = 60;
+
+/// The same of a question about pairs.
+const MAX_PAIR_QUESTION: usize = EMPTY_PAIRS_BYTES + 120;
 
 /// The rows of the sample.
 pub fn rows(seed: u64) -> Vec<Row> {
@@ -34,6 +39,14 @@ pub fn rows(seed: u64) -> Vec<Row> {
     rows.fill(random, 40, inputs::units::exponent);
     rows.fill(random, 24, inputs::units::is_dimensionless);
     rows.fill(random, 3, inputs::units::unit_text);
+
+    pairs::chosen().into_iter().for_each(|question| rows.put(question));
+    rows.fill(random, 3, inputs::pairs::empty_pairs);
+    rows.fill(random, 32, inputs::pairs::insert_pair);
+    rows.fill(random, 20, inputs::pairs::canonical);
+    rows.fill(random, 20, inputs::pairs::factor);
+    rows.fill(random, 32, inputs::pairs::canonicalize);
+    rows.fill(random, 48, inputs::pairs::is_convertible_to);
     rows.rows
 }
 
@@ -79,8 +92,10 @@ impl Rows {
 }
 
 fn fits(question: &Question) -> bool {
-    let size = question.page.len() + question.first.len() + question.second.len();
-    size <= MAX_QUESTION && question.argument <= u16::MAX.into()
+    let Question { call, page, first, second, names, .. } = question;
+    let most = if call.is_about_pairs() { MAX_PAIR_QUESTION } else { MAX_QUESTION };
+    let size = page.len() + first.len() + second.len() + names.len();
+    size <= most && question.argument <= u16::MAX.into()
 }
 
 #[cfg(test)]
@@ -99,7 +114,7 @@ mod tests {
             let bytes = bytes(&rows);
             assert_eq!(bytes, super::bytes(&super::rows(seed)));
             assert!(bytes.len() <= MAX_BYTES, "{} bytes", bytes.len());
-            assert!((600..=1_200).contains(&rows.len()), "{} rows", rows.len());
+            assert!((1_200..=2_000).contains(&rows.len()), "{} rows", rows.len());
             assert_eq!(outcomes(&rows), all_outcomes());
             assert_eq!(rows::read_rows(&bytes), Some(rows));
             assert_eq!(rows::read_rows(&bytes[..bytes.len() - 1]), None);
@@ -112,6 +127,7 @@ mod tests {
         names::chosen()
             .into_iter()
             .chain(units::chosen())
+            .chain(pairs::chosen())
             .for_each(|question| chosen.put(question));
         assert_eq!(outcomes(&chosen.rows), all_outcomes());
     }

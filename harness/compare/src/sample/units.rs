@@ -10,7 +10,7 @@ pub fn chosen() -> Vec<Question> {
 }
 
 /// So many symbols from `first` on, all with one exponent.
-fn several(first: u8, count: usize, exponent: i16) -> Vec<Term> {
+pub fn several(first: u8, count: usize, exponent: i16) -> Vec<Term> {
     (first..=255).take(count).map(|symbol| (symbol, exponent)).collect()
 }
 
@@ -33,7 +33,7 @@ fn units_in_form() -> Vec<Vec<u8>> {
 }
 
 /// Each way to break a unit's form.
-fn units_out_of_form() -> Vec<Vec<u8>> {
+pub fn units_out_of_form() -> Vec<Vec<u8>> {
     let terms: [&[Term]; 13] = [
         &[(0, 0)],
         &[(0, 1001)],

@@ -1,33 +1,8 @@
 //! The static library `calls`, asked the same questions as the oracle.
 
 use compare::call::{Answer, Call, Question};
-
-// Nothing checks these declarations against the library's source.
-#[link(name = "calls", kind = "static")]
-extern "C" {
-    fn riddlepoppy_empty_names(page: *mut u8, n: usize) -> u32;
-    fn riddlepoppy_add_name(page: *mut u8, n: usize, name: *const u8, m: usize) -> u32;
-    fn riddlepoppy_find_name(page: *const u8, n: usize, name: *const u8, m: usize) -> u32;
-    fn riddlepoppy_read_name(page: *const u8, n: usize, k: u32, out: *mut u8) -> u32;
-    fn riddlepoppy_unit_form(unit: *const u8, n: usize) -> u32;
-    fn riddlepoppy_product(
-        a: *const u8,
-        n: usize,
-        b: *const u8,
-        m: usize,
-        quotient: bool,
-        out: *mut u8,
-    ) -> u32;
-    fn riddlepoppy_exponent(unit: *const u8, n: usize, symbol: u8) -> u32;
-    fn riddlepoppy_is_dimensionless(unit: *const u8, n: usize) -> u32;
-    fn riddlepoppy_unit_text(
-        names: *const u8,
-        n: usize,
-        unit: *const u8,
-        m: usize,
-        out: *mut u8,
-    ) -> u32;
-}
+use compare::exports::*;
+use compare::limits::ABSENT;
 
 /// What fills `out` before a call, so that a byte left unwritten shows, and one that a refused call wrote.
 const RUBBISH: u8 = 0xA5;
@@ -37,13 +12,15 @@ pub fn ask(question: &Question) -> Result<Answer, String> {
     let mut page = Lent::new(&question.page);
     let mut first = Lent::new(&question.first);
     let mut second = Lent::new(&question.second);
+    let mut names = Lent::new(&question.names);
     let rubbish = vec![RUBBISH; question.call.out_length()];
     let mut out = Lent::new(&rubbish);
 
-    let returned = call(question, &mut page, &mut first, &mut second, &mut out);
+    let returned = call(question, &mut page, &mut first, &mut second, &mut names, &mut out);
 
     first.unchanged("first", &question.first)?;
     second.unchanged("second", &question.second)?;
+    names.unchanged("names", &question.names)?;
     let page_afterwards = if question.call.writes_page() {
         page.bytes("page")?
     } else {
@@ -51,7 +28,8 @@ pub fn ask(question: &Question) -> Result<Answer, String> {
         Vec::new()
     };
     let (refusal, value) = (returned >> 16, returned & 0xFFFF);
-    let written = if refusal == 0 {
+    let absent = question.call == Call::Factor && value == ABSENT;
+    let written = if refusal == 0 && !absent {
         out.bytes("out")?
     } else {
         out.unchanged("out", &rubbish)?;
@@ -65,12 +43,14 @@ fn call(
     page: &mut Lent,
     first: &mut Lent,
     second: &mut Lent,
+    names: &mut Lent,
     out: &mut Lent,
 ) -> u32 {
-    let argument = question.argument;
+    let (argument, symbol, lent) = (question.argument, question.symbol(), question.lent());
     let (p, n) = (page.start(), page.length);
     let (a, m) = (first.start(), first.length);
     let (b, l) = (second.start(), second.length);
+    let (t, k) = (names.start(), names.length);
     let out = out.start();
     // SAFETY: each pointer goes with its length and points to bytes of its own;
     // `out` has the length that the call writes.
@@ -82,9 +62,18 @@ fn call(
             Call::ReadName => riddlepoppy_read_name(p, n, argument, out),
             Call::UnitForm => riddlepoppy_unit_form(a, m),
             Call::Product => riddlepoppy_product(a, m, b, l, argument == 1, out),
-            Call::Exponent => riddlepoppy_exponent(a, m, argument as u8),
+            Call::Exponent => riddlepoppy_exponent(a, m, symbol),
             Call::IsDimensionless => riddlepoppy_is_dimensionless(a, m),
             Call::UnitText => riddlepoppy_unit_text(p, n, a, m, out),
+            Call::EmptyPairs => riddlepoppy_empty_pairs(p, n),
+            Call::InsertPair => {
+                let pair = question.pair();
+                riddlepoppy_insert_pair(p, n, t, k, lent, symbol, pair.factor, pair.base)
+            }
+            Call::Canonical => riddlepoppy_canonical(p, n, t, k, lent, symbol),
+            Call::Factor => riddlepoppy_factor(p, n, t, k, lent, symbol, out),
+            Call::Canonicalize => riddlepoppy_canonicalize(p, n, t, k, lent, a, m, out),
+            Call::IsConvertibleTo => riddlepoppy_is_convertible_to(p, n, t, k, lent, a, m, b, l),
         }
     }
 }

@@ -1,0 +1,77 @@
+//! The exports of the static library `calls`.
+
+// Nothing checks these declarations against the library's source.
+#[link(name = "calls", kind = "static")]
+extern "C" {
+    pub fn riddlepoppy_empty_names(page: *mut u8, n: usize) -> u32;
+    pub fn riddlepoppy_add_name(page: *mut u8, n: usize, name: *const u8, m: usize) -> u32;
+    pub fn riddlepoppy_find_name(page: *const u8, n: usize, name: *const u8, m: usize) -> u32;
+    pub fn riddlepoppy_read_name(page: *const u8, n: usize, k: u32, out: *mut u8) -> u32;
+    pub fn riddlepoppy_unit_form(unit: *const u8, n: usize) -> u32;
+    pub fn riddlepoppy_product(
+        a: *const u8,
+        n: usize,
+        b: *const u8,
+        m: usize,
+        quotient: bool,
+        out: *mut u8,
+    ) -> u32;
+    pub fn riddlepoppy_exponent(unit: *const u8, n: usize, symbol: u8) -> u32;
+    pub fn riddlepoppy_is_dimensionless(unit: *const u8, n: usize) -> u32;
+    pub fn riddlepoppy_unit_text(
+        names: *const u8,
+        n: usize,
+        unit: *const u8,
+        m: usize,
+        out: *mut u8,
+    ) -> u32;
+    pub fn riddlepoppy_empty_pairs(page: *mut u8, n: usize) -> u32;
+    pub fn riddlepoppy_insert_pair(
+        page: *mut u8,
+        n: usize,
+        names: *const u8,
+        m: usize,
+        lent: bool,
+        symbol: u8,
+        factor: u64,
+        base: u8,
+    ) -> u32;
+    pub fn riddlepoppy_canonical(
+        page: *const u8,
+        n: usize,
+        names: *const u8,
+        m: usize,
+        lent: bool,
+        symbol: u8,
+    ) -> u32;
+    pub fn riddlepoppy_factor(
+        page: *const u8,
+        n: usize,
+        names: *const u8,
+        m: usize,
+        lent: bool,
+        symbol: u8,
+        out: *mut u8,
+    ) -> u32;
+    pub fn riddlepoppy_canonicalize(
+        page: *const u8,
+        n: usize,
+        names: *const u8,
+        m: usize,
+        lent: bool,
+        unit: *const u8,
+        l: usize,
+        out: *mut u8,
+    ) -> u32;
+    pub fn riddlepoppy_is_convertible_to(
+        page: *const u8,
+        n: usize,
+        names: *const u8,
+        m: usize,
+        lent: bool,
+        left: *const u8,
+        l: usize,
+        right: *const u8,
+        r: usize,
+    ) -> u32;
+}
