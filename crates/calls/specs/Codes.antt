@@ -1,12 +1,14 @@
 -- The answers of the entry calls as numbers, for callers in other languages: the refusal's number (0 for none) in the upper
 -- half, the value's sixteen bits in the lower.
-use mathlib.Core.Bool.{Bool, cond}
+use mathlib.Core.Bool.{Bool, true, cond}
 use mathlib.Core.List.{List, []}
 use Prim.Native.Nat.{ℕ, _+_, _*_, _%_}
 use lib.IntN.{pos}
 use Rattle.refusals.specs.Numbers.{codeOf}
+use Rattle.refusals.specs.Lowest.{unlessRefused}
 use Rattle.refusals.specs.declared.Verdict.{Verdict}
 use Rattle.refusals.specs.declared.Verdict.the-variants.{Passed, Refused}
+use Rattle.pages.specs.Bytes.{bigEndian, longBytes}
 use Rattle.pages.specs.Pad.{pad}
 use Rattle.names.specs.declared.Added.{Added}
 use Rattle.names.specs.declared.Added.the-variants as added
@@ -15,11 +17,22 @@ use Rattle.names.specs.declared.Found.the-variants as found
 use Rattle.units.specs.Unit.{placesMax}
 use Rattle.units.specs.Calls.{termsOf, productAnswer, unitlessAnswer}
 use Rattle.units.specs.declared.Unit.{Unit}
+use Rattle.units.specs.declared.MaybeUnit.{MaybeUnit}
 use Rattle.units.specs.declared.Power.{Power}
 use Rattle.units.specs.declared.Power.the-variants as power
 use Rattle.units.specs.declared.Unitless.{Unitless}
 use Rattle.units.specs.declared.Unitless.the-variants as unitless
 use Rattle.units.specs.declared.UnitResult.{UnitResult}
+use Rattle.pairs.specs.declared.Root.{Root}
+use Rattle.pairs.specs.declared.Root.the-variants as root
+use Rattle.pairs.specs.declared.Factor.{Factor}
+use Rattle.pairs.specs.declared.Factor.the-variants as factor
+use Rattle.sums.specs.Sums.{sumsIn}
+use Rattle.sums.specs.Calls.{sumsAnswer, convertAnswer}
+use Rattle.sums.specs.declared.Sums.{Sums}
+use Rattle.sums.specs.declared.SumsResult.{SumsResult}
+use Rattle.sums.specs.declared.Conversion.{Conversion}
+use Rattle.sums.specs.declared.Conversion.the-variants as conversion
 use Rattle.text.specs.Calls.{textAnswer}
 use Rattle.text.specs.declared.Text.{Text}
 use Rattle.values.specs.Value.{rawOf, unitMax, unitBytes, valueVerdict, unitIn}
@@ -33,7 +46,7 @@ abbrev pub addedCode : Added → ℕ
 addedCode (added.At n) = packed Passed n
 addedCode (added.Refused r) = packed (Refused r) 0
 
--- a name that the table does not have is 65,535, which is no name's number
+-- a name or a factor that a table does not have is 65,535, which is no name's number and no symbol
 abbrev pub absent : ℕ
 absent = 65535
 
@@ -82,3 +95,44 @@ textIn page bytes = textAnswer page (unitOrBroken bytes)
 -- a unit's bytes, and zeros after them
 abbrev pub bytesOfUnit : Unit → List ℕ
 bytesOfUnit u = pad unitMax 0 (unitBytes (termsOf u))
+
+-- ---- pairs and group sums
+
+-- what asking for a symbol's root answers
+abbrev pub rootCode : Root → ℕ
+rootCode (root.At s) = packed Passed s
+rootCode (root.Refused r) = packed (Refused r) 0
+
+-- what asking for a symbol's first factor answers: its base, if a pair has the symbol
+abbrev pub factorCode : Factor → ℕ
+factorCode (factor.Of f b) = packed Passed b
+factorCode factor.Absent = packed Passed absent
+factorCode (factor.Refused r) = packed (Refused r) 0
+
+-- what is lent for a factor's bytes, afterwards: the bytes of the factor, or as it was where none is found
+abbrev pub factorBytesIn : Factor → List ℕ → List ℕ
+factorBytesIn (factor.Of f b) out = bigEndian longBytes f
+factorBytesIn factor.Absent out = out
+factorBytesIn (factor.Refused r) out = out
+
+-- the group sums, over the pairs of a page, of the unit that a slice says
+abbrev pub groupSumsIn : List ℕ → List ℕ → Bool → List ℕ → SumsResult
+groupSumsIn page names lent bytes = sumsAnswer page names lent (unitOrBroken bytes)
+
+-- group sums in the form of a unit's bytes, and zeros after them
+abbrev pub bytesOfSums : Sums → List ℕ
+bytesOfSums w = pad unitMax 0 (unitBytes (sumsIn w))
+
+-- the unit that the bytes say, or none; where they say neither, a unit that breaks its form
+unfoldable pub maybeOrBroken : List ℕ → MaybeUnit
+maybeOrBroken bytes = unlessRefused (valueVerdict bytes) (unitIn bytes) (record { some = true; unit = brokenUnit })
+
+-- convertible or not, of bytes that each say a unit or none
+abbrev pub convertibleIn : List ℕ → List ℕ → Bool → List ℕ → List ℕ → Conversion
+convertibleIn page names lent left right = convertAnswer page names lent (maybeOrBroken left) (maybeOrBroken right)
+
+-- 1 for yes
+abbrev pub conversionCode : Conversion → ℕ
+conversionCode conversion.Yes = packed Passed 1
+conversionCode conversion.No = packed Passed 0
+conversionCode (conversion.Refused r) = packed (Refused r) 0

@@ -3,20 +3,33 @@
 use names::Added;
 use names::Found;
 use names::NAME_BYTES;
+use names::symbol_index;
+use pages::LONG_BYTES;
+use pairs::Factor;
+use pairs::Root;
 use refusals::Verdict;
+use sums::Conversion;
+use sums::Sums;
 use text::TEXT_BYTES;
+use units::MaybeUnit;
 use units::PLACES;
 use units::Power;
 use units::Unit;
 use units::Unitless;
 use values::UNIT_BYTES;
+use values::UnitBytes;
 ghost use mathlib.Core.Path.{_≡_};
+ghost use Prim.Native.Nat.{_≤_};
 ghost use Rattle.refusals.specs.Lowest.{unlessRefused};
 ghost use Rattle.names.specs.Calls.{emptyVerdict, emptyPage, addAnswer, pageAfter, findAnswer, readAnswer};
+ghost use Rattle.units.specs.Unit.{placesMax};
 ghost use Rattle.units.specs.Calls.{formVerdict, exponentAnswer};
-ghost use Rattle.calls.specs.Codes.{packed, addedCode, foundCode, powerCode, unitlessCode, brokenUnit, unitOrBroken, unitlessIn, productIn, textIn, bytesOfUnit};
+ghost use Rattle.groups.specs.Groups.{pair};
+ghost use Rattle.pairs.specs.Calls.{pairVerdict, rootAnswer, factorAnswer};
+ghost use Rattle.pairs.specs.Calls as tables;
+ghost use Rattle.calls.specs.Codes.{packed, addedCode, foundCode, powerCode, unitlessCode, brokenUnit, unitOrBroken, unitlessIn, productIn, textIn, bytesOfUnit, rootCode, factorCode, factorBytesIn, groupSumsIn, bytesOfSums, maybeOrBroken, convertibleIn, conversionCode};
 
-// What a name that the table does not have is answered with, which is no name's number.
+// What a name or a factor that the table does not have is answered with, which is no name's number and no symbol.
 pub const ABSENT: usize = 65535;
 
 // A verdict and a value as one number.
@@ -169,4 +182,136 @@ pub extern "C" fn riddlepoppy_unit_text(page: &[u8], unit: &[u8], out: &mut [u8;
     let bytes = text.bytes;
     *out = bytes;
     packed_as(verdict, text.size)
+}
+
+// Makes the page a table without pairs.
+#[no_mangle]
+pub extern "C" fn riddlepoppy_empty_pairs(page: &mut [u8]) -> u32
+    ensures { λ r. ⌜ (r ≡ packed (tables.emptyVerdict (now (page .entry))) 0) × (now (page .exit) ≡ tables.emptyPage (now (page .entry))) ⌝ }
+{
+    packed_as(pairs::empty_pairs(page), 0)
+}
+
+// Adds a pair, its factor as the 64 bits of an f64, to the table.
+#[no_mangle]
+pub extern "C" fn riddlepoppy_insert_pair(
+    page: &mut [u8],
+    names: &[u8],
+    lent: bool,
+    symbol: u8,
+    factor: u64,
+    base: u8,
+) -> u32
+    ensures { λ r. ⌜ (r ≡ packed (pairVerdict (now (page .entry)) (now (names .entry)) lent (pair symbol base)) 0) × (now (page .exit) ≡ tables.pageAfter (now (page .entry)) (now (names .entry)) lent symbol factor base) ⌝ }
+{
+    packed_as(
+        pairs::insert_pair(page, names, lent, symbol, factor, base),
+        0,
+    )
+}
+
+// The root of a symbol.
+#[no_mangle]
+pub extern "C" fn riddlepoppy_canonical(page: &[u8], names: &[u8], lent: bool, symbol: u8) -> u32
+    ensures { λ r. ⌜ r ≡ rootCode (rootAnswer (now (page .entry)) (now (names .entry)) lent symbol) ⌝ }
+{
+    let root = pairs::canonical(page, names, lent, symbol);
+    match root {
+        Root::At(s) => packed_as(Verdict::Passed, symbol_index(s)),
+        Root::Refused(r) => packed_as(Verdict::Refused(r), 0),
+    }
+}
+
+// The first factor of a symbol, and its base, or 65,535 where no pair has the symbol.
+#[no_mangle]
+pub extern "C" fn riddlepoppy_factor(
+    page: &[u8],
+    names: &[u8],
+    lent: bool,
+    symbol: u8,
+    out: &mut [u8; LONG_BYTES],
+) -> u32
+    ensures { λ r. ⌜ (r ≡ factorCode (factorAnswer (now (page .entry)) (now (names .entry)) lent symbol)) × (now (out .exit) ≡ factorBytesIn (factorAnswer (now (page .entry)) (now (names .entry)) lent symbol) (now (out .entry))) ⌝ }
+{
+    let first = pairs::first_factor(page, names, lent, symbol);
+    match first {
+        Factor::Of { factor, base } => {
+            *out = pages::long_bytes(factor);
+            packed_as(Verdict::Passed, symbol_index(base))
+        }
+        Factor::Absent => packed_as(Verdict::Passed, ABSENT),
+        Factor::Refused(r) => packed_as(Verdict::Refused(r), 0),
+    }
+}
+
+// Group sums in the form of a unit's bytes.
+fn sums_bytes(sums: Sums) -> UnitBytes
+    requires { ⌜ sums .count ≤ placesMax ⌝ }
+    ensures { λ r. ⌜ r ≡ bytesOfSums sums ⌝ }
+{
+    let count = sums.count;
+    let symbols = sums.symbols;
+    let exponents = sums.exponents;
+    values::value_bytes(Unit {
+        count,
+        symbols,
+        exponents,
+    })
+}
+
+// The group sums of a unit.
+#[no_mangle]
+pub extern "C" fn riddlepoppy_canonicalize(
+    page: &[u8],
+    names: &[u8],
+    lent: bool,
+    unit: &[u8],
+    out: &mut [u8; UNIT_BYTES],
+) -> u32
+    ensures { λ r. ⌜ (r ≡ packed (groupSumsIn (now (page .entry)) (now (names .entry)) lent (now (unit .entry)) .verdict) 0) × (now (out .exit) ≡ unlessRefused (groupSumsIn (now (page .entry)) (now (names .entry)) lent (now (unit .entry)) .verdict) (bytesOfSums (groupSumsIn (now (page .entry)) (now (names .entry)) lent (now (unit .entry)) .sums)) (now (out .entry))) ⌝ }
+{
+    let result = sums::canonicalize(page, names, lent, unit_or_broken(unit));
+    let verdict = result.verdict;
+    if refusals::is_refused(verdict) {
+        return packed_as(verdict, 0);
+    }
+    let sums = result.sums;
+    *out = sums_bytes(sums);
+    packed_as(verdict, 0)
+}
+
+// The unit that the bytes say, or none; bytes that say neither give a unit that breaks its form.
+fn maybe_or_broken(bytes: &[u8]) -> MaybeUnit
+    ensures { λ r. ⌜ r ≡ maybeOrBroken (now (bytes .entry)) ⌝ }
+{
+    let value = values::read_value(bytes);
+    let verdict = value.verdict;
+    if refusals::is_refused(verdict) {
+        return MaybeUnit {
+            some: true,
+            unit: broken_unit(),
+        };
+    }
+    value.unit
+}
+
+// Whether two units, or none, are convertible: 1 for yes.
+#[no_mangle]
+pub extern "C" fn riddlepoppy_is_convertible_to(
+    page: &[u8],
+    names: &[u8],
+    lent: bool,
+    left: &[u8],
+    right: &[u8],
+) -> u32
+    ensures { λ r. ⌜ r ≡ conversionCode (convertibleIn (now (page .entry)) (now (names .entry)) lent (now (left .entry)) (now (right .entry))) ⌝ }
+{
+    let a = maybe_or_broken(left);
+    let b = maybe_or_broken(right);
+    let answer = sums::is_convertible_to(page, names, lent, a, b);
+    match answer {
+        Conversion::Yes => packed_as(Verdict::Passed, 1),
+        Conversion::No => packed_as(Verdict::Passed, 0),
+        Conversion::Refused(r) => packed_as(Verdict::Refused(r), 0),
+    }
 }

@@ -1,12 +1,22 @@
 // Replays the stored sample of the oracle's answers (harness/README.md has its format): each row is asked of the entry calls,
 // and what they answer is compared with what the oracle answered.
+use pages::LONG_BYTES;
 use pages::index;
 use pages::same;
 ghost use Prim.Native.Nat.{_+_, _≤_, _<_};
 ghost use lib.ListN.{length};
 
-// How many bytes a row's page has at most.
+// How many bytes the sample has at most.
+const SAMPLE_BYTES: usize = 524288;
+
+// How many bytes a page has at most that a call writes.
 const PAGE_BYTES: usize = 8192;
+
+// How many bytes the base of a pair takes.
+const BASE_BYTES: usize = 1;
+
+// What no call answers, nor any row says.
+const NO_ANSWER: u32 = 4294967295;
 
 // A part of a row.
 struct Span {
@@ -48,29 +58,70 @@ fn field(s: &[u8], at: usize) -> Span
     }
 }
 
-// A call that writes the page that it is lent: empty_names or, with a name, add_name.
-fn is_page_same(call: u8, page: &mut [u8], name: &[u8], code: usize, after: &[u8]) -> bool {
-    if call == 1 {
-        if calls::riddlepoppy_empty_names(page) as usize != code {
-            return false;
-        }
-        return same(page, after);
+// The symbol that an argument's low byte says.
+fn symbol_in(argument: usize) -> u8 {
+    (argument % 256) as u8
+}
+
+// Whether names are lent, which an argument's high byte says.
+fn is_lent(argument: usize) -> bool {
+    argument / 256 == 1
+}
+
+// What insert_pair answers, with the base and the factor's bytes in a field; no answer where the field has another length.
+fn insertion(page: &mut [u8], argument: usize, pair: &[u8], names: &[u8]) -> u32 {
+    if pair.len() != BASE_BYTES + LONG_BYTES {
+        return NO_ANSWER;
     }
-    if calls::riddlepoppy_add_name(page, name) as usize != code {
+    let base = pair[0];
+    let factor = pages::long(pair, BASE_BYTES);
+    let lent = is_lent(argument);
+    calls::riddlepoppy_insert_pair(page, names, lent, symbol_in(argument), factor, base)
+}
+
+// What a call answers that writes the page that it is lent.
+fn written(call: u8, argument: usize, page: &mut [u8], first: &[u8], names: &[u8]) -> u32 {
+    match call {
+        1 => calls::riddlepoppy_empty_names(page),
+        2 => calls::riddlepoppy_add_name(page, first),
+        10 => calls::riddlepoppy_empty_pairs(page),
+        _ => insertion(page, argument, first, names),
+    }
+}
+
+// Whether such a call answers this number, and leaves the page so.
+fn is_page_same(
+    call: u8,
+    argument: usize,
+    page: &mut [u8],
+    first: &[u8],
+    names: &[u8],
+    code: usize,
+    after: &[u8],
+) -> bool {
+    if written(call, argument, page, first, names) as usize != code {
         return false;
     }
     same(page, after)
 }
 
 // The same on a copy of the row's page.
-fn is_copy_same(call: u8, page: &[u8], name: &[u8], code: usize, after: &[u8]) -> bool {
+fn is_copy_same(
+    call: u8,
+    argument: usize,
+    page: &[u8],
+    first: &[u8],
+    names: &[u8],
+    code: usize,
+    after: &[u8],
+) -> bool {
     let n = page.len();
     if PAGE_BYTES < n {
         return false;
     }
     let mut copy = [0u8; PAGE_BYTES];
     pages::put_bytes(&mut copy, 0, page);
-    is_page_same(call, &mut copy[..n], name, code, after)
+    is_page_same(call, argument, &mut copy[..n], first, names, code, after)
 }
 
 fn is_name(name: &[u8; names::NAME_BYTES], out: &[u8]) -> bool {
@@ -111,15 +162,83 @@ fn is_text_same(page: &[u8], unit: &[u8], code: usize, out: &[u8]) -> bool {
     is_text(&text, out)
 }
 
-// A call that answers a number and writes nothing.
-fn is_number_same(call: u8, page: &[u8], first: &[u8], argument: usize, code: usize) -> bool {
-    let got = match call {
+fn is_factor(factor: &[u8; LONG_BYTES], out: &[u8]) -> bool {
+    same(factor, out)
+}
+
+fn is_factor_same(argument: usize, page: &[u8], names: &[u8], code: usize, out: &[u8]) -> bool {
+    let mut factor = [0u8; LONG_BYTES];
+    let lent = is_lent(argument);
+    let symbol = symbol_in(argument);
+    if calls::riddlepoppy_factor(page, names, lent, symbol, &mut factor) as usize != code {
+        return false;
+    }
+    is_factor(&factor, out)
+}
+
+fn are_sums_same(
+    argument: usize,
+    page: &[u8],
+    unit: &[u8],
+    names: &[u8],
+    code: usize,
+    out: &[u8],
+) -> bool {
+    let mut sums = [0u8; values::UNIT_BYTES];
+    let lent = is_lent(argument);
+    if calls::riddlepoppy_canonicalize(page, names, lent, unit, &mut sums) as usize != code {
+        return false;
+    }
+    is_unit(&sums, out)
+}
+
+// What a call answers that answers a number and writes nothing.
+fn number(
+    call: u8,
+    argument: usize,
+    page: &[u8],
+    first: &[u8],
+    second: &[u8],
+    names: &[u8],
+) -> u32 {
+    let symbol = symbol_in(argument);
+    let lent = is_lent(argument);
+    match call {
         3 => calls::riddlepoppy_find_name(page, first),
         5 => calls::riddlepoppy_unit_form(first),
-        7 => calls::riddlepoppy_exponent(first, (argument % 256) as u8),
-        _ => calls::riddlepoppy_is_dimensionless(first),
-    };
-    got as usize == code
+        7 => calls::riddlepoppy_exponent(first, symbol),
+        8 => calls::riddlepoppy_is_dimensionless(first),
+        12 => calls::riddlepoppy_canonical(page, names, lent, symbol),
+        _ => calls::riddlepoppy_is_convertible_to(page, names, lent, first, second),
+    }
+}
+
+// Whether a call answers this number, writes these bytes, and leaves the page so. No other call than these is in a row.
+fn is_answer(
+    call: u8,
+    argument: usize,
+    page: &[u8],
+    first: &[u8],
+    second: &[u8],
+    names: &[u8],
+    code: usize,
+    out: &[u8],
+    after: &[u8],
+) -> bool
+    requires { ⌜ argument < 65536 ⌝ }
+{
+    match call {
+        1 | 2 | 10 | 11 => is_copy_same(call, argument, page, first, names, code, after),
+        4 => is_name_same(page, argument, code, out),
+        6 => is_product_same(first, second, argument == 1, code, out),
+        9 => is_text_same(page, first, code, out),
+        13 => is_factor_same(argument, page, names, code, out),
+        14 => are_sums_same(argument, page, first, names, code, out),
+        3 | 5 | 7 | 8 | 12 | 15 => {
+            number(call, argument, page, first, second, names) as usize == code
+        }
+        _ => false,
+    }
 }
 
 // Whether a call answers what the end of its row says: the refusal, the value, what it wrote, and the page afterwards.
@@ -129,6 +248,7 @@ fn is_answered(
     page: &[u8],
     first: &[u8],
     second: &[u8],
+    names: &[u8],
     answer: &[u8],
 ) -> bool
     requires { ⌜ argument < 65536 ⌝ }
@@ -143,16 +263,20 @@ fn is_answered(
     let after = field(answer, end);
     let from = after.start;
     let to = after.end;
-    match call {
-        1 | 2 => is_copy_same(call, page, first, code, &answer[from..to]),
-        4 => is_name_same(page, argument, code, &answer[start..end]),
-        6 => is_product_same(first, second, argument == 1, code, &answer[start..end]),
-        9 => is_text_same(page, first, code, &answer[start..end]),
-        _ => is_number_same(call, page, first, argument, code),
-    }
+    is_answer(
+        call,
+        argument,
+        page,
+        first,
+        second,
+        names,
+        code,
+        &answer[start..end],
+        &answer[from..to],
+    )
 }
 
-// Whether a row's call answers what the row says: the call, its argument, a page and two more inputs, and the answer.
+// Whether a row's call answers what the row says: the call, its argument, a page and three more inputs, and the answer.
 fn is_same(row: &[u8]) -> bool {
     if row.len() < 3 {
         return false;
@@ -168,13 +292,17 @@ fn is_same(row: &[u8]) -> bool {
     let second = field(row, b);
     let c = second.start;
     let d = second.end;
+    let names = field(row, d);
+    let e = names.start;
+    let f = names.end;
     is_answered(
         call,
         argument,
         &row[p..q],
         &row[a..b],
         &row[c..d],
-        &row[d..],
+        &row[e..f],
+        &row[f..],
     )
 }
 
@@ -197,7 +325,7 @@ fn replayed(sample: &[u8]) -> Tally {
 }
 
 fn main() {
-    let mut sample = io::large_buffer();
+    let mut sample = [0u8; SAMPLE_BYTES];
     let n = io::read_full(libc::STDIN_FILENO, &mut sample);
     let tally = replayed(&sample[..n]);
     io::print_decimal(libc::STDOUT_FILENO, tally.rows as u64);
