@@ -2,8 +2,11 @@
 use mathlib.Core.Path.{refl}
 use Rattle.units.specs.Unit.{formed}
 use Rattle.units.specs.Product.{productOf, productVerdict}
+use Rattle.groups.specs.Groups.{rootOf, parentsOf, enterAll, enter, walk, selves}
+use Rattle.sums.specs.Sums.{convertible}
+use Rattle.pages.specs.Quant.{allTo}
 use Rattle.cases.specs.Cases.{cases, Every}
 
 pub every-case-holds : Every cases
-unfolding cases productVerdict productOf formed
-every-case-holds = ((refl, refl), tt)
+unfolding cases productVerdict productOf formed rootOf parentsOf enterAll enter walk selves convertible allTo
+every-case-holds = ((refl, refl), (refl, (refl, (refl, (refl, tt)))))
