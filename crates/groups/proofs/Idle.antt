@@ -10,7 +10,8 @@ use Rattle.groups.proofs.UnionFind.{enter-idle}
 use Rattle.groups.proofs.Walks.{parents-snoc}
 
 -- the parents with it are those without it
-pub idle-parents : (n : ℕ) (ps : List Pair) (q : Pair) → Within n ps → q .symbol < n → q .base < n → Joined ps (q .symbol) (q .base) → parentsOf n (ps ++ (q ∷ [])) ≡ parentsOf n ps
+pub idle-parents : (n : ℕ) (ps : List Pair) (q : Pair) → Within n ps → q .symbol < n → q .base < n → Joined ps (q .symbol) (q .base)
+    → parentsOf n (ps ++ (q ∷ [])) ≡ parentsOf n ps
 idle-parents n ps q w qs qb joined = parents-snoc n ps q ∙ enter-idle n ps q w qs qb joined
 
 -- what the pairs join with it they join without it

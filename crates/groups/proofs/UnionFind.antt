@@ -12,7 +12,7 @@ use lib.ListN.{length, getD, set, length-set}
 use lib.Seq.{getD-set-same, getD-set-other, set-getD}
 use lib.Dec.{eqb}
 use borrow.Author.Tests.{eq-eqb, ne-eqb}
-use Rattle.groups.specs.Groups.{Pair, Within, Joined, Joining, linkOf, linkAt, walk, enter, enterAll, selves, parentsOf, rootOf}
+use Rattle.groups.specs.Groups.{Pair, Within, Joined, Joining, linkOf, walk, enter, enterAll, selves, parentsOf, rootOf}
 use Rattle.groups.specs.Groups.Joined.{listed, same, back, chain}
 use Rattle.groups.specs.Groups.Joining.{none, joins, idle}
 
@@ -80,7 +80,9 @@ turn-root a b = elim (ℕ-discrete a b) [ yes e ↦ turn-yes a b a e | no ne ↦
 module _ (p : List ℕ) (a b : ℕ) (inside : b < length p) (root-a : getD p a 0 ≡ a) (root-b : getD p b 0 ≡ b) where
   -- a is still a root
   still : getD (set p b a) a 0 ≡ a
-  still = elim (ℕ-discrete a b) [ yes e ↦ subst (λ (x : ℕ). getD (set p b a) x 0 ≡ a) (sym e) (getD-set-same p b a 0 inside) | no ne ↦ getD-set-other p b a a 0 ne ∙ root-a ]
+  still =
+      elim (ℕ-discrete a b)
+      [ yes e ↦ subst (λ (x : ℕ). getD (set p b a) x 0 ≡ a) (sym e) (getD-set-same p b a 0 inside) | no ne ↦ getD-set-other p b a a 0 ne ∙ root-a ]
 
   -- where m steps led to a root, one more leads to the new one
   turns : (m s : ℕ) → getD p (walk m p s) 0 ≡ walk m p s → walk (suc m) (set p b a) s ≡ turn a b (walk m p s)
@@ -92,7 +94,8 @@ module _ (p : List ℕ) (a b : ℕ) (inside : b < length p) (root-a : getD p a 0
       ]
   turns (suc m) s f = on (turns m (getD p s 0) f) (ℕ-discrete s b)
     where
-      on : walk (suc m) (set p b a) (getD p s 0) ≡ turn a b (walk m p (getD p s 0)) → Dec (s ≡ b) → walk (suc m) (set p b a) (getD (set p b a) s 0) ≡ turn a b (walk m p (getD p s 0))
+      on : walk (suc m) (set p b a) (getD p s 0) ≡ turn a b (walk m p (getD p s 0)) → Dec (s ≡ b)
+          → walk (suc m) (set p b a) (getD (set p b a) s 0) ≡ turn a b (walk m p (getD p s 0))
       on ih (yes e) =
           ap (walk (suc m) (set p b a)) (subst (λ (x : ℕ). getD (set p b a) x 0 ≡ a) (sym e) (getD-set-same p b a 0 inside))
           ∙ walk-stays (suc m) (set p b a) a still
@@ -147,7 +150,9 @@ module _ (n : ℕ) (done : List Pair) (k : ℕ) (p : List ℕ) (g : Stands n don
 
   small : (a < n) × (b < n)
   unfolding a b x y
-  small = link-both (λ (z : ℕ). z < n) (walk k p (q .symbol)) (walk k p (q .base)) (walk-below n k p (q .symbol) (g .below) qs) (walk-below n k p (q .base) (g .below) qb)
+  small =
+      link-both (λ (z : ℕ). z < n) (walk k p (q .symbol)) (walk k p (q .base)) (walk-below n k p (q .symbol) (g .below) qs)
+      (walk-below n k p (q .base) (g .below) qb)
 
   inside : b < length p
   inside = rw (g .size) (small .1)
@@ -252,7 +257,9 @@ unfolding enterAll
 stands-all n [] done k p g w = rw (append-nil, add-zero) g
 stands-all n (q ∷ qs) done k p g w =
     let wq = within-head n done q qs w in
-    let ih = stands-all n qs (done ++ (q ∷ [])) (suc k) (enter k p q) (stands-more n done k p g q (wq .0) (wq .1) (within-left n done (q ∷ qs) w)) (within-next n done q qs w) in
+    let ih =
+    stands-all n qs (done ++ (q ∷ [])) (suc k) (enter k p q) (stands-more n done k p g q (wq .0) (wq .1) (within-left n done (q ∷ qs) w))
+    (within-next n done q qs w) in
     rw (add-suc, ← suc-add) (rw append-assoc at ih)
 
 -- n symbols have n parents
@@ -304,11 +311,6 @@ module _ (n : ℕ) (ps : List Pair) (w : Within n ps) where
   unfolding rootOf
   root-below s l = walk-below n (length ps) (parentsOf n ps) s (stands n ps w .below) l
 
-  -- a root is its own parent
-  pub root-rests : (s : ℕ) → s < n → getD (parentsOf n ps) (rootOf n ps s) 0 ≡ rootOf n ps s
-  unfolding rootOf
-  root-rests s l = stands n ps w .rests s l
-
   -- whether two symbols are in one group can be decided
   pub joined? : (s t : ℕ) → s < n → t < n → Dec (Joined ps s t)
   joined? s t ls lt =
@@ -319,7 +321,8 @@ module _ (n : ℕ) (ps : List Pair) (w : Within n ps) where
 
 -- ---- a walk has no more steps than there are joining pairs
 
-shorts : (n : ℕ) (ps done : List Pair) (k i j : ℕ) (p : List ℕ) → Stands n done k p → ((s : ℕ) → s < n → getD p (walk i p s) 0 ≡ walk i p s) → Within n (done ++ ps) → Joining done ps j
+shorts : (n : ℕ) (ps done : List Pair) (k i j : ℕ) (p : List ℕ) → Stands n done k p → ((s : ℕ) → s < n → getD p (walk i p s) 0 ≡ walk i p s) → Within n (done ++ ps)
+    → Joining done ps j
     → (s : ℕ) → s < n → getD (enterAll k p ps) (walk (i + j) (enterAll k p ps) s) 0 ≡ walk (i + j) (enterAll k p ps) s
 unfolding enterAll
 shorts n [] done k i j p g h w none = rw add-zero h
@@ -375,7 +378,8 @@ joining n ps w = let some = joining-after n ps [] w in (some .0, some .1, joinin
 -- ---- a pair that joins nothing
 
 -- a pair whose symbols are in one group already changes no parent
-pub enter-idle : (n : ℕ) (ps : List Pair) (q : Pair) → Within n ps → q .symbol < n → q .base < n → Joined ps (q .symbol) (q .base) → enter (length ps) (parentsOf n ps) q ≡ parentsOf n ps
+pub enter-idle : (n : ℕ) (ps : List Pair) (q : Pair) → Within n ps → q .symbol < n → q .base < n → Joined ps (q .symbol) (q .base)
+    → enter (length ps) (parentsOf n ps) q ≡ parentsOf n ps
 enter-idle n ps q w qs qb joined =
     let g = stands n ps w in
     enter-same n ps (length ps) (parentsOf n ps) g q qs qb (unfold x y in (meets n ps (length ps) (parentsOf n ps) g joined))

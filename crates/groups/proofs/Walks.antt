@@ -1,7 +1,7 @@
 -- Walks one step at a time, and parents one list of pairs after another. Assumes nothing.
-use mathlib.Core.Path.{_≡_, refl, sym, _∙_, ap}
+use mathlib.Core.Path.{_≡_, refl, _∙_, ap}
 use mathlib.Core.List.{List, [], _∷_, _++_}
-use Prim.Native.Nat.{ℕ, zero, suc, _+_, _-_, _<_, _≤_}
+use Prim.Native.Nat.{ℕ, suc, _+_, _-_, _<_, _≤_}
 use native.Mathlib.Omega.{arith}
 use native.Mathlib.Nat.{add-zero, zero-add, suc-add, add-suc}
 use lib.ListN.{length, getD, length-set}

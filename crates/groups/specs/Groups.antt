@@ -20,14 +20,16 @@ Within n ps = (q : Pair) → List·Memᴰ q ps → (q .symbol < n) × (q .base <
 
 -- ---- groups
 
--- s and t are in one group: the least equivalence that joins the two symbols of every pair
+-- "A group is the symbols joined, directly or through others, by accepted conversion pairs; a symbol joined to no other is a group
+-- by itself" (the mission): s and t are in one group
 pub data Joined (ps : List Pair) : ℕ → ℕ → Type 0 where
   listed : (q : Pair) → List·Memᴰ q ps → Joined ps (q .symbol) (q .base)
   same : (s : ℕ) → Joined ps s s
   back : {s t : ℕ} → Joined ps s t → Joined ps t s
   chain : {s t u : ℕ} → Joined ps s t → Joined ps t u → Joined ps s u
 
--- "joining pairs (those that joined two groups)": how many of the pairs that come after others joined two groups of those before
+-- "joining pairs (those that joined two groups)": of the pairs in the second list, k joined two groups that the pairs before them
+-- had left apart; the first list stands before them all
 pub data Joining : List Pair → List Pair → ℕ → Type 0 where
   none : {before : List Pair} → Joining before [] 0
   joins : {before : List Pair} {q : Pair} {qs : List Pair} {k : ℕ} → ¬ (Joined before (q .symbol) (q .base)) → Joining (before ++ (q ∷ [])) qs k → Joining before (q ∷ qs) (suc k)

@@ -28,7 +28,7 @@ fn linked(a: Symbol, b: Symbol) -> Link
 pub fn own_parents() -> Parents
     ensures { λ r. ⌜ r ≡ selves 0 namesMax ⌝ }
 {
-    let mut parents = [0u8; NAMES];
+    let mut parents = [0; NAMES];
     let mut i: usize = 0;
     while i < NAMES {
         parents[i] = i as Symbol;
@@ -37,7 +37,8 @@ pub fn own_parents() -> Parents
     parents
 }
 
-// Where that many steps up from a symbol lead. No step leaves a root, so the walk stops there.
+// Where that many steps up from a symbol lead, for crates above (`pairs::canonical` is the entry call). No step leaves a root, so
+// the walk stops there.
 pub fn root(parents: &[Symbol], steps: usize, symbol: Symbol) -> Symbol
     requires { ⌜ length (now parents) ≡ namesMax ⌝ }
     ensures { λ r. ⌜ r ≡ walk steps (now (parents .entry)) symbol ⌝ }
@@ -56,7 +57,7 @@ pub fn root(parents: &[Symbol], steps: usize, symbol: Symbol) -> Symbol
     at
 }
 
-// One more pair, where that many steps lead to a root from every symbol.
+// One more pair: its two roots, that many steps up, are linked. For crates above (`pairs::insert_pair` is the entry call).
 pub fn join(parents: &mut [Symbol], steps: usize, symbol: Symbol, base: Symbol)
     requires { ⌜ length (now parents) ≡ namesMax ⌝ }
     ensures { λ _. ⌜ now (parents .exit) ≡ enter steps (now (parents .entry)) (pair symbol base) ⌝ }

@@ -9,14 +9,14 @@ use native.Mathlib.Numerals.{add-one}
 use native.Mathlib.Nat.{le-refl, div-add-mod'}
 use lib.ListN.{length, getD, take, drop, replicate, length-take, length-drop, length-replicate}
 use lib.Seq.{take-at, drop-drop, getD-take, getD-drop, ext-getD}
-use lib.Dec.{eqb, leb, ltb}
+use lib.Dec.{leb, ltb}
 use borrow.Author.Tests.{le-leb, ltb-false, ltb-true, leb-true, not-false}
 use Rattle.refusals.specs.Lowest.{_when_, unlessRefused}
 use Rattle.refusals.specs.declared.Refusal.the-variants.{Broken, Malformed, Full}
 use Rattle.refusals.specs.declared.Verdict.{Verdict}
 use Rattle.refusals.specs.declared.Verdict.the-variants.{Passed, Refused}
 use Rattle.refusals.proofs.Lowest.{passed-parts}
-use Rattle.pages.specs.Quant.{anyTo, allTo, firstTo}
+use Rattle.pages.specs.Quant.{allTo}
 use Rattle.pages.specs.Bytes.{eqs, zeros, countBytes, countOf, bytesOf, put}
 use Rattle.pages.proofs.Quant.{all-cong, first-cong, all-more, and-true}
 use Rattle.pages.proofs.Bytes.{zeros-made, zeros-drop}

@@ -167,7 +167,8 @@ pub fn is_broken(names: &[u8], lent: bool) -> bool
     false
 }
 
-// How many name numbers are in use: those of the lent table (`is_broken` tests it) or, where none is lent, every number.
+// How many name numbers are in use: those of the lent table or, where none is lent, every number. For crates above, whose entry
+// calls ask `is_broken` first.
 pub fn in_use(names: &[u8], lent: bool) -> usize
     requires { ⌜ lentBroken (now names) lent ≡ false ⌝ }
     ensures { λ r. ⌜ (r ≡ usedOf (now (names .entry)) lent) × (r ≤ namesMax) ⌝ }

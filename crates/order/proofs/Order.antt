@@ -6,11 +6,8 @@ use Prim.Native.Nat.{ℕ, zero, suc, _+_, _≤_, _<_}
 use native.Mathlib.Nat.{zero-add, add-zero, add-suc, suc-add, not-suc-le-zero, le-of-suc-le-suc}
 use native.Mathlib.Numerals.{add-one}
 use native.Mathlib.Omega.{arith}
-use lib.Dec.{ltb}
 use lib.ListN.{length, getD, length-append}
 use lib.IntN.{pos}
-use borrow.Author.Tests.{ltb-true, lt-ltb}
-use Rattle.pages.proofs.Quant.{and-true}
 use Rattle.names.specs.Table.{nameAt}
 use Rattle.units.specs.Unit.{Term, term, inUse}
 use Rattle.units.specs.Calls.{terms, termsOf, termsFrom, unitOf}

@@ -1,14 +1,14 @@
 -- What the calls on a page of pairs come to, one law for each return. Assumes nothing.
 use mathlib.Core.Path.{_≡_, refl, sym, _∙_, ap, subst}
-use mathlib.Core.Bool.{Bool, true, false, _&&_, not, cond}
+use mathlib.Core.Bool.{Bool, true, false, not, cond}
 use mathlib.Core.List.{List, [], _∷_}
 use Prim.Native.Nat.{ℕ, _+_, _-_, _*_, _<_, _≤_}
 use native.Mathlib.Omega.{arith}
 use lib.Dec.{T, leb, ltb}
 use lib.ListN.{length, take, drop, replicate}
-use borrow.Author.Tests.{le-leb, lt-leb, lt-ltb, le-ltb, leb-false, not-false}
+use borrow.Author.Tests.{lt-ltb, le-ltb, leb-false, not-false}
 use Rattle.refusals.specs.Numbers.{isRefused}
-use Rattle.refusals.specs.Lowest.{_when_, lowest, unlessRefused}
+use Rattle.refusals.specs.Lowest.{_when_, lowest}
 use Rattle.refusals.specs.declared.Refusal.{Refusal}
 use Rattle.refusals.specs.declared.Refusal.the-variants.{Broken, Unused, Full}
 use Rattle.refusals.specs.declared.Verdict.{Verdict}
@@ -18,11 +18,11 @@ use Rattle.pages.specs.Quant.{firstTo}
 use Rattle.pages.specs.Bytes.{countBytes, countOf, put}
 use Rattle.names.specs.Table.{namesMax}
 use Rattle.names.specs.Calls.{lentBroken, usedOf}
-use Rattle.groups.specs.Groups.{Pair, pair, selves, walk, parentsOf, rootOf}
-use Rattle.pairs.specs.Table.{pairsMax, pairBytes, listed, bothUsed, insertVerdict, withPair, insertion}
+use Rattle.groups.specs.Groups.{pair, selves, walk, rootOf}
+use Rattle.pairs.specs.Table.{pairsMax, pairBytes, bothUsed, insertVerdict, withPair, insertion}
 use Rattle.pairs.specs.Table as tables
 use Rattle.pairs.specs.Page.{parentsAt, sizeOf, bodiesIn, parentsIn, tableIn, listedIn, holds, formed, withTable}
-use Rattle.pairs.specs.Calls.{tableBroken, emptyVerdict, emptyPage, pairVerdict, pageAfter, symbolVerdict, rootAnswer, isOf, factorOf, firstFactor, factorAnswer}
+use Rattle.pairs.specs.Calls.{tableBroken, emptyVerdict, emptyPage, pairVerdict, pageAfter, symbolVerdict, rootAnswer, isOf, factorOf, factorAnswer}
 use Rattle.pairs.specs.declared.ConversionTable.{ConversionTable}
 use Rattle.pairs.specs.declared.Outcome.{Outcome}
 use Rattle.pairs.specs.declared.Root.{Root}
@@ -76,8 +76,11 @@ roomy (Refused r) = refl
 lowest-room : (a b c d : Bool)
     → lowest ((Broken when a) ∷ (Unused when b) ∷ (Full when c) ∷ (Full when d) ∷ []) ≡ roomed (lowest ((Broken when a) ∷ (Unused when b) ∷ (Full when c) ∷ [])) d
 unfolding roomed
-lowest-room true b c d = first-holds Broken ((Unused when b) ∷ (Full when c) ∷ (Full when d) ∷ []) refl ∙ sym (ap (λ (v : Verdict). roomed v d) (first-holds Broken ((Unused when b) ∷ (Full when c) ∷ []) refl))
-lowest-room false true c d = first-holds Unused ((Full when c) ∷ (Full when d) ∷ []) refl ∙ sym (ap (λ (v : Verdict). roomed v d) (first-holds Unused ((Full when c) ∷ []) refl))
+lowest-room true b c d =
+    first-holds Broken ((Unused when b) ∷ (Full when c) ∷ (Full when d) ∷ []) refl
+    ∙ sym (ap (λ (v : Verdict). roomed v d) (first-holds Broken ((Unused when b) ∷ (Full when c) ∷ []) refl))
+lowest-room false true c d =
+    first-holds Unused ((Full when c) ∷ (Full when d) ∷ []) refl ∙ sym (ap (λ (v : Verdict). roomed v d) (first-holds Unused ((Full when c) ∷ []) refl))
 lowest-room false false true d = first-holds Full ((Full when d) ∷ []) refl
 lowest-room false false false d = refl
 
@@ -91,7 +94,8 @@ insert-count t n s f b v =
     (leb-false pairsMax (t .count) (z .0), rw v)
 
 module _ (page names : List ℕ) (lent : Bool) (s f b : ℕ) where
-  refused : (r : Refusal) → pairVerdict page names lent (pair s b) ≡ Refused r → (Refused r ≡ pairVerdict page names lent (pair s b)) × (page ≡ pageAfter page names lent s f b)
+  refused : (r : Refusal) → pairVerdict page names lent (pair s b) ≡ Refused r → (Refused r ≡ pairVerdict page names lent (pair s b))
+      × (page ≡ pageAfter page names lent s f b)
   unfolding pageAfter
   refused r v = (sym v, rw v)
 
@@ -100,7 +104,8 @@ module _ (page names : List ℕ) (lent : Bool) (s f b : ℕ) where
   pair-broken t = refused Broken v
     where
       v : pairVerdict page names lent (pair s b) ≡ Refused Broken
-      v = rw t (first-holds Broken ((Unused when not (bothUsed (usedOf names lent) (pair s b))) ∷ (Full when leb pairsMax (countOf page)) ∷ (Full when ltb (length page) (sizeOf (countOf page + 1))) ∷ []) refl)
+      v =
+          rw t (first-holds Broken ((Unused when not (bothUsed (usedOf names lent) (pair s b))) ∷ (Full when leb pairsMax (countOf page)) ∷ (Full when ltb (length page) (sizeOf (countOf page + 1))) ∷ []) refl)
 
   pub pair-unnamed : lentBroken names lent ≡ true → (Refused Broken ≡ pairVerdict page names lent (pair s b)) × (page ≡ pageAfter page names lent s f b)
   pair-unnamed l = pair-broken (sym (broken-names page names lent l))
@@ -111,14 +116,16 @@ module _ (page names : List ℕ) (lent : Bool) (s f b : ℕ) where
 
     module _ (h : holds page ≡ true) where
       -- the verdict is that of the insertion by value, or the page has no room
-      by-value : pairVerdict page names lent (pair s b) ≡ roomed (insertVerdict (tableIn page) (usedOf names lent) (pair s b)) (ltb (length page) (sizeOf (countOf page + 1)))
+      by-value : pairVerdict page names lent (pair s b) ≡ roomed (insertVerdict (tableIn page) (usedOf names lent) (pair s b))
+          (ltb (length page) (sizeOf (countOf page + 1)))
       unfolding pairVerdict insertVerdict tableIn
       by-value =
           rw (← broken-rest page names lent l, ← form-held page (usedOf names lent) h)
           (lowest-room (not (tables.formed (tableIn page) (usedOf names lent))) (not (bothUsed (usedOf names lent) (pair s b))) (leb pairsMax (countOf page)) (ltb (length page) (sizeOf (countOf page + 1))))
 
       -- where the page has room for one more pair, it is that of the insertion by value of the page's table
-      pub page-verdict : sizeOf (countOf page + 1) ≤ length page → pairVerdict page names lent (pair s b) ≡ insertion (tableIn page) (usedOf names lent) s f b .verdict
+      pub page-verdict : sizeOf (countOf page + 1) ≤ length page
+          → pairVerdict page names lent (pair s b) ≡ insertion (tableIn page) (usedOf names lent) s f b .verdict
       unfolding insertion
       page-verdict room = by-value ∙ rw (le-ltb (length page) (sizeOf (countOf page + 1)) room) (roomy (insertVerdict (tableIn page) (usedOf names lent) (pair s b)))
 
@@ -131,7 +138,8 @@ module _ (page names : List ℕ) (lent : Bool) (s f b : ℕ) where
         unfolding roomed
         pair-refused r = go (o .verdict) refl r
           where
-            go : (v : Verdict) → o .verdict ≡ v → isRefused v ≡ true → (o .verdict ≡ pairVerdict page names lent (pair s b)) × (page ≡ pageAfter page names lent s f b)
+            go : (v : Verdict) → o .verdict ≡ v → isRefused v ≡ true → (o .verdict ≡ pairVerdict page names lent (pair s b))
+                × (page ≡ pageAfter page names lent s f b)
             go Passed e k = let z : _≡_ {A = ℕ} 0 1 = cc in absurd (omega arith)
             go (Refused x) e k =
                 let w : insertVerdict (tableIn page) (usedOf names lent) (pair s b) ≡ Refused x = sym verdict-is ∙ e in
@@ -152,13 +160,15 @@ module _ (page names : List ℕ) (lent : Bool) (s f b : ℕ) where
           unfolding withPair tableIn
           count-grown = ap (λ (t : ConversionTable). t .count) table-grown
 
-          pub pair-cramped : length page < sizeOf (o .table .count) → (Refused Full ≡ pairVerdict page names lent (pair s b)) × (page ≡ pageAfter page names lent s f b)
+          pub pair-cramped : length page < sizeOf (o .table .count) → (Refused Full ≡ pairVerdict page names lent (pair s b))
+              × (page ≡ pageAfter page names lent s f b)
           unfolding roomed
           pair-cramped k =
               let m : length page < sizeOf (countOf page + 1) = rw count-grown at k in
               refused Full (by-value ∙ rw (was, lt-ltb (length page) (sizeOf (countOf page + 1)) m))
 
-          pub pair-done : sizeOf (o .table .count) ≤ length page → (Passed ≡ pairVerdict page names lent (pair s b)) × (withTable page (o .table) ≡ pageAfter page names lent s f b)
+          pub pair-done : sizeOf (o .table .count) ≤ length page → (Passed ≡ pairVerdict page names lent (pair s b))
+              × (withTable page (o .table) ≡ pageAfter page names lent s f b)
           unfolding roomed pageAfter
           pair-done k =
               let m : sizeOf (countOf page + 1) ≤ length page = rw count-grown at k in

@@ -2,8 +2,8 @@
 -- that of another symbol (`factor-others`), and gives a symbol without one the factor that came, bit for bit, with its base
 -- (`factor-comes`). Assumes nothing.
 use mathlib.Core.Path.{_≡_, refl, sym, _∙_, ap, ap₂}
-use mathlib.Core.Bool.{Bool, true, false, _&&_, cond}
-use mathlib.Core.List.{List, [], _∷_}
+use mathlib.Core.Bool.{Bool, true, false, cond}
+use mathlib.Core.List.{List}
 use Prim.Native.Nat.{ℕ, zero, suc, _+_, _*_, _^_, _<_, _≤_}
 use native.Mathlib.Nat.{add-zero}
 use native.Mathlib.Numerals.{add-one}
@@ -37,7 +37,9 @@ module _ (l m : List ℕ) (k s : ℕ) (agree : (i : ℕ) → i < pairBytes * k �
   is-same i lt = ap (λ (x : ℕ). eqb x s) (agree (pairBytes * i) (omega arith))
 
   factor-same : (i : ℕ) → i < k → factorOf l i ≡ factorOf m i
-  factor-same i lt = ap₂ Factor.Of (number-same l m (pairBytes * i + factorAt) longBytes (λ j o. agree (pairBytes * i + factorAt + j) (omega arith))) (agree (pairBytes * i + baseAt) (omega arith))
+  factor-same i lt =
+      ap₂ Factor.Of (number-same l m (pairBytes * i + factorAt) longBytes (λ j o. agree (pairBytes * i + factorAt + j) (omega arith)))
+      (agree (pairBytes * i + baseAt) (omega arith))
 
   -- a symbol that was found is found where it was
   first-stays : firstTo k (isOf l s) < k → firstTo (k + 1) (isOf m s) ≡ firstTo k (isOf l s)
@@ -108,7 +110,8 @@ module _ (page : List ℕ) (r : Request) (n : ℕ) (g : formed page n ≡ true) 
   absent s f = go (ltb (firstTo (countOf page) (isOf (bodiesIn page) s)) (countOf page)) refl f
     where
       go : (b : Bool) → ltb (firstTo (countOf page) (isOf (bodiesIn page) s)) (countOf page) ≡ b
-          → cond b (factorOf (bodiesIn page) (firstTo (countOf page) (isOf (bodiesIn page) s))) Factor.Absent ≡ Factor.Absent → countOf page ≤ firstTo (countOf page) (isOf (bodiesIn page) s)
+          → cond b (factorOf (bodiesIn page) (firstTo (countOf page) (isOf (bodiesIn page) s))) Factor.Absent ≡ Factor.Absent
+          → countOf page ≤ firstTo (countOf page) (isOf (bodiesIn page) s)
       go true t c = let z : _≡_ {A = ℕ} 0 1 = cc in absurd (omega arith)
       go false t c = ltb-false (firstTo (countOf page) (isOf (bodiesIn page) s)) (countOf page) t
 
@@ -127,7 +130,8 @@ module _ (page : List ℕ) (r : Request) (n : ℕ) (g : formed page n ≡ true) 
       go : Dec (firstTo (countOf page) (isOf (bodiesIn page) s) < countOf page) → factorIn (after page r) s ≡ factorIn page s
       go (yes h) = counted s ∙ found-stays (bodiesIn page) (bodiesIn (after page r)) (countOf page) s old h
       go (no h) =
-          let no-match : isOf (bodiesIn (after page r)) s (countOf page) ≡ false = ne-eqb (getD (bodiesIn (after page r)) (pairBytes * countOf page) 0) s (λ q. other (sym first ∙ q)) in
+          let no-match : isOf (bodiesIn (after page r)) s (countOf page) ≡ false =
+          ne-eqb (getD (bodiesIn (after page r)) (pairBytes * countOf page) 0) s (λ q. other (sym first ∙ q)) in
           counted s ∙ found-none (bodiesIn page) (bodiesIn (after page r)) (countOf page) s old (omega arith) no-match
 
   -- that of the request's symbol, where it had none, is the factor that came, any 64 bits, with its base
@@ -137,7 +141,8 @@ module _ (page : List ℕ) (r : Request) (n : ℕ) (g : formed page n ≡ true) 
       let m = bodiesIn (after page r) in
       let found : isOf m (r .symbol) (countOf page) ≡ true = eq-eqb (getD m at 0) (r .symbol) first in
       let bits : numberAt m (at + factorAt) longBytes ≡ r .factor =
-      number-back m (at + factorAt) (r .factor) longBytes f (λ i l. let s : at + factorAt + i ≡ at + (factorAt + i) = omega arith in rw s (new (factorAt + i) ∙ shift i)) in
+      number-back m (at + factorAt) (r .factor) longBytes f
+      (λ i l. let s : at + factorAt + i ≡ at + (factorAt + i) = omega arith in rw s (new (factorAt + i) ∙ shift i)) in
       counted (r .symbol) ∙ found-new (bodiesIn page) m (countOf page) (r .symbol) old (absent (r .symbol) had) found ∙ ap₂ Factor.Of bits (new baseAt)
     where
       shift : (i : ℕ) → getD (bodyAsked r) (factorAt + i) 0 ≡ getD (bigEndian longBytes (r .factor)) i 0

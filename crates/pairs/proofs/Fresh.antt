@@ -2,25 +2,24 @@
 -- Assumes nothing.
 use mathlib.Core.Path.{_≡_, refl, sym, _∙_, ap}
 use mathlib.Core.Bool.{Bool, true, false, _&&_}
-use mathlib.Core.List.{List, [], _∷_}
-use Prim.Native.Nat.{ℕ, _+_, _*_, _<_, _≤_}
+use mathlib.Core.List.{List, []}
+use Prim.Native.Nat.{ℕ, _+_, _*_, _≤_}
 use native.Mathlib.Omega.{arith}
-use lib.Dec.{leb}
-use lib.ListN.{length, getD, take, drop, replicate, length-replicate}
+use lib.ListN.{length, getD, drop, replicate, length-replicate}
 use lib.Seq.{getD-take, getD-drop}
-use borrow.Author.Tests.{le-leb, le-ltb}
+use borrow.Author.Tests.{le-leb}
 use Rattle.pages.specs.Bytes.{zeros, countBytes, countOf, put}
 use Rattle.pages.specs.Quant.{allTo}
 use Rattle.pages.proofs.Quant.{and-true, all-none}
 use Rattle.pages.proofs.Bytes.{zeros-made, made-at, zeros-drop}
 use Rattle.pages.proofs.Put.{put-length, put-before, put-part, put-drop}
 use Rattle.names.specs.Table.{namesMax}
-use Rattle.groups.specs.Groups.{Pair, enterAll, selves, parentsOf}
+use Rattle.groups.specs.Groups.{enterAll, selves, parentsOf}
 use Rattle.groups.proofs.UnionFind.{length-selves, getD-selves}
 use Rattle.pairs.specs.Table.{pairsMax, pairBytes, pairsIn, listed, usedAt, freshTable}
 use Rattle.pairs.specs.Table as tables
-use Rattle.pairs.specs.Page.{sizeOf, bodiesIn, parentsIn, tableIn, listedIn, holds, formed}
-use Rattle.pairs.specs.Calls.{emptyVerdict, emptyPage}
+use Rattle.pairs.specs.Page.{sizeOf, parentsIn, tableIn, listedIn, holds, formed}
+use Rattle.pairs.specs.Calls.{emptyPage}
 use Rattle.pairs.proofs.Table.{Form, form}
 use Rattle.pairs.proofs.Calls.{empty-made}
 use Rattle.pairs.proofs.Grown.{form-formed}
@@ -102,7 +101,8 @@ pub zeros-unformed : (len n : ℕ) → formed (replicate len 0) n ≡ false
 unfolding formed
 zeros-unformed len n = go (formed (replicate len 0) n) refl
   where
-    go : (b : Bool) → (holds (replicate len 0) && tables.formed (tableIn (replicate len 0)) n) ≡ b → (holds (replicate len 0) && tables.formed (tableIn (replicate len 0)) n) ≡ false
+    go : (b : Bool) → (holds (replicate len 0) && tables.formed (tableIn (replicate len 0)) n) ≡ b
+        → (holds (replicate len 0) && tables.formed (tableIn (replicate len 0)) n) ≡ false
     go false e = e
     go true e = absurd (never (form (tableIn (replicate len 0)) n (and-true (holds (replicate len 0)) (tables.formed (tableIn (replicate len 0)) n) e .1)))
       where
@@ -113,7 +113,10 @@ zeros-unformed len n = go (formed (replicate len 0) n) refl
         nobody = unfold tableIn pairsIn in (ap (pairsIn (tableIn (replicate len 0) .pairs)) none)
 
         zero! : getD (parentsIn (replicate len 0)) 1 0 ≡ 0
-        zero! = getD-take namesMax (drop (countBytes + pairBytes * countOf (replicate len 0)) (replicate len 0)) 1 0 (omega arith) ∙ getD-drop (countBytes + pairBytes * countOf (replicate len 0)) (replicate len 0) 1 0 ∙ made-at len (countBytes + pairBytes * countOf (replicate len 0) + 1)
+        zero! =
+            getD-take namesMax (drop (countBytes + pairBytes * countOf (replicate len 0)) (replicate len 0)) 1 0 (omega arith)
+            ∙ getD-drop (countBytes + pairBytes * countOf (replicate len 0)) (replicate len 0) 1 0
+            ∙ made-at len (countBytes + pairBytes * countOf (replicate len 0) + 1)
 
         never : Form (tableIn (replicate len 0)) n → ⊥
         never f =

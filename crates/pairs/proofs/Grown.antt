@@ -1,22 +1,21 @@
 -- A table stays in form: with one more pair, and written into a page. What it then lists is what it listed, and that pair.
 -- Assumes nothing.
 use mathlib.Core.Path.{_≡_, refl, sym, _∙_, ap, ap₂, subst}
-use mathlib.Core.Bool.{Bool, true, false, _&&_}
+use mathlib.Core.Bool.{true}
 use mathlib.Core.List.{List, [], _∷_, _++_, List·Memᴰ, List·Memᴰ·not-nil, List·Memᴰ·append-cases, List·Memᴰ·eq-of-singleton}
 use mathlib.Core.Logic.{⊎-elim}
 use Prim.Native.Nat.{ℕ, zero, suc, _+_, _*_, _/_, _%_, _<_, _≤_}
 use native.Mathlib.Nat.{add-zero}
-use native.Mathlib.Numerals.{add-one}
 use native.Mathlib.Omega.{arith}
-use lib.Dec.{leb, ltb}
+use lib.Dec.{ltb}
 use lib.ListN.{length, getD, take, drop, length-take, length-drop}
 use lib.Seq.{getD-take, getD-drop, ext-getD}
-use borrow.Author.Tests.{le-leb, leb-true, ltb-true, lt-ltb}
+use borrow.Author.Tests.{le-leb, ltb-true, lt-ltb}
 use Rattle.pages.specs.Quant.{allTo}
-use Rattle.pages.specs.Bytes.{eqs, zeros, countBytes, countOf, bytesOf, put}
+use Rattle.pages.specs.Bytes.{zeros, countBytes, countOf, bytesOf, put}
 use Rattle.pages.specs.Pad.{pad}
-use Rattle.pages.proofs.Quant.{and-true, all-at, all-more, all-cong, all-each}
-use Rattle.pages.proofs.Bytes.{eqs-refl, zeros-drop}
+use Rattle.pages.proofs.Quant.{and-true, all-at, all-more, all-cong}
+use Rattle.pages.proofs.Bytes.{eqs-refl}
 use Rattle.pages.proofs.Put.{put-length, put-before, put-part, put-in, put-drop, put-after, put-front}
 use Rattle.pages.proofs.Pad.{getD-pad, length-pad, pad-front}
 use Rattle.names.specs.Table.{namesMax}
@@ -45,7 +44,8 @@ pub within-listed : (n : ℕ) (bodies : List ℕ) (k : ℕ) → ((i : ℕ) → i
 unfolding Within pairsIn
 within-listed n bodies zero h q m = absurd (List·Memᴰ·not-nil m)
 within-listed n bodies (suc k) h q m =
-    ⊎-elim (λ o. within-listed n bodies k (λ i l. h i (omega arith)) q o) (λ (o : List·Memᴰ q (pairAt bodies k ∷ [])). subst (λ (r : Pair). (r .symbol < n) × (r .base < n)) (sym (List·Memᴰ·eq-of-singleton o)) (last (h k (omega arith)))) (List·Memᴰ·append-cases (pairsIn bodies k) m)
+    ⊎-elim (λ o. within-listed n bodies k (λ i l. h i (omega arith)) q o)
+    (λ (o : List·Memᴰ q (pairAt bodies k ∷ [])). subst (λ (r : Pair). (r .symbol < n) × (r .base < n)) (sym (List·Memᴰ·eq-of-singleton o)) (last (h k (omega arith)))) (List·Memᴰ·append-cases (pairsIn bodies k) m)
   where
     last : usedAt bodies n k ≡ true → (pairAt bodies k .symbol < n) × (pairAt bodies k .base < n)
     last u =
@@ -85,8 +85,10 @@ module _ (t : ConversionTable) (s f b : ℕ) (sized : length (t .pairs) ≡ pair
 
   new : pairAt (put (t .pairs) (pairBytes * t .count) (bodyOf s f b)) (t .count) ≡ pair s b
   new =
-      let x : getD (put (t .pairs) (pairBytes * t .count) (bodyOf s f b)) (pairBytes * t .count) 0 ≡ s = rw add-zero at (put-in (t .pairs) (pairBytes * t .count) (bodyOf s f b) fits 0 (omega arith)) in
-      let y : getD (put (t .pairs) (pairBytes * t .count) (bodyOf s f b)) (pairBytes * t .count + 1) 0 ≡ b = put-in (t .pairs) (pairBytes * t .count) (bodyOf s f b) fits 1 (omega arith) in
+      let x : getD (put (t .pairs) (pairBytes * t .count) (bodyOf s f b)) (pairBytes * t .count) 0 ≡ s =
+      rw add-zero at (put-in (t .pairs) (pairBytes * t .count) (bodyOf s f b) fits 0 (omega arith)) in
+      let y : getD (put (t .pairs) (pairBytes * t .count) (bodyOf s f b)) (pairBytes * t .count + 1) 0 ≡ b =
+      put-in (t .pairs) (pairBytes * t .count) (bodyOf s f b) fits 1 (omega arith) in
       ap₂ pair x y
 
   -- the pair is listed behind those that were
@@ -119,144 +121,142 @@ module _ (t : ConversionTable) (s f b : ℕ) (sized : length (t .pairs) ≡ pair
 
 -- ---- written into a page
 
-module _ (page : List ℕ) (t : ConversionTable) (n : ℕ) (fm : Form t n) (sized : length (t .pairs) ≡ pairBytes * pairsMax) (room : sizeOf (t .count) ≤ length page) where
-  k : ℕ
-  k = t .count
+module _ (page : List ℕ) (t : ConversionTable) (n : ℕ) (fm : Form t n) (sized : length (t .pairs) ≡ pairBytes * pairsMax) (room : sizeOf (t .count) ≤ length page)
+  where
+    k : ℕ
+    k = t .count
 
-  bodies : List ℕ
-  bodies = take (pairBytes * t .count) (t .pairs)
+    bodies : List ℕ
+    bodies = take (pairBytes * t .count) (t .pairs)
 
-  bodies-length : length bodies ≡ pairBytes * k
-  unfolding bodies k
-  bodies-length = simp length-take (omega (arith, sized, fm .few))
+    bodies-length : length bodies ≡ pairBytes * k
+    unfolding bodies k
+    bodies-length = simp length-take (omega (arith, sized, fm .few))
 
-  parents-length : length (t .parents) ≡ namesMax
-  parents-length = rw (fm .given) (length-parents namesMax (listed t))
+    parents-length : length (t .parents) ≡ namesMax
+    parents-length = rw (fm .given) (length-parents namesMax (listed t))
 
-  one : List ℕ
-  one = put page countBytes bodies
+    one : List ℕ
+    one = put page countBytes bodies
 
-  one-fits : countBytes + length bodies ≤ length page
-  unfolding k
-  one-fits = omega (arith, room, bodies-length)
+    one-fits : countBytes + length bodies ≤ length page
+    unfolding k
+    one-fits = omega (arith, room, bodies-length)
 
-  one-length : length one ≡ length page
-  unfolding one
-  one-length = put-length page countBytes bodies one-fits
+    one-length : length one ≡ length page
+    unfolding one
+    one-length = put-length page countBytes bodies one-fits
 
-  two : List ℕ
-  two = put one (parentsAt k) (t .parents)
+    two : List ℕ
+    two = put one (parentsAt k) (t .parents)
 
-  two-fits : parentsAt k + length (t .parents) ≤ length one
-  unfolding k
-  two-fits = omega (arith, room, parents-length, one-length)
+    two-fits : parentsAt k + length (t .parents) ≤ length one
+    unfolding k
+    two-fits = omega (arith, room, parents-length, one-length)
 
-  two-length : length two ≡ length page
-  unfolding two
-  two-length = put-length one (parentsAt k) (t .parents) two-fits ∙ one-length
+    two-length : length two ≡ length page
+    unfolding two
+    two-length = put-length one (parentsAt k) (t .parents) two-fits ∙ one-length
 
-  after : List ℕ
-  after = put two 0 (bytesOf k)
+    after : List ℕ
+    after = put two 0 (bytesOf k)
 
-  after-fits : 0 + length (bytesOf k) ≤ length two
-  unfolding k
-  after-fits = omega (arith, room, two-length)
+    after-fits : 0 + length (bytesOf k) ≤ length two
+    unfolding k
+    after-fits = omega (arith, room, two-length)
 
-  after-length : length after ≡ length page
-  unfolding after
-  after-length = put-length two 0 (bytesOf k) after-fits ∙ two-length
+    after-length : length after ≡ length page
+    unfolding after
+    after-length = put-length two 0 (bytesOf k) after-fits ∙ two-length
 
-  after-is : withTable page t ≡ after
-  unfolding withTable after two one bodies k
-  after-is = refl
+    after-is : withTable page t ≡ after
+    unfolding withTable after two one bodies k
+    after-is = refl
 
-  after-count : countOf after ≡ k
-  unfolding after
-  after-count =
-      let h : getD (put two 0 (bytesOf k)) 0 0 ≡ k / 256 = put-in two 0 (bytesOf k) after-fits 0 (omega arith) in
-      let l : getD (put two 0 (bytesOf k)) 1 0 ≡ k % 256 = put-in two 0 (bytesOf k) after-fits 1 (omega arith) in
-      omega arith
+    after-count : countOf after ≡ k
+    unfolding after
+    after-count =
+        let h : getD (put two 0 (bytesOf k)) 0 0 ≡ k / 256 = put-in two 0 (bytesOf k) after-fits 0 (omega arith) in
+        let l : getD (put two 0 (bytesOf k)) 1 0 ≡ k % 256 = put-in two 0 (bytesOf k) after-fits 1 (omega arith) in
+        omega arith
 
-  -- the bytes of the pairs
-  after-body : (i : ℕ) → i < pairBytes * k → getD after (countBytes + i) 0 ≡ getD (t .pairs) i 0
-  unfolding after two one bodies
-  after-body i l =
-      put-after two 0 (bytesOf k) after-fits (countBytes + i) (omega arith)
-      ∙ put-before one (parentsAt k) (t .parents) two-fits (countBytes + i) (omega arith)
-      ∙ put-in page countBytes bodies one-fits i (omega (arith, bodies-length))
-      ∙ unfold k in (getD-take (pairBytes * t .count) (t .pairs) i 0 l)
+    -- the bytes of the pairs
+    after-body : (i : ℕ) → i < pairBytes * k → getD after (countBytes + i) 0 ≡ getD (t .pairs) i 0
+    unfolding after two one bodies
+    after-body i l =
+        put-after two 0 (bytesOf k) after-fits (countBytes + i) (omega arith)
+        ∙ put-before one (parentsAt k) (t .parents) two-fits (countBytes + i) (omega arith)
+        ∙ put-in page countBytes bodies one-fits i (omega (arith, bodies-length))
+        ∙ unfold k in (getD-take (pairBytes * t .count) (t .pairs) i 0 l)
 
-  table-body : (i : ℕ) → i < pairBytes * k → getD (tableIn after .pairs) i 0 ≡ getD (t .pairs) i 0
-  unfolding tableIn k
-  table-body i l =
-      let c : countOf after ≡ t .count = after-count in
-      getD-pad (pairBytes * pairsMax) 0 (bodiesIn after) i (omega (arith, fm .few))
-      ∙ getD-take (pairBytes * countOf after) (drop countBytes after) i 0 (omega (arith, c))
-      ∙ getD-drop countBytes after i 0
-      ∙ after-body i l
+    table-body : (i : ℕ) → i < pairBytes * k → getD (tableIn after .pairs) i 0 ≡ getD (t .pairs) i 0
+    unfolding tableIn k
+    table-body i l =
+        let c : countOf after ≡ t .count = after-count in
+        getD-pad (pairBytes * pairsMax) 0 (bodiesIn after) i (omega (arith, fm .few))
+        ∙ getD-take (pairBytes * countOf after) (drop countBytes after) i 0 (omega (arith, c))
+        ∙ getD-drop countBytes after i 0
+        ∙ after-body i l
 
-  table-count : tableIn after .count ≡ t .count
-  unfolding tableIn k
-  table-count = after-count
+    table-count : tableIn after .count ≡ t .count
+    unfolding tableIn k
+    table-count = after-count
 
-  after-listed : listedIn after ≡ listed t
-  unfolding k
-  after-listed = ap (pairsIn (tableIn after .pairs)) table-count ∙ same-pairs (t .count) (tableIn after .pairs) (t .pairs) table-body
+    after-listed : listedIn after ≡ listed t
+    unfolding k
+    after-listed = ap (pairsIn (tableIn after .pairs)) table-count ∙ same-pairs (t .count) (tableIn after .pairs) (t .pairs) table-body
 
-  after-parents : parentsIn after ≡ t .parents
-  unfolding after two
-  after-parents =
-      rw (after-count, put-drop two 0 (bytesOf k) after-fits (parentsAt k) (omega arith)) (put-part one (parentsAt k) (t .parents) two-fits namesMax parents-length)
+    after-parents : parentsIn after ≡ t .parents
+    unfolding after two
+    after-parents =
+        rw (after-count, put-drop two 0 (bytesOf k) after-fits (parentsAt k) (omega arith)) (put-part one (parentsAt k) (t .parents) two-fits namesMax parents-length)
 
-  after-used : allTo (countOf after) (usedAt (tableIn after .pairs) n) ≡ true
-  unfolding k
-  after-used =
-      let same : (i : ℕ) → i < t .count → usedAt (tableIn after .pairs) n i ≡ usedAt (t .pairs) n i =
-      λ i l. ap (bothUsed n) (ap₂ pair (table-body (pairBytes * i) (omega arith)) (table-body (pairBytes * i + 1) (omega arith))) in
-      rw after-count (all-cong (usedAt (tableIn after .pairs) n) (usedAt (t .pairs) n) (t .count) same ∙ fm .used)
+    after-used : allTo (countOf after) (usedAt (tableIn after .pairs) n) ≡ true
+    unfolding k
+    after-used =
+        let same : (i : ℕ) → i < t .count → usedAt (tableIn after .pairs) n i ≡ usedAt (t .pairs) n i =
+        λ i l. ap (bothUsed n) (ap₂ pair (table-body (pairBytes * i) (omega arith)) (table-body (pairBytes * i + 1) (omega arith))) in
+        rw after-count (all-cong (usedAt (tableIn after .pairs) n) (usedAt (t .pairs) n) (t .count) same ∙ fm .used)
 
-  after-form : Form (tableIn after) n
-  after-form = record { few = unfold tableIn in few; given = rw after-listed (unfold tableIn in (after-parents ∙ fm .given)); used = unfold tableIn in after-used }
-    where
-      few : countOf after ≤ pairsMax
-      few = rw after-count (unfold k in (fm .few))
+    after-form : Form (tableIn after) n
+    after-form = record { few = unfold tableIn in few; given = rw after-listed (unfold tableIn in (after-parents ∙ fm .given)); used = unfold tableIn in after-used }
+      where
+        few : countOf after ≤ pairsMax
+        few = rw after-count (unfold k in (fm .few))
 
-  written-after : (i : ℕ) → i < pairBytes * t .count → getD (bodiesIn after) i 0 ≡ getD (t .pairs) i 0
-  unfolding k
-  written-after i l =
-      let c : countOf after ≡ t .count = after-count in
-      getD-take (pairBytes * countOf after) (drop countBytes after) i 0 (omega (arith, c)) ∙ getD-drop countBytes after i 0 ∙ after-body i l
+    written-after : (i : ℕ) → i < pairBytes * t .count → getD (bodiesIn after) i 0 ≡ getD (t .pairs) i 0
+    unfolding k
+    written-after i l =
+        let c : countOf after ≡ t .count = after-count in
+        getD-take (pairBytes * countOf after) (drop countBytes after) i 0 (omega (arith, c)) ∙ getD-drop countBytes after i 0 ∙ after-body i l
 
-  pub written-count : countOf (withTable page t) ≡ t .count
-  unfolding k
-  written-count = rw after-is after-count
+    pub written-count : countOf (withTable page t) ≡ t .count
+    unfolding k
+    written-count = rw after-is after-count
 
-  -- the bytes of its pairs are the table's
-  pub written-bodies : bodiesIn (withTable page t) ≡ take (pairBytes * t .count) (t .pairs)
-  unfolding bodies k
-  written-bodies =
-      let c : countOf after ≡ t .count = after-count in
-      let l : length (bodiesIn after) ≡ pairBytes * t .count = simp (length-take, length-drop) (omega (arith, c, room, after-length)) in
-      rw after-is (ext-getD 0 (bodiesIn after) (take (pairBytes * t .count) (t .pairs)) (l ∙ sym bodies-length)
-      (λ i h. written-after i (omega (arith, l)) ∙ sym (getD-take (pairBytes * t .count) (t .pairs) i 0 (omega (arith, l)))))
+    -- the bytes of its pairs are the table's
+    pub written-bodies : bodiesIn (withTable page t) ≡ take (pairBytes * t .count) (t .pairs)
+    unfolding bodies k
+    written-bodies =
+        let c : countOf after ≡ t .count = after-count in
+        let l : length (bodiesIn after) ≡ pairBytes * t .count = simp (length-take, length-drop) (omega (arith, c, room, after-length)) in
+        rw after-is (ext-getD 0 (bodiesIn after) (take (pairBytes * t .count) (t .pairs)) (l ∙ sym bodies-length)
+        (λ i h. written-after i (omega (arith, l)) ∙ sym (getD-take (pairBytes * t .count) (t .pairs) i 0 (omega (arith, l)))))
 
-  -- the page lists what the table lists
-  pub written-listed : listedIn (withTable page t) ≡ listed t
-  written-listed = rw after-is after-listed
+    -- the page lists what the table lists
+    pub written-listed : listedIn (withTable page t) ≡ listed t
+    written-listed = rw after-is after-listed
 
-  pub written-length : length (withTable page t) ≡ length page
-  written-length = rw after-is after-length
-
-  -- the page is in form, if zeros follow
-  pub written-formed : zeros (drop (sizeOf (t .count)) page) ≡ true → pages.formed (withTable page t) n ≡ true
-  unfolding pages.formed holds k after two one
-  written-formed z =
-      let d : drop (sizeOf k) after ≡ drop (sizeOf k) page =
-      put-drop two 0 (bytesOf k) after-fits (sizeOf k) (omega arith)
-      ∙ put-drop one (parentsAt k) (t .parents) two-fits (sizeOf k) (omega (arith, parents-length))
-      ∙ put-drop page countBytes bodies one-fits (sizeOf k) (omega (arith, bodies-length)) in
-      let r : sizeOf k ≤ length after = omega (arith, room, after-length) in
-      rw (after-is, after-count, le-leb k pairsMax (fm .few), le-leb (sizeOf k) (length after) r, d, z) (form-formed (tableIn after) n after-form)
+    -- the page is in form, if zeros follow
+    pub written-formed : zeros (drop (sizeOf (t .count)) page) ≡ true → pages.formed (withTable page t) n ≡ true
+    unfolding pages.formed holds k after two one
+    written-formed z =
+        let d : drop (sizeOf k) after ≡ drop (sizeOf k) page =
+        put-drop two 0 (bytesOf k) after-fits (sizeOf k) (omega arith)
+        ∙ put-drop one (parentsAt k) (t .parents) two-fits (sizeOf k) (omega (arith, parents-length))
+        ∙ put-drop page countBytes bodies one-fits (sizeOf k) (omega (arith, bodies-length)) in
+        let r : sizeOf k ≤ length after = omega (arith, room, after-length) in
+        rw (after-is, after-count, le-leb k pairsMax (fm .few), le-leb (sizeOf k) (length after) r, d, z) (form-formed (tableIn after) n after-form)
 
 -- the bytes of a table's pairs, with one more
 pub bodies-more : (page : List ℕ) (s f b : ℕ) → Held page → countOf page < pairsMax

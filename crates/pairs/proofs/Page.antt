@@ -1,14 +1,14 @@
 -- The table in a page: its form, and what is written. Assumes nothing.
 use mathlib.Core.Path.{_≡_, refl, sym, _∙_, ap}
-use mathlib.Core.Bool.{Bool, true, false, _&&_, not}
-use mathlib.Core.List.{List, [], _∷_, _++_}
-use Prim.Native.Nat.{ℕ, zero, suc, _+_, _-_, _*_, _<_, _≤_}
+use mathlib.Core.Bool.{true, false}
+use mathlib.Core.List.{List}
+use Prim.Native.Nat.{ℕ, _+_, _-_, _*_, _<_, _≤_}
 use native.Mathlib.Nat.{sub-zero}
 use native.Mathlib.Omega.{arith}
-use lib.Dec.{leb, ltb}
-use lib.ListN.{length, getD, take, drop, replicate, length-take, length-drop}
+use lib.Dec.{leb}
+use lib.ListN.{length, take, drop, replicate, length-take, length-drop}
 use borrow.Author.Tests.{le-leb, lt-leb, leb-true}
-use Rattle.pages.specs.Bytes.{eqs, zeros, countBytes, countOf, bytesOf, put}
+use Rattle.pages.specs.Bytes.{zeros, countBytes, countOf, bytesOf, put}
 use Rattle.pages.specs.Pad.{pad}
 use Rattle.pages.proofs.Quant.{and-true}
 use Rattle.pages.proofs.Bytes.{and-false}
@@ -19,7 +19,7 @@ use Rattle.groups.specs.Groups.{selves}
 use Rattle.groups.proofs.UnionFind.{length-selves}
 use Rattle.pairs.specs.Table.{pairsMax, pairBytes}
 use Rattle.pairs.specs.Table as tables
-use Rattle.pairs.specs.Page.{parentsAt, sizeOf, bodiesIn, parentsIn, tableIn, holds, Held, formed, withTable}
+use Rattle.pairs.specs.Page.{parentsAt, sizeOf, parentsIn, tableIn, holds, Held, formed, withTable}
 use Rattle.pairs.specs.declared.ConversionTable.{ConversionTable}
 use Rattle.pairs.proofs.Table.{Form, form}
 
@@ -67,8 +67,10 @@ table-read page k at e is few room bodies parents eb ep =
     let x : at - countBytes ≡ pairBytes * k = omega arith in
     let y : at + namesMax - at ≡ namesMax = omega arith in
     let lx : length (take (pairBytes * k) (drop countBytes page)) ≤ pairBytes * pairsMax = simp (length-take, length-drop) (omega arith) in
-    let ly : length (take namesMax (drop (parentsAt k) page)) ≡ length (selves 0 namesMax) = simp (length-take, length-drop) (omega (arith, length-selves 0 namesMax)) in
-    let b : bodies ≡ pad (pairBytes * pairsMax) 0 (take (pairBytes * k) (drop countBytes page)) = eb ∙ rw x (put-pad (pairBytes * pairsMax) (take (pairBytes * k) (drop countBytes page)) lx) in
+    let ly : length (take namesMax (drop (parentsAt k) page)) ≡ length (selves 0 namesMax) =
+    simp (length-take, length-drop) (omega (arith, length-selves 0 namesMax)) in
+    let b : bodies ≡ pad (pairBytes * pairsMax) 0 (take (pairBytes * k) (drop countBytes page)) =
+    eb ∙ rw x (put-pad (pairBytes * pairsMax) (take (pairBytes * k) (drop countBytes page)) lx) in
     let p : parents ≡ take namesMax (drop (parentsAt k) page) = ep ∙ rw (y, is) (put-whole (selves 0 namesMax) (take namesMax (drop (parentsAt k) page)) ly) in
     rw (b, p, e)
 
@@ -98,7 +100,8 @@ module _ (page : List ℕ) (n : ℕ) where
 -- ---- a table written
 
 pub table-written : (page : List ℕ) (t : ConversionTable) (at : ℕ) → at ≡ parentsAt (t .count) → (one two three : List ℕ)
-    → one ≡ put page countBytes (take (pairBytes * t .count - 0) (drop 0 (t .pairs))) → two ≡ put one at (t .parents) → three ≡ put two 0 (bytesOf (t .count)) → three ≡ withTable page t
+    → one ≡ put page countBytes (take (pairBytes * t .count - 0) (drop 0 (t .pairs))) → two ≡ put one at (t .parents) → three ≡ put two 0 (bytesOf (t .count))
+    → three ≡ withTable page t
 unfolding withTable
 table-written page t at is one two three a b c = c ∙ rw (b, a, is, sub-zero)
 

@@ -3,12 +3,12 @@
 -- (`page-groups`). Assumes nothing.
 use mathlib.Core.Path.{_≡_, refl, sym, _∙_, ap, subst}
 use mathlib.Core.Logic.{_↔_}
-use mathlib.Core.Bool.{Bool, true, false, _&&_, not, cond}
+use mathlib.Core.Bool.{Bool, true, false, not, cond}
 use mathlib.Core.List.{List, [], _∷_, _++_, append-assoc, append-nil}
 use Prim.Native.Nat.{ℕ, _+_, _*_, _<_, _≤_}
 use native.Mathlib.Omega.{arith}
 use lib.Dec.{leb, ltb}
-use lib.ListN.{length, getD, drop}
+use lib.ListN.{length, drop}
 use lib.Seq.{drop-drop}
 use borrow.Author.Tests.{leb-false, ltb-false, not-true, not-false}
 use Rattle.refusals.specs.Numbers.{isRefused}
@@ -16,7 +16,7 @@ use Rattle.refusals.specs.Lowest.{_when_}
 use Rattle.refusals.specs.declared.Refusal.the-variants.{Broken, Unused, Full}
 use Rattle.refusals.specs.declared.Verdict.the-variants.{Passed}
 use Rattle.refusals.proofs.Lowest.{passed-parts, passed-is, kept}
-use Rattle.pages.specs.Bytes.{zeros, countOf, put}
+use Rattle.pages.specs.Bytes.{zeros, countOf}
 use Rattle.pages.proofs.Quant.{and-true, all-at, all-each}
 use Rattle.pages.proofs.Bytes.{zeros-drop}
 use Rattle.pages.proofs.Pad.{length-pad}
@@ -25,7 +25,7 @@ use Rattle.names.specs.Calls.{lentBroken, usedOf}
 use Rattle.names.proofs.Calls.{used-few}
 use Rattle.groups.specs.Groups.{Pair, pair, Within, Joined, Joining, walk, parentsOf, rootOf}
 use Rattle.groups.proofs.UnionFind.{groups, walk-short}
-use Rattle.pairs.specs.Table.{pairsMax, pairBytes, bodyOf, pairAt, listed, bothUsed, usedAt, insertVerdict, withPair, insertion}
+use Rattle.pairs.specs.Table.{pairsMax, pairBytes, pairAt, listed, bothUsed, usedAt, insertVerdict, withPair, insertion}
 use Rattle.pairs.specs.Table as tables
 use Rattle.pairs.specs.Page.{sizeOf, bodiesIn, parentsIn, tableIn, listedIn, holds, formed, withTable}
 use Rattle.pairs.specs.Calls.{tableBroken, pairVerdict, pageAfter}
@@ -45,12 +45,10 @@ module _ {T R A : Type 0} (after : T → R → T) (accepts : T → R → Bool) (
   run [] t g all = (g, sym (append-nil (holding t)))
   run (r ∷ rs) t g all = go (accepts t r) refl (λ h. run rs (after t r) h (all .1))
     where
-      rest : List A
-      rest = takenBy after accepts adds (after t r) rs
-
       go : (d : Bool) → accepts t r ≡ d
           → (Good (after t r) → Good (afterAll after (after t r) rs) × (holding (afterAll after (after t r) rs) ≡ holding (after t r) ++ takenBy after accepts adds (after t r) rs))
-          → Good (afterAll after (after t r) rs) × (holding (afterAll after (after t r) rs) ≡ holding t ++ (cond d (adds r) [] ++ takenBy after accepts adds (after t r) rs))
+          → Good (afterAll after (after t r) rs)
+          × (holding (afterAll after (after t r) rs) ≡ holding t ++ (cond d (adds r) [] ++ takenBy after accepts adds (after t r) rs))
       go true e ih =
           let n = grows t r g (all .0) e in
           let h = ih (n .0) in
@@ -71,23 +69,30 @@ unfolding insertion
 table-stays t r e =
     sym (kept (insertVerdict t (r .used) (tableAsked r)) (withPair t (r .symbol) (r .factor) (r .base)) t (not-false (isRefused (insertVerdict t (r .used) (tableAsked r))) e))
 
-table-grows : (n : ℕ) (t : ConversionTable) (r : TableRequest) → Whole n t → r .used ≤ n → tableAccepts t r ≡ true → Whole n (tableAfter t r) × (listed (tableAfter t r) ≡ listed t ++ (tableAsked r ∷ []))
+table-grows : (n : ℕ) (t : ConversionTable) (r : TableRequest) → Whole n t → r .used ≤ n → tableAccepts t r ≡ true → Whole n (tableAfter t r)
+    × (listed (tableAfter t r) ≡ listed t ++ (tableAsked r ∷ []))
 unfolding insertVerdict insertion
 table-grows n t r g most e =
-    let v : insertVerdict t (r .used) (tableAsked r) ≡ Passed = passed-is (insertVerdict t (r .used) (tableAsked r)) (not-true (isRefused (insertVerdict t (r .used) (tableAsked r))) e) in
-    let x = passed-parts Broken (not (tables.formed t (r .used))) ((Unused when not (bothUsed (r .used) (tableAsked r))) ∷ (Full when leb pairsMax (t .count)) ∷ []) v in
+    let v : insertVerdict t (r .used) (tableAsked r) ≡ Passed =
+    passed-is (insertVerdict t (r .used) (tableAsked r)) (not-true (isRefused (insertVerdict t (r .used) (tableAsked r))) e) in
+    let x =
+    passed-parts Broken (not (tables.formed t (r .used))) ((Unused when not (bothUsed (r .used) (tableAsked r))) ∷ (Full when leb pairsMax (t .count)) ∷ []) v in
     let y = passed-parts Unused (not (bothUsed (r .used) (tableAsked r))) ((Full when leb pairsMax (t .count)) ∷ []) (x .1) in
     let z = passed-parts Full (leb pairsMax (t .count)) [] (y .1) in
     let few : t .count < pairsMax = leb-false pairsMax (t .count) (z .0) in
     let u = more-used (r .used) n (tableAsked r) most (not-false (bothUsed (r .used) (tableAsked r)) (y .0)) in
     let done : tableAfter t r ≡ withPair t (r .symbol) (r .factor) (r .base) = rw v in
     let grown = withPair t (r .symbol) (r .factor) (r .base) in
-    let made : Whole n grown = (form-formed grown n (form-more t (r .symbol) (r .factor) (r .base) (g .1) few n (form t n (g .0)) u), sized-more t (r .symbol) (r .factor) (r .base) (g .1) few) in
+    let made : Whole n grown =
+    (form-formed grown n (form-more t (r .symbol) (r .factor) (r .base) (g .1) few n (form t n (g .0)) u), sized-more t (r .symbol) (r .factor) (r .base) (g .1) few) in
     (subst (Whole n) (sym done) made, ap listed done ∙ listed-more t (r .symbol) (r .factor) (r .base) (g .1) few)
 
-module _ (n : ℕ) (rs : List TableRequest) (t : ConversionTable) (g : tables.formed t n ≡ true) (bytes : length (t .pairs) ≡ pairBytes * pairsMax) (all : Every (λ (r : TableRequest). r .used ≤ n) rs) where
+module _ (n : ℕ) (rs : List TableRequest) (t : ConversionTable) (g : tables.formed t n ≡ true) (bytes : length (t .pairs) ≡ pairBytes * pairsMax)
+    (all : Every (λ (r : TableRequest). r .used ≤ n) rs) where
   end : Whole n (tableAfterAll t rs) × (listed (tableAfterAll t rs) ≡ tableAcceptedPairs t rs)
-  end = run tableAfter tableAccepts (λ (r : TableRequest). tableAsked r ∷ []) (Whole n) (λ (r : TableRequest). r .used ≤ n) listed table-stays (table-grows n) rs t (g, bytes) all
+  end =
+      run tableAfter tableAccepts (λ (r : TableRequest). tableAsked r ∷ []) (Whole n) (λ (r : TableRequest). r .used ≤ n) listed table-stays (table-grows n) rs t
+      (g, bytes) all
 
   -- the table at the end is in form, and lists the accepted pairs
   pub table-run : (tables.formed (tableAfterAll t rs) n ≡ true) × (listed (tableAfterAll t rs) ≡ tableAcceptedPairs t rs)
@@ -112,7 +117,9 @@ form-all page n few e =
     rw (a .0) (form-formed (tableIn page) namesMax (record {
       few = f .few;
       given = f .given;
-      used = all-each (tableIn page .count) (usedAt (tableIn page .pairs) namesMax) (λ i l. more-used n namesMax (pairAt (tableIn page .pairs) i) few (all-at (usedAt (tableIn page .pairs) n) (tableIn page .count) i (f .used) l));
+      used =
+          all-each (tableIn page .count) (usedAt (tableIn page .pairs) namesMax)
+          (λ i l. more-used n namesMax (pairAt (tableIn page .pairs) i) few (all-at (usedAt (tableIn page .pairs) n) (tableIn page .count) i (f .used) l));
     }))
 
 page-stays : (page : List ℕ) (r : Request) → accepts page r ≡ false → after page r ≡ page
@@ -132,9 +139,11 @@ taken : (page : List ℕ) (r : Request) → accepts page r ≡ true → Taken pa
 unfolding pairVerdict pageAfter
 taken page r e =
     let n = usedOf (r .names) (r .lent) in
-    let v : pairVerdict page (r .names) (r .lent) (asked r) ≡ Passed = passed-is (pairVerdict page (r .names) (r .lent) (asked r)) (not-true (isRefused (pairVerdict page (r .names) (r .lent) (asked r))) e) in
+    let v : pairVerdict page (r .names) (r .lent) (asked r) ≡ Passed =
+    passed-is (pairVerdict page (r .names) (r .lent) (asked r)) (not-true (isRefused (pairVerdict page (r .names) (r .lent) (asked r))) e) in
     let last = (Full when ltb (length page) (sizeOf (countOf page + 1))) ∷ [] in
-    let x = passed-parts Broken (tableBroken page (r .names) (r .lent)) ((Unused when not (bothUsed n (asked r))) ∷ (Full when leb pairsMax (countOf page)) ∷ last) v in
+    let x =
+    passed-parts Broken (tableBroken page (r .names) (r .lent)) ((Unused when not (bothUsed n (asked r))) ∷ (Full when leb pairsMax (countOf page)) ∷ last) v in
     let y = passed-parts Unused (not (bothUsed n (asked r))) ((Full when leb pairsMax (countOf page)) ∷ last) (x .1) in
     let z = passed-parts Full (leb pairsMax (countOf page)) last (y .1) in
     let o = passed-parts Full (ltb (length page) (sizeOf (countOf page + 1))) [] (z .1) in
@@ -174,7 +183,9 @@ module _ (page : List ℕ) (r : Request) (n : ℕ) (g : formed page n ≡ true) 
 
   grown-form : Form grown n
   unfolding grown
-  grown-form = form-more (tableIn page) (r .symbol) (r .factor) (r .base) sized few n (formed-parts page n g .1) (more-used (usedOf (r .names) (r .lent)) n (asked r) (lends (k .named)) (k .used))
+  grown-form =
+      form-more (tableIn page) (r .symbol) (r .factor) (r .base) sized few n (formed-parts page n g .1)
+      (more-used (usedOf (r .names) (r .lent)) n (asked r) (lends (k .named)) (k .used))
 
   grown-sized : length (grown .pairs) ≡ pairBytes * pairsMax
   unfolding grown
@@ -193,14 +204,16 @@ module _ (page : List ℕ) (r : Request) (n : ℕ) (g : formed page n ≡ true) 
 
   -- its pairs are those that there were, and the new one
   pub added-listed : listedIn (after page r) ≡ listedIn page ++ (asked r ∷ [])
-  added-listed = rw done (written-listed page grown n grown-form grown-sized room ∙ unfold grown in (listed-more (tableIn page) (r .symbol) (r .factor) (r .base) sized few))
+  added-listed =
+      rw done (written-listed page grown n grown-form grown-sized room ∙ unfold grown in (listed-more (tableIn page) (r .symbol) (r .factor) (r .base) sized few))
 
   pub added-count : countOf (after page r) ≡ countOf page + 1
   added-count = rw done (written-count page grown n grown-form grown-sized room ∙ grown-count)
 
   -- its bytes are those that there were, and the new one's: the factor's too
   pub added-bodies : bodiesIn (after page r) ≡ bodiesIn page ++ bodyAsked r
-  added-bodies = rw done (written-bodies page grown n grown-form grown-sized room ∙ unfold grown in (bodies-more page (r .symbol) (r .factor) (r .base) (formed-held page n g) (k .few)))
+  added-bodies =
+      rw done (written-bodies page grown n grown-form grown-sized room ∙ unfold grown in (bodies-more page (r .symbol) (r .factor) (r .base) (formed-held page n g) (k .few)))
 
 -- ---- any list of requests whose names are at most n
 
@@ -244,7 +257,8 @@ module _ (rs : List Request) (page : List ℕ) (g : formed page namesMax ≡ tru
       (groups namesMax (acceptedPairs page rs) run-within a b la lb)
 
 -- in a page in form as many steps as there are joining pairs lead to the root
-pub page-short : (page : List ℕ) (j : ℕ) → formed page namesMax ≡ true → Joining [] (listedIn page) j → (s : ℕ) → s < namesMax → walk j (parentsIn page) s ≡ rootOf namesMax (listedIn page) s
+pub page-short : (page : List ℕ) (j : ℕ) → formed page namesMax ≡ true → Joining [] (listedIn page) j → (s : ℕ) → s < namesMax
+    → walk j (parentsIn page) s ≡ rootOf namesMax (listedIn page) s
 unfolding tableIn
 page-short page j g c s l =
     let p : parentsIn page ≡ parentsOf namesMax (listedIn page) = formed-parts page namesMax g .1 .given in

@@ -1,13 +1,12 @@
 -- The table by value: its form and insertion, one law for each return. Assumes nothing.
 use mathlib.Core.Path.{_≡_, refl, sym, _∙_, ap}
-use mathlib.Core.Bool.{Bool, true, false, _&&_, not}
+use mathlib.Core.Bool.{true, false, not}
 use mathlib.Core.List.{List, [], _∷_, _++_}
 use Prim.Native.Nat.{ℕ, zero, suc, _+_, _*_, _<_, _≤_}
 use native.Mathlib.Numerals.{add-one}
-use native.Mathlib.Omega.{arith}
 use lib.Dec.{leb, ltb}
 use lib.ListN.{length, length-append}
-use borrow.Author.Tests.{le-leb, lt-leb, leb-true, lt-ltb, le-ltb, ltb-true, not-true}
+use borrow.Author.Tests.{le-leb, lt-leb, leb-true, lt-ltb, le-ltb}
 use Rattle.refusals.specs.declared.Refusal.{Refusal}
 use Rattle.refusals.specs.declared.Refusal.the-variants.{Broken, Unused, Full}
 use Rattle.refusals.specs.declared.Verdict.the-variants.{Passed, Refused}
@@ -19,7 +18,7 @@ use Rattle.pages.proofs.Quant.{and-true}
 use Rattle.pages.proofs.Bytes.{eqs-true}
 use Rattle.pages.proofs.Put.{put-append}
 use Rattle.names.specs.Table.{namesMax}
-use Rattle.groups.specs.Groups.{Pair, pair, enter, enterAll, selves, parentsOf}
+use Rattle.groups.specs.Groups.{pair, enter, enterAll, selves, parentsOf}
 use Rattle.groups.proofs.Walks.{parents-snoc}
 use Rattle.pairs.specs.Table.{pairsMax, pairBytes, factorAt, bodyOf, pairAt, pairsIn, listed, bothUsed, usedAt, formed, insertVerdict, withPair, insertion}
 use Rattle.pairs.specs.declared.ConversionTable.{ConversionTable}
@@ -87,7 +86,8 @@ form t n e =
 
 -- ---- one more pair
 
-module _ (t : ConversionTable) (s f b : ℕ) (k : ℕ) (is : k ≡ t .count) (fits : pairBytes * k + factorAt + longBytes ≤ length (t .pairs)) (given : t .parents ≡ parentsOf namesMax (listed t)) where
+module _ (t : ConversionTable) (s f b : ℕ) (k : ℕ) (is : k ≡ t .count) (fits : pairBytes * k + factorAt + longBytes ≤ length (t .pairs))
+    (given : t .parents ≡ parentsOf namesMax (listed t)) where
   pub with-pair : (bodies parents : List ℕ)
       → bodies ≡ put (put (t .pairs) (pairBytes * k) (s ∷ b ∷ [])) (pairBytes * k + factorAt) (bigEndian longBytes f)
       → parents ≡ enter k (t .parents) (pair s b)

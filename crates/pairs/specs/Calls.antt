@@ -4,7 +4,7 @@ use mathlib.Core.Bool.{Bool, _||_, not, cond}
 use mathlib.Core.List.{List, [], _∷_}
 use Prim.Native.Nat.{ℕ, _+_, _*_}
 use lib.Dec.{ltb, leb, eqb}
-use lib.ListN.{length, getD, replicate}
+use lib.ListN.{length, replicate}
 use Rattle.refusals.specs.Lowest.{_when_, lowest, unlessRefused}
 use Rattle.refusals.specs.declared.Refusal.the-variants.{Broken, Unused, Full}
 use Rattle.refusals.specs.declared.Verdict.{Verdict}
@@ -56,13 +56,13 @@ unfoldable pub symbolVerdict : List ℕ → List ℕ → Bool → ℕ → Verdic
 symbolVerdict page names lent s = lowest ((Broken when tableBroken page names lent) ∷ (Unused when not (ltb s (usedOf names lent))) ∷ [])
 
 -- a root, or the refusal
-abbrev pub rooted : Verdict → ℕ → Root
-rooted Passed s = Root.At s
-rooted (Refused r) s = Root.Refused r
+abbrev pub givenRoot : Verdict → ℕ → Root
+givenRoot Passed s = Root.At s
+givenRoot (Refused r) s = Root.Refused r
 
 -- the root of a symbol (`canonical`)
 unfoldable pub rootAnswer : List ℕ → List ℕ → Bool → ℕ → Root
-rootAnswer page names lent s = rooted (symbolVerdict page names lent s) (rootOf namesMax (listedIn page) s)
+rootAnswer page names lent s = givenRoot (symbolVerdict page names lent s) (rootOf namesMax (listedIn page) s)
 
 -- has pair i of bodies this symbol
 abbrev pub isOf : List ℕ → ℕ → ℕ → Bool
@@ -81,10 +81,10 @@ abbrev pub factorIn : List ℕ → ℕ → Factor
 factorIn page s = firstFactor (bodiesIn page) (countOf page) s
 
 -- a factor, or the refusal
-abbrev pub factored : Verdict → Factor → Factor
-factored Passed f = f
-factored (Refused r) f = Factor.Refused r
+abbrev pub givenFactor : Verdict → Factor → Factor
+givenFactor Passed f = f
+givenFactor (Refused r) f = Factor.Refused r
 
 -- the first factor of a symbol, with its base
 unfoldable pub factorAnswer : List ℕ → List ℕ → Bool → ℕ → Factor
-factorAnswer page names lent s = factored (symbolVerdict page names lent s) (factorIn page s)
+factorAnswer page names lent s = givenFactor (symbolVerdict page names lent s) (factorIn page s)

@@ -13,7 +13,6 @@ ghost use Prim.Native.Nat.{_+_, _*_, _≤_, _<_};
 ghost use lib.ListN.{length, replicate};
 ghost use Rattle.refusals.specs.declared.Verdict.{Verdict};
 ghost use Rattle.pages.specs.Quant.{allTo, firstTo};
-ghost use Rattle.pages.specs.Bytes.{countOf};
 ghost use Rattle.names.specs.Table.{namesMax};
 ghost use Rattle.groups.specs.Groups.{pair, parentsOf};
 ghost use Rattle.pairs.specs.Table.{pairsMax, pairBytes, pairsIn, freshTable, bothUsed, usedAt, insertion, withPair};

@@ -12,7 +12,7 @@ use lib.Signed.{mag}
 use mir.Syntax.{w16}
 use mir.Val.{SFits}
 use borrow.Author.Tests.{ltb-true}
-use Rattle.units.specs.Unit.{exponentMax, placesMax, Term, outside, ordered, formed, part, exponent}
+use Rattle.units.specs.Unit.{exponentMax, placesMax, Term, outside, formed, part, exponent}
 use Rattle.units.specs.Product.{anyOutside}
 use Rattle.units.proofs.Signed.{small}
 use Rattle.units.proofs.Form.{formed-length, formed-ordered}

@@ -1,10 +1,9 @@
 -- What the calls for group sums and convertibility come to, one law for each return. Assumes nothing.
-use mathlib.Core.Path.{_≡_, refl, sym, _∙_, ap, fun-ext}
-use mathlib.Core.Bool.{Bool, true, false, _&&_, not, cond}
+use mathlib.Core.Path.{_≡_, refl, sym, fun-ext}
+use mathlib.Core.Bool.{Bool, true, false, _&&_, not}
 use mathlib.Core.List.{List, [], _∷_}
-use Prim.Native.Nat.{ℕ, _<_, _≤_}
+use Prim.Native.Nat.{ℕ}
 use native.Mathlib.Omega.{arith}
-use lib.ListN.{length}
 use borrow.Author.Tests.{not-false}
 use Rattle.refusals.specs.Numbers.{isRefused}
 use Rattle.refusals.specs.Lowest.{_when_}
@@ -14,7 +13,6 @@ use Rattle.refusals.specs.declared.Verdict.{Verdict}
 use Rattle.refusals.specs.declared.Verdict.the-variants.{Passed, Refused}
 use Rattle.refusals.proofs.Lowest.{first-holds, passed-parts}
 use Rattle.pages.specs.Bytes.{countOf}
-use Rattle.pages.proofs.Bytes.{and-false}
 use Rattle.pages.proofs.Quant.{and-true}
 use Rattle.names.specs.Table.{namesMax}
 use Rattle.names.specs.Calls.{lentBroken, usedOf}
@@ -40,7 +38,8 @@ use Rattle.sums.specs.declared.Conversion.{Conversion}
 module _ (page names : List ℕ) (lent : Bool) (a b : Unit) where
   pub units-broken : tableBroken page names lent ≡ true → Refused Broken ≡ unitsVerdict page names lent (a ∷ b ∷ [])
   unfolding unitsVerdict
-  units-broken t = sym (rw t (first-holds Broken ((Unused when not (allUsed (usedOf names lent) (a ∷ b ∷ []))) ∷ (BadUnit when not (allFormed (a ∷ b ∷ []))) ∷ []) refl))
+  units-broken t =
+      sym (rw t (first-holds Broken ((Unused when not (allUsed (usedOf names lent) (a ∷ b ∷ []))) ∷ (BadUnit when not (allFormed (a ∷ b ∷ []))) ∷ []) refl))
 
   module _ (t : tableBroken page names lent ≡ false) where
     unused : allUsed (usedOf names lent) (a ∷ b ∷ []) ≡ false → Refused Unused ≡ unitsVerdict page names lent (a ∷ b ∷ [])
@@ -75,7 +74,9 @@ module _ (page names : List ℕ) (lent : Bool) (a b : Unit) where
     rest : (tableBroken page names lent ≡ false) × (allFormed (a ∷ b ∷ []) ≡ true)
     unfolding unitsVerdict
     rest =
-        let x = passed-parts Broken (tableBroken page names lent) ((Unused when not (allUsed (usedOf names lent) (a ∷ b ∷ []))) ∷ (BadUnit when not (allFormed (a ∷ b ∷ []))) ∷ []) v in
+        let x =
+        passed-parts Broken (tableBroken page names lent)
+        ((Unused when not (allUsed (usedOf names lent) (a ∷ b ∷ []))) ∷ (BadUnit when not (allFormed (a ∷ b ∷ []))) ∷ []) v in
         let y = passed-parts Unused (not (allUsed (usedOf names lent) (a ∷ b ∷ []))) ((BadUnit when not (allFormed (a ∷ b ∷ []))) ∷ []) (x .1) in
         let z = passed-parts BadUnit (not (allFormed (a ∷ b ∷ []))) [] (y .1) in
         (x .0, not-false (allFormed (a ∷ b ∷ [])) (z .0))
@@ -119,18 +120,21 @@ module _ (page names : List ℕ) (lent : Bool) (u : Unit) where
     unfolding sumsAnswer
     sums-refused h = rw (← twice, ← is) (go v h)
       where
-        go : (v : Verdict) → isRefused v ≡ true → _≡_ {A = SumsResult} (record { verdict = v; sums = sumsOf [] }) (summed v (groupSums namesMax (rootsIn page) (termsOf u)))
+        go : (v : Verdict) → isRefused v ≡ true
+            → _≡_ {A = SumsResult} (record { verdict = v; sums = sumsOf [] }) (summed v (groupSums namesMax (rootsIn page) (termsOf u)))
         go Passed h = let z : _≡_ {A = ℕ} 0 1 = cc in absurd (omega arith)
         go (Refused r) h = refl
 
-    pub sums-given : v ≡ Passed → (root : ℕ → ℕ) → ((s : ℕ) → root s ≡ rootsIn page s) → _≡_ {A = SumsResult} (record { verdict = v; sums = sumsOf (groupSums namesMax root (termsOf u)) }) (sumsAnswer page names lent u)
+    pub sums-given : v ≡ Passed → (root : ℕ → ℕ) → ((s : ℕ) → root s ≡ rootsIn page s)
+        → _≡_ {A = SumsResult} (record { verdict = v; sums = sumsOf (groupSums namesMax root (termsOf u)) }) (sumsAnswer page names lent u)
     unfolding sumsAnswer
     sums-given p root same = let e : root ≡ rootsIn page = fun-ext same in rw (← twice, ← is, p, e)
 
 -- ---- convertible or not
 
 module _ (page names : List ℕ) (lent : Bool) (left right : MaybeUnit) where
-  pub convert-refused : (r : Refusal) → Refused r ≡ unitsVerdict page names lent (counted left ∷ counted right ∷ []) → Conversion.Refused r ≡ convertAnswer page names lent left right
+  pub convert-refused : (r : Refusal) → Refused r ≡ unitsVerdict page names lent (counted left ∷ counted right ∷ [])
+      → Conversion.Refused r ≡ convertAnswer page names lent left right
   unfolding convertAnswer
   convert-refused r v = rw (← v)
 

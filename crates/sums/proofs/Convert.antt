@@ -5,13 +5,11 @@ use mathlib.Core.Path.{_≡_, refl, sym, ap, ap₂, subst, _∙_}
 use mathlib.Core.Logic.{_↔_}
 use mathlib.Core.Bool.{Bool, true, false}
 use mathlib.Core.List.{List, [], _∷_}
-use Prim.Native.Nat.{ℕ, zero, suc, _<_}
+use Prim.Native.Nat.{ℕ, _<_}
 use native.Mathlib.Decide.{ℕ-discrete}
-use native.Mathlib.Omega.{arith}
 use lib.Dec.{T}
 use lib.IntN.{ℤ, pos, negsuc, _+ℤ_, +ℤ-idl}
 use borrow.Author.Tests.{eqb-true, eq-eqb, ne-eqb}
-use Rattle.pages.specs.Quant.{allTo}
 use Rattle.pages.proofs.Quant.{all-at, all-each}
 use Rattle.units.specs.Unit.{Term, term, exponent, inUse}
 use Rattle.units.proofs.Order.{part-other}
@@ -58,7 +56,8 @@ module _ (n : ℕ) (root : ℕ → ℕ) (xs ys : List Term) where
   )
 
 -- a test that says yes exactly where the group sums are the same is the test for convertible
-pub same-convertible : (n : ℕ) (root : ℕ → ℕ) (xs ys : List Term) (b : Bool) → ((b ≡ true) ↔ (groupSums n root xs ≡ groupSums n root ys)) → b ≡ convertible n root xs ys
+pub same-convertible : (n : ℕ) (root : ℕ → ℕ) (xs ys : List Term) (b : Bool) → ((b ≡ true) ↔ (groupSums n root xs ≡ groupSums n root ys))
+    → b ≡ convertible n root xs ys
 same-convertible n root xs ys b e = go b (convertible n root xs ys) (λ h. convertible-sums n root xs ys .1 (e .0 h)) (λ h. e .1 (convertible-sums n root xs ys .0 h))
   where
     go : (b d : Bool) → (b ≡ true → d ≡ true) → (d ≡ true → b ≡ true) → b ≡ d

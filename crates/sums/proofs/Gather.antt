@@ -134,7 +134,8 @@ module _ (s : ℕ) (u : Unit) (sum : ℤ) (i : ℕ) (k : Summing s u sum i) wher
       i-in = omega arith;
       whole =
           ap (λ z. z +ℤ exponent s (termsFrom u (i + 1))) q
-          ∙ ap (λ z. sum +ℤ z) (sym (ap (λ z. z +ℤ exponent s (termsFrom u (i + 1))) (part-other s (term (symAt (placesOf u) i) (expAt (placesOf u) i)) (λ e. n (sym e))) ∙ +ℤ-idl (exponent s (termsFrom u (i + 1)))))
+          ∙ ap (λ z. sum +ℤ z)
+          (sym (ap (λ z. z +ℤ exponent s (termsFrom u (i + 1))) (part-other s (term (symAt (placesOf u) i) (expAt (placesOf u) i)) (λ e. n (sym e))) ∙ +ℤ-idl (exponent s (termsFrom u (i + 1)))))
           ∙ opened;
       bound = rw q (omega (arith, k .bound));
       inside = ahead .1;

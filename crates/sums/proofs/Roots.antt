@@ -44,7 +44,8 @@ module _ (root : ℕ → ℕ) (u : Unit) where
           done = k .done ++ (x ∷ []);
           held = e ∙ grown v (x .symbol) (x .exp) (k .done) (k .held);
           size = length-append (k .done) (x ∷ []) ∙ ap (λ m. m + 1) (k .size);
-          whole = append-assoc (k .done) (x ∷ []) (rooted root (termsFrom u (i + 1))) ∙ ap (λ t. k .done ++ rooted root t) (sym (from-step (placesOf u) i h)) ∙ k .whole;
+          whole =
+              append-assoc (k .done) (x ∷ []) (rooted root (termsFrom u (i + 1))) ∙ ap (λ t. k .done ++ rooted root t) (sym (from-step (placesOf u) i h)) ∙ k .whole;
           i-in = omega arith;
         }
 

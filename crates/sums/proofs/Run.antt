@@ -4,12 +4,12 @@
 use mathlib.Core.Path.{_≡_, refl, subst}
 use mathlib.Core.Logic.{_↔_}
 use mathlib.Core.Bool.{Bool, true, false, cond}
-use mathlib.Core.List.{List, [], _∷_, _++_}
+use mathlib.Core.List.{List, [], _∷_}
 use Prim.Native.Nat.{ℕ}
 use native.Mathlib.Omega.{arith}
 use Rattle.refusals.specs.declared.Verdict.the-variants.{Passed}
 use Rattle.names.specs.Table.{namesMax}
-use Rattle.units.specs.Unit.{placesMax, Term, inUse}
+use Rattle.units.specs.Unit.{placesMax, inUse}
 use Rattle.units.specs.Unit as units
 use Rattle.units.specs.Calls.{termsOf}
 use Rattle.units.specs.declared.Unit.{Unit}
@@ -34,7 +34,8 @@ formed-used : (u : Unit) → units.formed placesMax namesMax (termsOf u) ≡ tru
 formed-used u f = ordered-used namesMax 0 (termsOf u) (formed-ordered placesMax namesMax (termsOf u) f)
 
 module _ (page names : List ℕ) (lent : Bool) (left right : MaybeUnit) (v : unitsVerdict page names lent (counted left ∷ counted right ∷ []) ≡ Passed) where
-  answer-is : (convertAnswer page names lent left right ≡ Conversion.Yes) ↔ (convertible namesMax (rootsIn page) (termsOf (counted left)) (termsOf (counted right)) ≡ true)
+  answer-is : (convertAnswer page names lent left right ≡ Conversion.Yes)
+      ↔ (convertible namesMax (rootsIn page) (termsOf (counted left)) (termsOf (counted right)) ≡ true)
   unfolding convertAnswer
   answer-is = rw v (answer-yes (convertible namesMax (rootsIn page) (termsOf (counted left)) (termsOf (counted right))))
 
@@ -51,7 +52,8 @@ module _ (page names : List ℕ) (lent : Bool) (left right : MaybeUnit) (v : uni
 -- after any list of insertions: of the accepted pairs
 pub run-converts : (rs : List Request) (page names : List ℕ) (lent : Bool) (left right : MaybeUnit)
     → formed page namesMax ≡ true → unitsVerdict (pageAfterAll page rs) names lent (counted left ∷ counted right ∷ []) ≡ Passed
-    → (convertAnswer (pageAfterAll page rs) names lent left right ≡ Conversion.Yes) ↔ SameSums namesMax (acceptedPairs page rs) (termsOf (counted left)) (termsOf (counted right))
+    → (convertAnswer (pageAfterAll page rs) names lent left right ≡ Conversion.Yes)
+    ↔ SameSums namesMax (acceptedPairs page rs) (termsOf (counted left)) (termsOf (counted right))
 run-converts rs page names lent left right g v =
     subst (λ ps. (convertAnswer (pageAfterAll page rs) names lent left right ≡ Conversion.Yes) ↔ SameSums namesMax ps (termsOf (counted left)) (termsOf (counted right)))
     (run-listed rs page g) (converts (pageAfterAll page rs) names lent left right v)

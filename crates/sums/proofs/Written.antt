@@ -1,21 +1,20 @@
 -- Numbers written down as terms: zeros are left out, and sums of terms are no more than the terms. For any
 -- number of symbols. Assumes nothing.
-use mathlib.Core.Path.{_≡_, refl, sym, ap, ap₂, _∙_}
-use mathlib.Core.Logic.{_⊎_, inl, inr, ⊎-elim}
+use mathlib.Core.Path.{_≡_, refl, ap, ap₂, _∙_}
+use mathlib.Core.Logic.{_⊎_, inl, inr}
 use mathlib.Core.Bool.{Bool, true, false, cond}
 use mathlib.Core.List.{List, [], _∷_, _++_, append-nil}
 use Prim.Native.Nat.{ℕ, zero, suc, _+_, _-_, _≤_, _<_}
-use native.Mathlib.Nat.{add-zero, add-suc, not-suc-le-zero, le-of-suc-le-suc, eq-or-lt-of-le}
+use native.Mathlib.Nat.{add-zero, add-suc}
 use native.Mathlib.Decide.{ℕ-discrete}
 use native.Mathlib.Omega.{arith}
 use lib.Dec.{ltb}
 use lib.ListN.{length, length-append}
-use lib.IntN.{ℤ, pos, _+ℤ_, +ℤ-idl, +ℤ-idr, +ℤ-assoc}
+use lib.IntN.{ℤ, pos, _+ℤ_}
 use borrow.Author.Tests.{lt-ltb, le-ltb, ltb-true}
-use Rattle.units.specs.Unit.{Term, term, isZero, part, exponent}
+use Rattle.units.specs.Unit.{Term, term, isZero, exponent}
 use Rattle.units.specs.Product.{power, written}
-use Rattle.units.proofs.Signed.{zero-is}
-use Rattle.units.proofs.Order.{part-same, part-other}
+use Rattle.units.proofs.Order.{part-other}
 
 -- numbers that agree below n are written down alike
 pub written-agree : (n : ℕ) (f h : ℕ → ℤ) → ((s : ℕ) → s < n → f s ≡ h s) → written n f ≡ written n h

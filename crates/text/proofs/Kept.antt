@@ -2,14 +2,13 @@
 use mathlib.Core.Path.{_≡_, refl, _∙_}
 use mathlib.Core.Bool.{Bool, true, false, cond}
 use mathlib.Core.List.{List, [], _∷_}
-use Prim.Native.Nat.{ℕ, suc, _+_}
+use Prim.Native.Nat.{ℕ, _+_}
 use native.Mathlib.Nat.{zero-add}
 use native.Mathlib.Omega.{arith}
 use lib.ListN.{length}
 use Rattle.names.specs.Table.{nameAt}
-use Rattle.units.specs.Unit.{Term, outside, ordered, inUse}
+use Rattle.units.specs.Unit.{Term, outside, inUse}
 use Rattle.units.specs.Product.{anyOutside}
-use Rattle.units.proofs.Form.{ordered-parts}
 use Rattle.order.specs.Order.{comes, place, placed, byName}
 use Rattle.order.proofs.Order.{place-length, place-in-use}
 use Rattle.units.proofs.Order.{or-both}

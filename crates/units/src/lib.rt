@@ -138,7 +138,7 @@ fn joined_to(w: Sum, s: Symbol, g: i16) -> Sum
     pushed(w, s, g)
 }
 
-// The unit with one term more at its end, in order or not, for crates above.
+// The unit with one term more at its end, in order or not, for crates above (`unit_form` is the entry call).
 pub fn with_term(u: Unit, s: Symbol, e: i16) -> Unit
     requires { ⌜ u .count < placesMax ⌝ }
     ensures { λ r. ⌜ r ≡ withTerm u s e ⌝ }

@@ -1,9 +1,8 @@
 -- `groups::root` meets its contract. Assumes nothing.
-use Prim.Native.Nat.{ℕ, _+_, _-_, _≤_}
-use mathlib.Core.Path.{_≡_, sym, _∙_, ap}
+use Prim.Native.Nat.{_-_, _≤_}
+use mathlib.Core.Path.{_≡_, sym, _∙_}
 use native.Mathlib.Omega.{arith}
 use native.Mathlib.Nat.{sub-zero}
-use lib.ListN.{getD}
 use denote.Ref.{now}
 use Rattle.groups.specs.Groups.{walk}
 use Rattle.groups.proofs.UnionFind.{walk-stays}

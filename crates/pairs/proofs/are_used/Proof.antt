@@ -1,5 +1,4 @@
 -- `pairs::are_used` meets its contract. Assumes nothing.
-use mathlib.Core.Path.{sym}
 use Rattle.pairs.proofs.Table.{symbol-unused, base-decides}
 use borrow.Author.Needs.{needs}
 use borrow.Author.Needs.{needs}
@@ -11,14 +10,16 @@ symbol-index-requires c κs = search needs
 
 returns : tie.Need-returns
 returns c =
-    symbol-unused (c .before .before .args .symbol) (c .before .before .args .base) (c .before .before .args .n) (rw (c .before .symbol-index .ensures .0) at (c .if1 .taken))
+    symbol-unused (c .before .before .args .symbol) (c .before .before .args .base) (c .before .before .args .n)
+    (rw (c .before .symbol-index .ensures .0) at (c .if1 .taken))
 
 symbol-index-requires-2 : tie.Need-symbol-index-requires-2
 symbol-index-requires-2 c κs = search needs
 
 returns-2 : tie.Need-returns-2
 returns-2 c =
-    rw (c .symbol-index2 .ensures .0) (base-decides (c .before .before .before .args .symbol) (c .before .before .before .args .base) (c .before .before .before .args .n) (rw (c .before .before .symbol-index .ensures .0) at (c .before .if1 .left)))
+    rw (c .symbol-index2 .ensures .0)
+    (base-decides (c .before .before .before .args .symbol) (c .before .before .before .args .base) (c .before .before .before .args .n) (rw (c .before .before .symbol-index .ensures .0) at (c .before .if1 .left)))
 
 pub are-used-spec : {M : Type 1} → statement M
 are-used-spec =

@@ -1,5 +1,5 @@
 -- `pairs::canonical` meets its contract. Assumes nothing.
-use mathlib.Core.Path.{_≡_, sym, _∙_}
+use mathlib.Core.Path.{sym, _∙_}
 use native.Mathlib.Omega.{arith}
 use denote.Ref.{now}
 use Rattle.pairs.proofs.Page.{formed-held}

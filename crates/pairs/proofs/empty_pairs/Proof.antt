@@ -1,6 +1,5 @@
 -- `pairs::empty_pairs` meets its contract. Assumes nothing.
-use mathlib.Core.Path.{_≡_, _∙_}
-use native.Mathlib.Omega.{arith}
+use mathlib.Core.Path.{_∙_}
 use denote.Ref.{now}
 use Rattle.pairs.proofs.Calls.{empty-short, empty-made}
 use borrow.Author.Needs.{needs}
@@ -31,7 +30,9 @@ same-length c = search needs
 
 returns-2 : tie.Need-returns-2
 returns-2 c =
-    let m = empty-made (now (c .before .before .before .before .before .before .before .before .before .before .before .before .before .args .page)) (rw (c .before .before .before .before .before .before .before .before .before .before .before .size-of .ensures) at (c .before .before .before .before .before .before .before .before .before .before .if1 .left)) in
+    let m =
+    empty-made (now (c .before .before .before .before .before .before .before .before .before .before .before .before .before .args .page))
+    (rw (c .before .before .before .before .before .before .before .before .before .before .before .size-of .ensures) at (c .before .before .before .before .before .before .before .before .before .before .if1 .left)) in
     (m .0, c .before .before .put-bytes .ensures ∙ rw (c .before .before .before .before .before .before .before .clear .ensures, c .before .before .before .before .before .before .before .before .before .own-parents .ensures) (m .1))
 
 pub empty-pairs-spec : {M : Type 1} → statement M

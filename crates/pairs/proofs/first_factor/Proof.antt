@@ -1,6 +1,5 @@
 -- `pairs::first_factor` meets its contract. Assumes nothing.
-use mathlib.Core.Path.{_≡_, sym, _∙_, ap}
-use Prim.Native.Nat.{ℕ, _+_, _*_}
+use mathlib.Core.Path.{sym, _∙_}
 use native.Mathlib.Omega.{arith}
 use denote.Ref.{now}
 use Rattle.names.specs.Calls.{usedOf}
@@ -73,16 +72,26 @@ shared-slice-read-t20 c = search needs
 returns-2 : tie.Need-returns-2
 returns-2 c =
     let a = c .before .before .before .before .before .before .before .before .before .before .before .before .args in
-    let v = sym (c .before .before .before .before .before .before .before .enum-told .given .1) ∙ c .before .before .before .before .before .before .before .before .before .symbol-verdict .ensures in
-    let e = bodies-read (now (a .page)) (c .before .before .before .before .before .before .count .result) (c .before .before .before .before .before .parents-at .result) (c .before .before .before .before .before .before .count .ensures .0) (c .before .before .before .before .before .parents-at .ensures) in
-    rw (c .before .long .ensures, e) (factor-found (now (a .page)) (now (a .names)) (a .lent) (a .symbol) v (c .before .before .before .before .before .before .count .result) (c .before .before .before .before .before .before .count .ensures .0) (c .before .before .before .find-symbol .result) (rw e at (c .before .before .before .find-symbol .ensures)) (c .before .before .if1 .taken))
+    let v =
+    sym (c .before .before .before .before .before .before .before .enum-told .given .1)
+    ∙ c .before .before .before .before .before .before .before .before .before .symbol-verdict .ensures in
+    let e =
+    bodies-read (now (a .page)) (c .before .before .before .before .before .before .count .result)
+    (c .before .before .before .before .before .parents-at .result) (c .before .before .before .before .before .before .count .ensures .0)
+    (c .before .before .before .before .before .parents-at .ensures) in
+    rw (c .before .long .ensures, e)
+    (factor-found (now (a .page)) (now (a .names)) (a .lent) (a .symbol) v (c .before .before .before .before .before .before .count .result) (c .before .before .before .before .before .before .count .ensures .0) (c .before .before .before .find-symbol .result) (rw e at (c .before .before .before .find-symbol .ensures)) (c .before .before .if1 .taken))
 
 returns-3 : tie.Need-returns-3
 returns-3 c =
     let a = c .before .before .before .before .before .before .before .before .before .before .args in
-    let v = sym (c .before .before .before .before .before .enum-told .given .1) ∙ c .before .before .before .before .before .before .before .symbol-verdict .ensures in
-    let e = bodies-read (now (a .page)) (c .before .before .before .before .count .result) (c .before .before .before .parents-at .result) (c .before .before .before .before .count .ensures .0) (c .before .before .before .parents-at .ensures) in
-    factor-absent (now (a .page)) (now (a .names)) (a .lent) (a .symbol) v (c .before .before .before .before .count .result) (c .before .before .before .before .count .ensures .0) (c .before .find-symbol .result) (rw e at (c .before .find-symbol .ensures)) (c .if1 .left)
+    let v =
+    sym (c .before .before .before .before .before .enum-told .given .1) ∙ c .before .before .before .before .before .before .before .symbol-verdict .ensures in
+    let e =
+    bodies-read (now (a .page)) (c .before .before .before .before .count .result) (c .before .before .before .parents-at .result)
+    (c .before .before .before .before .count .ensures .0) (c .before .before .before .parents-at .ensures) in
+    factor-absent (now (a .page)) (now (a .names)) (a .lent) (a .symbol) v (c .before .before .before .before .count .result)
+    (c .before .before .before .before .count .ensures .0) (c .before .find-symbol .result) (rw e at (c .before .find-symbol .ensures)) (c .if1 .left)
 
 pub first-factor-spec : {M : Type 1} → statement M
 first-factor-spec =

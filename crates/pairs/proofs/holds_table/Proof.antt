@@ -21,14 +21,17 @@ size-of-requires c κs = search needs
 
 returns-3 : tie.Need-returns-3
 returns-3 c =
-    held-cut (now (c .before .before .before .before .before .before .args .page)) (c .before .before .before .count .result) (c .before .before .before .count .ensures .0) (c .before .before .if2 .left) (rw (c .before .size-of .ensures) at (c .if3 .taken))
+    held-cut (now (c .before .before .before .before .before .before .args .page)) (c .before .before .before .count .result)
+    (c .before .before .before .count .ensures .0) (c .before .before .if2 .left) (rw (c .before .size-of .ensures) at (c .if3 .taken))
 
 zeros-from-requires : tie.Need-zeros-from-requires
 zeros-from-requires c κs = search needs
 
 returns-4 : tie.Need-returns-4
 returns-4 c =
-    c .zeros-from .ensures ∙ rw (c .before .before .size-of .ensures) (held-rest (now (c .before .before .before .before .before .before .before .args .page)) (c .before .before .before .before .count .result) (c .before .before .before .before .count .ensures .0) (c .before .before .before .if2 .left) (rw (c .before .before .size-of .ensures) at (c .before .if3 .left)))
+    c .zeros-from .ensures
+    ∙ rw (c .before .before .size-of .ensures)
+    (held-rest (now (c .before .before .before .before .before .before .before .args .page)) (c .before .before .before .before .count .result) (c .before .before .before .before .count .ensures .0) (c .before .before .before .if2 .left) (rw (c .before .before .size-of .ensures) at (c .before .if3 .left)))
 
 pub holds-table-spec : {M : Type 1} → statement M
 holds-table-spec =

@@ -1,5 +1,5 @@
 -- `pairs::insert_pair` meets its contract. Assumes nothing.
-use mathlib.Core.Path.{_≡_, sym, _∙_}
+use mathlib.Core.Path.{sym, _∙_}
 use native.Mathlib.Omega.{arith}
 use denote.Ref.{now}
 use borrow.Author.Tests.{not-true, not-false}
@@ -36,7 +36,8 @@ in-use-requires c κs = sym (c .before .before .before .before .is-broken .ensur
 
 table-in-requires : tie.Need-table-in-requires
 table-in-requires c κs =
-    held-parts (now (c .before .before .before .before .before .before .before .before .before .args .page)) (sym (c .before .before .before .holds-table .ensures) ∙ not-false (c .before .before .before .holds-table .result) (c .before .before .if2 .left))
+    held-parts (now (c .before .before .before .before .before .before .before .before .before .args .page))
+    (sym (c .before .before .before .holds-table .ensures) ∙ not-false (c .before .before .before .holds-table .result) (c .before .before .if2 .left))
 
 inserted-requires : tie.Need-inserted-requires
 inserted-requires c κs = search needs
@@ -50,17 +51,30 @@ same-length-2 c = search needs
 returns-3 : tie.Need-returns-3
 returns-3 c =
     let a = c .before .before .before .before .before .before .before .before .before .before .before .before .before .args in
-    let l = sym (c .before .before .before .before .before .before .before .before .before .before .is-broken .ensures) ∙ c .before .before .before .before .before .before .before .before .before .if1 .left in
-    let h = sym (c .before .before .before .before .before .before .before .holds-table .ensures) ∙ not-false (c .before .before .before .before .before .before .before .holds-table .result) (c .before .before .before .before .before .before .if2 .left) in
-    let o = rw (c .before .before .before .table-in .ensures, c .before .before .before .before .before .in-use .ensures .0) at (c .before .before .inserted .ensures) in
-    pair-refused (now (a .page)) (now (a .names)) (a .lent) (a .symbol) (a .factor) (a .base) l h (c .before .before .inserted .result) o (sym (c .before .is-refused .ensures) ∙ c .if3 .taken)
+    let l =
+    sym (c .before .before .before .before .before .before .before .before .before .before .is-broken .ensures)
+    ∙ c .before .before .before .before .before .before .before .before .before .if1 .left in
+    let h =
+    sym (c .before .before .before .before .before .before .before .holds-table .ensures)
+    ∙ not-false (c .before .before .before .before .before .before .before .holds-table .result) (c .before .before .before .before .before .before .if2 .left)
+    in
+    let o =
+    rw (c .before .before .before .table-in .ensures, c .before .before .before .before .before .in-use .ensures .0) at (c .before .before .inserted .ensures) in
+    pair-refused (now (a .page)) (now (a .names)) (a .lent) (a .symbol) (a .factor) (a .base) l h (c .before .before .inserted .result) o
+    (sym (c .before .is-refused .ensures) ∙ c .if3 .taken)
 
 size-of-requires : tie.Need-size-of-requires
 size-of-requires c κs =
     let a = c .before .before .before .before .before .before .before .before .before .before .before .before .before .before .args in
-    let l = sym (c .before .before .before .before .before .before .before .before .before .before .before .is-broken .ensures) ∙ c .before .before .before .before .before .before .before .before .before .before .if1 .left in
-    let h = sym (c .before .before .before .before .before .before .before .before .holds-table .ensures) ∙ not-false (c .before .before .before .before .before .before .before .before .holds-table .result) (c .before .before .before .before .before .before .before .if2 .left) in
-    let o = rw (c .before .before .before .before .table-in .ensures, c .before .before .before .before .before .before .in-use .ensures .0) at (c .before .before .before .inserted .ensures) in
+    let l =
+    sym (c .before .before .before .before .before .before .before .before .before .before .before .is-broken .ensures)
+    ∙ c .before .before .before .before .before .before .before .before .before .before .if1 .left in
+    let h =
+    sym (c .before .before .before .before .before .before .before .before .holds-table .ensures)
+    ∙ not-false (c .before .before .before .before .before .before .before .before .holds-table .result)
+    (c .before .before .before .before .before .before .before .if2 .left) in
+    let o =
+    rw (c .before .before .before .before .table-in .ensures, c .before .before .before .before .before .before .in-use .ensures .0) at (c .before .before .before .inserted .ensures) in
     let p = sym (c .before .before .is-refused .ensures) ∙ c .before .if3 .left in
     let few = pair-few (now (a .page)) (now (a .names)) (a .lent) (a .symbol) (a .factor) (a .base) l h (c .before .before .before .inserted .result) o p in
     let grown = count-grown (now (a .page)) (now (a .names)) (a .lent) (a .symbol) (a .factor) (a .base) l h (c .before .before .before .inserted .result) o p in
@@ -72,21 +86,38 @@ same-length-3 c = search needs
 returns-4 : tie.Need-returns-4
 returns-4 c =
     let a = c .before .before .before .before .before .before .before .before .before .before .before .before .before .before .before .before .args in
-    let l = sym (c .before .before .before .before .before .before .before .before .before .before .before .before .before .is-broken .ensures) ∙ c .before .before .before .before .before .before .before .before .before .before .before .before .if1 .left in
-    let h = sym (c .before .before .before .before .before .before .before .before .before .before .holds-table .ensures) ∙ not-false (c .before .before .before .before .before .before .before .before .before .before .holds-table .result) (c .before .before .before .before .before .before .before .before .before .if2 .left) in
-    let o = rw (c .before .before .before .before .before .before .table-in .ensures, c .before .before .before .before .before .before .before .before .in-use .ensures .0) at (c .before .before .before .before .before .inserted .ensures) in
+    let l =
+    sym (c .before .before .before .before .before .before .before .before .before .before .before .before .before .is-broken .ensures)
+    ∙ c .before .before .before .before .before .before .before .before .before .before .before .before .if1 .left in
+    let h =
+    sym (c .before .before .before .before .before .before .before .before .before .before .holds-table .ensures)
+    ∙ not-false (c .before .before .before .before .before .before .before .before .before .before .holds-table .result)
+    (c .before .before .before .before .before .before .before .before .before .if2 .left) in
+    let o =
+    rw (c .before .before .before .before .before .before .table-in .ensures, c .before .before .before .before .before .before .before .before .in-use .ensures .0) at (c .before .before .before .before .before .inserted .ensures) in
     let p = sym (c .before .before .before .before .is-refused .ensures) ∙ c .before .before .before .if3 .left in
-    pair-cramped (now (a .page)) (now (a .names)) (a .lent) (a .symbol) (a .factor) (a .base) l h (c .before .before .before .before .before .inserted .result) o p (rw (c .before .size-of .ensures) at (c .if4 .taken))
+    pair-cramped (now (a .page)) (now (a .names)) (a .lent) (a .symbol) (a .factor) (a .base) l h (c .before .before .before .before .before .inserted .result) o p
+    (rw (c .before .size-of .ensures) at (c .if4 .taken))
 
 write-table-requires : tie.Need-write-table-requires
 write-table-requires c κs =
     let a = c .before .before .before .before .before .before .before .before .before .before .before .before .before .before .before .before .before .args in
-    let l = sym (c .before .before .before .before .before .before .before .before .before .before .before .before .before .before .is-broken .ensures) ∙ c .before .before .before .before .before .before .before .before .before .before .before .before .before .if1 .left in
-    let h = sym (c .before .before .before .before .before .before .before .before .before .before .before .holds-table .ensures) ∙ not-false (c .before .before .before .before .before .before .before .before .before .before .before .holds-table .result) (c .before .before .before .before .before .before .before .before .before .before .if2 .left) in
-    let o = rw (c .before .before .before .before .before .before .before .table-in .ensures, c .before .before .before .before .before .before .before .before .before .in-use .ensures .0) at (c .before .before .before .before .before .before .inserted .ensures) in
+    let l =
+    sym (c .before .before .before .before .before .before .before .before .before .before .before .before .before .before .is-broken .ensures)
+    ∙ c .before .before .before .before .before .before .before .before .before .before .before .before .before .if1 .left in
+    let h =
+    sym (c .before .before .before .before .before .before .before .before .before .before .before .holds-table .ensures)
+    ∙ not-false (c .before .before .before .before .before .before .before .before .before .before .before .holds-table .result)
+    (c .before .before .before .before .before .before .before .before .before .before .if2 .left) in
+    let o =
+    rw (c .before .before .before .before .before .before .before .table-in .ensures, c .before .before .before .before .before .before .before .before .before .in-use .ensures .0) at (c .before .before .before .before .before .before .inserted .ensures) in
     let p = sym (c .before .before .before .before .before .is-refused .ensures) ∙ c .before .before .before .before .if3 .left in
-    let few = pair-few (now (a .page)) (now (a .names)) (a .lent) (a .symbol) (a .factor) (a .base) l h (c .before .before .before .before .before .before .inserted .result) o p in
-    let grown = count-grown (now (a .page)) (now (a .names)) (a .lent) (a .symbol) (a .factor) (a .base) l h (c .before .before .before .before .before .before .inserted .result) o p in
+    let few =
+    pair-few (now (a .page)) (now (a .names)) (a .lent) (a .symbol) (a .factor) (a .base) l h
+    (c .before .before .before .before .before .before .inserted .result) o p in
+    let grown =
+    count-grown (now (a .page)) (now (a .names)) (a .lent) (a .symbol) (a .factor) (a .base) l h
+    (c .before .before .before .before .before .before .inserted .result) o p in
     (omega (arith, few, grown), rw (c .before .before .size-of .ensures) at (c .before .if4 .left))
 
 same-length-4 : tie.Need-same-length-4
@@ -94,12 +125,23 @@ same-length-4 c = search needs
 
 returns-5 : tie.Need-returns-5
 returns-5 c =
-    let a = c .before .before .before .before .before .before .before .before .before .before .before .before .before .before .before .before .before .before .before .before .args in
-    let l = sym (c .before .before .before .before .before .before .before .before .before .before .before .before .before .before .before .before .before .is-broken .ensures) ∙ c .before .before .before .before .before .before .before .before .before .before .before .before .before .before .before .before .if1 .left in
-    let h = sym (c .before .before .before .before .before .before .before .before .before .before .before .before .before .before .holds-table .ensures) ∙ not-false (c .before .before .before .before .before .before .before .before .before .before .before .before .before .before .holds-table .result) (c .before .before .before .before .before .before .before .before .before .before .before .before .before .if2 .left) in
-    let o = rw (c .before .before .before .before .before .before .before .before .before .before .table-in .ensures, c .before .before .before .before .before .before .before .before .before .before .before .before .in-use .ensures .0) at (c .before .before .before .before .before .before .before .before .before .inserted .ensures) in
-    let p = sym (c .before .before .before .before .before .before .before .before .is-refused .ensures) ∙ c .before .before .before .before .before .before .before .if3 .left in
-    let d = pair-done (now (a .page)) (now (a .names)) (a .lent) (a .symbol) (a .factor) (a .base) l h (c .before .before .before .before .before .before .before .before .before .inserted .result) o p (rw (c .before .before .before .before .before .size-of .ensures) at (c .before .before .before .before .if4 .left)) in
+    let a =
+    c .before .before .before .before .before .before .before .before .before .before .before .before .before .before .before .before .before .before .before .before .args in
+    let l =
+    sym (c .before .before .before .before .before .before .before .before .before .before .before .before .before .before .before .before .before .is-broken .ensures) ∙ c .before .before .before .before .before .before .before .before .before .before .before .before .before .before .before .before .if1 .left in
+    let h =
+    sym (c .before .before .before .before .before .before .before .before .before .before .before .before .before .before .holds-table .ensures)
+    ∙ not-false (c .before .before .before .before .before .before .before .before .before .before .before .before .before .before .holds-table .result)
+    (c .before .before .before .before .before .before .before .before .before .before .before .before .before .if2 .left) in
+    let o =
+    rw (c .before .before .before .before .before .before .before .before .before .before .table-in .ensures, c .before .before .before .before .before .before .before .before .before .before .before .before .in-use .ensures .0) at (c .before .before .before .before .before .before .before .before .before .inserted .ensures) in
+    let p =
+    sym (c .before .before .before .before .before .before .before .before .is-refused .ensures)
+    ∙ c .before .before .before .before .before .before .before .if3 .left in
+    let d =
+    pair-done (now (a .page)) (now (a .names)) (a .lent) (a .symbol) (a .factor) (a .base) l h
+    (c .before .before .before .before .before .before .before .before .before .inserted .result) o p
+    (rw (c .before .before .before .before .before .size-of .ensures) at (c .before .before .before .before .if4 .left)) in
     (d .0, c .before .before .write-table .ensures ∙ d .1)
 
 pub insert-pair-spec : {M : Type 1} → statement M

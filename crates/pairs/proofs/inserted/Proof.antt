@@ -1,9 +1,6 @@
 -- `pairs::inserted` meets its contract. Assumes nothing.
-use mathlib.Core.Path.{_≡_, sym, _∙_, ap}
+use mathlib.Core.Path.{sym, _∙_}
 use borrow.Author.Tests.{not-true, not-false}
-use Rattle.refusals.specs.declared.Verdict.the-variants.{Passed}
-use Rattle.pairs.specs.declared.ConversionTable.{ConversionTable}
-use Rattle.pairs.specs.declared.Outcome.{Outcome}
 use Rattle.pairs.proofs.Table.{form, insert-broken, insert-unused, insert-full, insert-done}
 use borrow.Author.Needs.{needs}
 use borrow.Author.Needs.{needs}
@@ -31,7 +28,9 @@ kept-requires-2 c κs = search needs
 returns-2 : tie.Need-returns-2
 returns-2 c =
     let a = c .before .before .before .before .before .args in
-    let f = sym (c .before .before .before .before .is-table .ensures) ∙ not-false (c .before .before .before .before .is-table .result) (c .before .before .before .if1 .left) in
+    let f =
+    sym (c .before .before .before .before .is-table .ensures)
+    ∙ not-false (c .before .before .before .before .is-table .result) (c .before .before .before .if1 .left) in
     let u = sym (c .before .before .are-used .ensures) ∙ not-true (c .before .before .are-used .result) (c .before .if2 .taken) in
     c .kept2 .ensures ∙ insert-unused (a .t) (a .n) (a .symbol) (a .factor) (a .base) f u
 
@@ -41,20 +40,26 @@ kept-requires-3 c κs = search needs
 returns-3 : tie.Need-returns-3
 returns-3 c =
     let a = c .before .before .before .before .before .before .args in
-    let f = sym (c .before .before .before .before .before .is-table .ensures) ∙ not-false (c .before .before .before .before .before .is-table .result) (c .before .before .before .before .if1 .left) in
+    let f =
+    sym (c .before .before .before .before .before .is-table .ensures)
+    ∙ not-false (c .before .before .before .before .before .is-table .result) (c .before .before .before .before .if1 .left) in
     let u = sym (c .before .before .before .are-used .ensures) ∙ not-false (c .before .before .before .are-used .result) (c .before .before .if2 .left) in
     c .kept3 .ensures ∙ insert-full (a .t) (a .n) (a .symbol) (a .factor) (a .base) f u (c .before .if3 .taken)
 
 with-pair-requires : tie.Need-with-pair-requires
 with-pair-requires c κs =
     let a = c .before .before .before .before .before .args in
-    let f = sym (c .before .before .before .before .is-table .ensures) ∙ not-false (c .before .before .before .before .is-table .result) (c .before .before .before .if1 .left) in
+    let f =
+    sym (c .before .before .before .before .is-table .ensures)
+    ∙ not-false (c .before .before .before .before .is-table .result) (c .before .before .before .if1 .left) in
     (c .if3 .left, form (a .t) (a .n) f .given)
 
 returns-4 : tie.Need-returns-4
 returns-4 c =
     let a = c .before .before .before .before .before .before .args in
-    let f = sym (c .before .before .before .before .before .is-table .ensures) ∙ not-false (c .before .before .before .before .before .is-table .result) (c .before .before .before .before .if1 .left) in
+    let f =
+    sym (c .before .before .before .before .before .is-table .ensures)
+    ∙ not-false (c .before .before .before .before .before .is-table .result) (c .before .before .before .before .if1 .left) in
     let u = sym (c .before .before .before .are-used .ensures) ∙ not-false (c .before .before .before .are-used .result) (c .before .before .if2 .left) in
     rw (c .with-pair .ensures) (insert-done (a .t) (a .n) (a .symbol) (a .factor) (a .base) f u (c .before .if3 .left))
 

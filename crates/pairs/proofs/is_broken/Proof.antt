@@ -1,6 +1,5 @@
 -- `pairs::is_broken` meets its contract. Assumes nothing.
-use mathlib.Core.Path.{_≡_, sym, _∙_, ap}
-use mathlib.Core.Bool.{not}
+use mathlib.Core.Path.{sym, _∙_}
 use denote.Ref.{now}
 use Rattle.pairs.proofs.Calls.{broken-names, broken-rest}
 use borrow.Author.Needs.{needs}
@@ -25,7 +24,8 @@ is-formed-requires c κs = search needs
 returns-2 : tie.Need-returns-2
 returns-2 c =
     let a = c .before .before .before .before .before .before .args in
-    rw (c .is-formed .ensures, c .before .in-use .ensures .0) (broken-rest (now (a .page)) (now (a .names)) (a .lent) (sym (c .before .before .before .is-broken .ensures) ∙ c .before .before .if1 .left))
+    rw (c .is-formed .ensures, c .before .in-use .ensures .0)
+    (broken-rest (now (a .page)) (now (a .names)) (a .lent) (sym (c .before .before .before .is-broken .ensures) ∙ c .before .before .if1 .left))
 
 pub is-broken-spec : {M : Type 1} → statement M
 is-broken-spec =

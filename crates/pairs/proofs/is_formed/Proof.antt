@@ -1,5 +1,5 @@
 -- `pairs::is_formed` meets its contract. Assumes nothing.
-use mathlib.Core.Path.{_≡_, sym, _∙_}
+use mathlib.Core.Path.{sym, _∙_}
 use denote.Ref.{now}
 use Rattle.pairs.proofs.Page.{held-parts, form-held, form-unheld}
 use borrow.Author.Needs.{needs}
@@ -18,7 +18,9 @@ is-table-requires c κs = search needs
 
 returns : tie.Need-returns
 returns c =
-    c .is-table .ensures ∙ rw (c .before .table-in .ensures) (form-held (now (c .before .before .before .before .before .args .page)) (c .before .before .before .before .before .args .n) (sym (c .before .before .before .holds-table .ensures) ∙ c .before .before .if1 .taken))
+    c .is-table .ensures
+    ∙ rw (c .before .table-in .ensures)
+    (form-held (now (c .before .before .before .before .before .args .page)) (c .before .before .before .before .before .args .n) (sym (c .before .before .before .holds-table .ensures) ∙ c .before .before .if1 .taken))
 
 returns-2 : tie.Need-returns-2
 returns-2 c = form-unheld (now (c .before .before .before .args .page)) (c .before .before .before .args .n) (sym (c .before .holds-table .ensures) ∙ c .if1 .left)

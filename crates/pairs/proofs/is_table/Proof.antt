@@ -1,10 +1,9 @@
 -- `pairs::is_table` meets its contract. Assumes nothing.
-use mathlib.Core.Path.{_≡_, sym, _∙_, ap}
+use mathlib.Core.Path.{_≡_, sym, _∙_}
 use Prim.Native.Nat.{_*_}
 use native.Mathlib.Omega.{arith}
 use lib.ListN.{length}
 use borrow.Author.Tests.{not-true, not-false}
-use Rattle.pages.specs.Bytes.{eqs}
 use Rattle.pairs.specs.Table.{pairsMax, pairBytes}
 use Rattle.pairs.proofs.Table.{form-many, form-unused, form-rest}
 use borrow.Author.Needs.{needs}
@@ -25,7 +24,8 @@ all-used-requires c κs =
 
 returns-2 : tie.Need-returns-2
 returns-2 c =
-    form-unused (c .before .before .before .before .before .args .t) (c .before .before .before .before .before .args .n) (c .before .before .before .before .if1 .left) (sym (c .before .all-used .ensures) ∙ not-true (c .before .all-used .result) (c .if2 .taken))
+    form-unused (c .before .before .before .before .before .args .t) (c .before .before .before .before .before .args .n)
+    (c .before .before .before .before .if1 .left) (sym (c .before .all-used .ensures) ∙ not-true (c .before .all-used .result) (c .if2 .taken))
 
 slice-aggregate-replayed : tie.Need-slice-aggregate-replayed
 slice-aggregate-replayed c = search needs
@@ -47,8 +47,11 @@ same-requires c κs = search needs
 returns-3 : tie.Need-returns-3
 returns-3 c =
     let t = c .before .before .before .before .before .before .before .before .before .before .before .args .t in
-    let u = sym (c .before .before .before .before .before .before .before .all-used .ensures) ∙ not-false (c .before .before .before .before .before .before .before .all-used .result) (c .before .before .before .before .before .before .if2 .left) in
-    c .same .ensures ∙ rw (c .before .before .before .replayed .ensures) (form-rest t (c .before .before .before .before .before .before .before .before .before .before .before .args .n) (c .before .before .before .before .before .before .before .before .before .before .if1 .left) u)
+    let u =
+    sym (c .before .before .before .before .before .before .before .all-used .ensures)
+    ∙ not-false (c .before .before .before .before .before .before .before .all-used .result) (c .before .before .before .before .before .before .if2 .left) in
+    c .same .ensures ∙ rw (c .before .before .before .replayed .ensures)
+    (form-rest t (c .before .before .before .before .before .before .before .before .before .before .before .args .n) (c .before .before .before .before .before .before .before .before .before .before .if1 .left) u)
 
 pub is-table-spec : {M : Type 1} → statement M
 is-table-spec =

@@ -1,6 +1,5 @@
 -- `pairs::parents_of` meets its contract. Assumes nothing.
 use mathlib.Core.Path.{refl, _∙_}
-use native.Mathlib.Omega.{arith}
 use denote.Ref.{now}
 use Rattle.pairs.proofs.Page.{parents-read}
 use borrow.Author.Needs.{needs}
@@ -28,7 +27,8 @@ part-result-end c = search needs
 
 returns : tie.Need-returns
 returns c =
-    parents-read (now (c .before .before .before .before .args .page)) (c .before .parents-at .result) (c .before .before .before .before .pre) (c .before .parents-at .ensures ∙ rw (c .before .before .count .ensures .0)) _ refl
+    parents-read (now (c .before .before .before .before .args .page)) (c .before .parents-at .result) (c .before .before .before .before .pre)
+    (c .before .parents-at .ensures ∙ rw (c .before .before .count .ensures .0)) _ refl
 
 pub parents-of-spec : {M : Type 1} → statement M
 parents-of-spec =

@@ -1,5 +1,5 @@
 -- `pairs::replayed` meets its contract. Assumes nothing.
-use mathlib.Core.Path.{_≡_, refl, sym, _∙_, ap}
+use mathlib.Core.Path.{_≡_, _∙_, ap}
 use mathlib.Core.List.{List}
 use Prim.Native.Nat.{ℕ, _+_, _-_, _≤_}
 use native.Mathlib.Omega.{arith}
@@ -56,7 +56,9 @@ loop-again : tie.Need-loop-again Inv-loop μ-loop
 loop-again c =
     let bodies = now (c .before .before .before .before .before .before .before .before .before .args .pairs) in
     let i = c .before .before .before .before .before .before .loop .i in
-    let e = c .before .join .ensures ∙ ap (λ (p : List ℕ). enter i p (pairAt bodies i)) (c .before .before .before .before .before .before .loop .inv .1) ∙ parents-next bodies i in
+    let e =
+    c .before .join .ensures ∙ ap (λ (p : List ℕ). enter i p (pairAt bodies i)) (c .before .before .before .before .before .before .loop .inv .1)
+    ∙ parents-next bodies i in
     (omega arith, e, ap length e ∙ length-parents namesMax (pairsIn bodies (i + 1)))
 
 returns : tie.Need-returns Inv-loop μ-loop

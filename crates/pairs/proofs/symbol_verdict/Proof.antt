@@ -1,5 +1,5 @@
 -- `pairs::symbol_verdict` meets its contract. Assumes nothing.
-use mathlib.Core.Path.{_≡_, sym, _∙_}
+use mathlib.Core.Path.{sym, _∙_}
 use denote.Ref.{now}
 use Rattle.pairs.proofs.Calls.{unbroken, symbol-broken, symbol-unused, symbol-used}
 use borrow.Author.Needs.{needs}
@@ -26,12 +26,16 @@ symbol-index-requires c κs = search needs
 returns-2 : tie.Need-returns-2
 returns-2 c =
     let a = c .before .before .before .before .before .before .before .args in
-    symbol-unused (now (a .page)) (now (a .names)) (a .lent) (a .symbol) (sym (c .before .before .before .before .is-broken .ensures) ∙ c .before .before .before .if1 .left) (rw (c .before .before .in-use .ensures .0, c .before .symbol-index .ensures .0) at (c .if2 .taken))
+    symbol-unused (now (a .page)) (now (a .names)) (a .lent) (a .symbol)
+    (sym (c .before .before .before .before .is-broken .ensures) ∙ c .before .before .before .if1 .left)
+    (rw (c .before .before .in-use .ensures .0, c .before .symbol-index .ensures .0) at (c .if2 .taken))
 
 returns-3 : tie.Need-returns-3
 returns-3 c =
     let a = c .before .before .before .before .before .before .before .args in
-    symbol-used (now (a .page)) (now (a .names)) (a .lent) (a .symbol) (sym (c .before .before .before .before .is-broken .ensures) ∙ c .before .before .before .if1 .left) (rw (c .before .before .in-use .ensures .0, c .before .symbol-index .ensures .0) at (c .if2 .left))
+    symbol-used (now (a .page)) (now (a .names)) (a .lent) (a .symbol)
+    (sym (c .before .before .before .before .is-broken .ensures) ∙ c .before .before .before .if1 .left)
+    (rw (c .before .before .in-use .ensures .0, c .before .symbol-index .ensures .0) at (c .if2 .left))
 
 pub symbol-verdict-spec : {M : Type 1} → statement M
 symbol-verdict-spec =

@@ -1,6 +1,5 @@
 -- `pairs::table_in` meets its contract. Assumes nothing.
-use mathlib.Core.Path.{_≡_, _∙_}
-use native.Mathlib.Omega.{arith}
+use mathlib.Core.Path.{_∙_}
 use denote.Ref.{now}
 use Rattle.pairs.proofs.Page.{table-read}
 use borrow.Author.Needs.{needs}
@@ -57,7 +56,10 @@ returns : tie.Need-returns
 returns c =
     let page = now (c .before .before .before .before .before .before .before .before .before .before .before .before .before .args .page) in
     let k = c .before .before .before .before .before .before .before .before .before .before .before .count in
-    table-read page (k .result) (c .before .before .before .before .before .before .before .before .before .before .parents-at .result) (k .ensures .0) (c .before .before .before .before .before .before .before .before .before .before .parents-at .ensures) (rw (k .ensures .0) (c .before .before .before .before .before .before .before .before .before .before .before .before .before .pre .few)) (rw (k .ensures .0) (c .before .before .before .before .before .before .before .before .before .before .before .before .before .pre .room)) _ _
+    table-read page (k .result) (c .before .before .before .before .before .before .before .before .before .before .parents-at .result) (k .ensures .0)
+    (c .before .before .before .before .before .before .before .before .before .before .parents-at .ensures)
+    (rw (k .ensures .0) (c .before .before .before .before .before .before .before .before .before .before .before .before .before .pre .few))
+    (rw (k .ensures .0) (c .before .before .before .before .before .before .before .before .before .before .before .before .before .pre .room)) _ _
     (c .before .before .before .before .before .put-bytes .ensures ∙ rw (c .before .before .before .before .before .before .before .before .before .no-bodies .ensures)) (c .before .put-bytes2 .ensures ∙ rw (c .before .before .before .before .before .before .before .before .own-parents .ensures))
 
 pub table-in-spec : {M : Type 1} → statement M

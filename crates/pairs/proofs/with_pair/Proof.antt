@@ -3,7 +3,6 @@ use native.Mathlib.Omega.{arith}
 use mathlib.Core.Path.{_≡_, refl, _∙_}
 use lib.ListN.{length}
 use Prim.Native.Nat.{_*_}
-use Rattle.names.specs.Table.{namesMax}
 use Rattle.pairs.specs.Table.{pairsMax, pairBytes}
 use Rattle.pairs.proofs.Table.{with-pair}
 use borrow.Author.Needs.{needs}
@@ -53,7 +52,8 @@ returns : tie.Need-returns
 returns c =
     let a = c .before .before .before .before .before .before .before .before .before .before .before .before .before .before .args in
     let z : length (a .t .pairs) ≡ pairBytes * pairsMax = search needs in
-    with-pair (a .t) (a .symbol) (a .factor) (a .base) (a .t .count) refl (omega (arith, z)) (c .before .before .before .before .before .before .before .before .before .before .before .before .before .before .pre .1) _ _
+    with-pair (a .t) (a .symbol) (a .factor) (a .base) (a .t .count) refl (omega (arith, z))
+    (c .before .before .before .before .before .before .before .before .before .before .before .before .before .before .pre .1) _ _
     (c .before .before .before .before .put-bytes2 .ensures ∙ rw (c .before .before .before .before .before .before .before .before .put-bytes .ensures, c .before .before .before .before .before .before .before .before .before .before .before .long-bytes .ensures)) (c .before .join .ensures)
 
 pub with-pair-spec : {M : Type 1} → statement M

@@ -1,5 +1,5 @@
 -- `pairs::write_table` meets its contract. Assumes nothing.
-use mathlib.Core.Path.{_≡_, refl, _∙_}
+use mathlib.Core.Path.{_≡_, _∙_}
 use native.Mathlib.Omega.{arith}
 use denote.Ref.{now}
 use lib.ListN.{length}
@@ -40,7 +40,8 @@ slice-aggregate-put-bytes c = search needs
 
 put-bytes-requires-2 : tie.Need-put-bytes-requires-2
 put-bytes-requires-2 c κs =
-    let z : length (c .before .before .before .before .before .before .before .before .before .before .before .before .before .args .t .parents) ≡ namesMax = search needs in
+    let z : length (c .before .before .before .before .before .before .before .before .before .before .before .before .before .args .t .parents) ≡ namesMax =
+    search needs in
     omega (arith, z, c .before .before .before .before .before .before .before .before .before .before .before .parents-at .ensures, c .before .before .before .before .before .before .before .before .before .before .before .before .before .pre .1, c .before .before .before .before .put-bytes .kept .0)
 
 slice-aggregate-put-bytes-2 : tie.Need-slice-aggregate-put-bytes-2
@@ -55,7 +56,9 @@ same-length c = search needs
 returns : tie.Need-returns
 returns c =
     table-written (now (c .before .before .before .before .before .before .before .before .before .before .before .before .before .before .before .before .before .before .before .before .before .args .page)) (c .before .before .before .before .before .before .before .before .before .before .before .before .before .before .before .before .before .before .before .before .before .args .t) (c .before .before .before .before .before .before .before .before .before .before .before .before .before .before .before .before .before .before .before .parents-at .result) (c .before .before .before .before .before .before .before .before .before .before .before .before .before .before .before .before .before .before .before .parents-at .ensures) _ _ _
-    (c .before .before .before .before .before .before .before .before .before .before .before .before .put-bytes .ensures) (c .before .before .before .before .before .before .before .put-bytes2 .ensures) (c .before .before .put-bytes3 .ensures ∙ rw (c .before .before .before .before .before .before .before .before .before .before .before .before .before .before .before .before .count-bytes .ensures))
+    (c .before .before .before .before .before .before .before .before .before .before .before .before .put-bytes .ensures)
+    (c .before .before .before .before .before .before .before .put-bytes2 .ensures)
+    (c .before .before .put-bytes3 .ensures ∙ rw (c .before .before .before .before .before .before .before .before .before .before .before .before .before .before .before .before .count-bytes .ensures))
 
 pub write-table-spec : {M : Type 1} → statement M
 write-table-spec =

@@ -1,5 +1,5 @@
 -- `sums::is_convertible_to` meets its contract. Assumes nothing.
-use mathlib.Core.Path.{_≡_, sym, _∙_}
+use mathlib.Core.Path.{sym, _∙_}
 use native.Mathlib.Omega.{arith}
 use denote.Ref.{now}
 use Rattle.groups.specs.Groups.{walk}
@@ -26,7 +26,8 @@ enum-known-verdict c = search needs
 returns : tie.Need-returns
 returns c =
     let a = c .before .before .before .before .before .before .before .before .args in
-    let v = rw (c .before .before .before .before .before .counted .ensures, c .before .before .before .before .counted2 .ensures) at (c .before .before .before .units-verdict .ensures) in
+    let v =
+    rw (c .before .before .before .before .before .counted .ensures, c .before .before .before .before .counted2 .ensures) at (c .before .before .before .units-verdict .ensures) in
     convert-refused (now (a .page)) (now (a .names)) (a .lent) (a .left) (a .right) _ (sym (c .before .verdict .given .1) ∙ v)
 
 enum-told : tie.Need-enum-told
@@ -35,12 +36,15 @@ enum-told c = search needs
 parents-of-requires : tie.Need-parents-of-requires
 parents-of-requires c κs =
     let a = c .before .before .before .before .before .before .before .args in
-    passed-held (now (a .page)) (now (a .names)) (a .lent) (c .before .before .before .before .counted .result) (c .before .before .before .counted2 .result) (sym (c .before .before .units-verdict .ensures) ∙ c .enum-told .given .1)
+    passed-held (now (a .page)) (now (a .names)) (a .lent) (c .before .before .before .before .counted .result) (c .before .before .before .counted2 .result)
+    (sym (c .before .before .units-verdict .ensures) ∙ c .enum-told .given .1)
 
 count-requires : tie.Need-count-requires
 count-requires c κs =
     let a = c .before .before .before .before .before .before .before .before .args in
-    let h = passed-held (now (a .page)) (now (a .names)) (a .lent) (c .before .before .before .before .before .counted .result) (c .before .before .before .before .counted2 .result) (sym (c .before .before .before .units-verdict .ensures) ∙ c .before .enum-told .given .1) in
+    let h =
+    passed-held (now (a .page)) (now (a .names)) (a .lent) (c .before .before .before .before .before .counted .result)
+    (c .before .before .before .before .counted2 .result) (sym (c .before .before .before .units-verdict .ensures) ∙ c .before .enum-told .given .1) in
     omega (arith, h .room)
 
 convertible-requires : tie.Need-convertible-requires
@@ -48,25 +52,33 @@ convertible-requires c κs =
     let a = c .before .before .before .before .before .before .before .before .before .args in
     let v = sym (c .before .before .before .before .units-verdict .ensures) ∙ c .before .before .enum-told .given .1 in (
       c .before .parents-of .ensures .1,
-      passed-left (now (a .page)) (now (a .names)) (a .lent) (c .before .before .before .before .before .before .counted .result) (c .before .before .before .before .before .counted2 .result) v,
-      passed-right (now (a .page)) (now (a .names)) (a .lent) (c .before .before .before .before .before .before .counted .result) (c .before .before .before .before .before .counted2 .result) v,
+      passed-left (now (a .page)) (now (a .names)) (a .lent) (c .before .before .before .before .before .before .counted .result)
+          (c .before .before .before .before .before .counted2 .result) v,
+      passed-right (now (a .page)) (now (a .names)) (a .lent) (c .before .before .before .before .before .before .counted .result)
+          (c .before .before .before .before .before .counted2 .result) v,
     )
 
 returns-2 : tie.Need-returns-2
 returns-2 c =
     let a = c .before .before .before .before .before .before .before .before .before .before .before .args in
     let k = c .before .before .count .result in
-    let v = rw (c .before .before .before .before .before .before .before .before .counted .ensures, c .before .before .before .before .before .before .before .counted2 .ensures) at (sym (c .before .before .before .before .before .before .units-verdict .ensures) ∙ c .before .before .before .before .enum-told .given .1) in
-    let h = rw (c .before .before .before .before .before .before .before .before .counted .ensures, c .before .before .before .before .before .before .before .counted2 .ensures, c .before .before .before .parents-of .ensures .0) at (sym (c .before .convertible .ensures) ∙ c .if1 .taken) in
-    convert-yes (now (a .page)) (now (a .names)) (a .lent) (a .left) (a .right) v (walk k (parentsIn (now (a .page)))) (λ s. passed-root (now (a .page)) (now (a .names)) (a .lent) (counted (a .left)) (counted (a .right)) v k s (c .before .before .count .ensures .0)) h
+    let v =
+    rw (c .before .before .before .before .before .before .before .before .counted .ensures, c .before .before .before .before .before .before .before .counted2 .ensures) at (sym (c .before .before .before .before .before .before .units-verdict .ensures) ∙ c .before .before .before .before .enum-told .given .1) in
+    let h =
+    rw (c .before .before .before .before .before .before .before .before .counted .ensures, c .before .before .before .before .before .before .before .counted2 .ensures, c .before .before .before .parents-of .ensures .0) at (sym (c .before .convertible .ensures) ∙ c .if1 .taken) in
+    convert-yes (now (a .page)) (now (a .names)) (a .lent) (a .left) (a .right) v (walk k (parentsIn (now (a .page))))
+    (λ s. passed-root (now (a .page)) (now (a .names)) (a .lent) (counted (a .left)) (counted (a .right)) v k s (c .before .before .count .ensures .0)) h
 
 returns-3 : tie.Need-returns-3
 returns-3 c =
     let a = c .before .before .before .before .before .before .before .before .before .before .before .args in
     let k = c .before .before .count .result in
-    let v = rw (c .before .before .before .before .before .before .before .before .counted .ensures, c .before .before .before .before .before .before .before .counted2 .ensures) at (sym (c .before .before .before .before .before .before .units-verdict .ensures) ∙ c .before .before .before .before .enum-told .given .1) in
-    let h = rw (c .before .before .before .before .before .before .before .before .counted .ensures, c .before .before .before .before .before .before .before .counted2 .ensures, c .before .before .before .parents-of .ensures .0) at (sym (c .before .convertible .ensures) ∙ c .if1 .left) in
-    convert-no (now (a .page)) (now (a .names)) (a .lent) (a .left) (a .right) v (walk k (parentsIn (now (a .page)))) (λ s. passed-root (now (a .page)) (now (a .names)) (a .lent) (counted (a .left)) (counted (a .right)) v k s (c .before .before .count .ensures .0)) h
+    let v =
+    rw (c .before .before .before .before .before .before .before .before .counted .ensures, c .before .before .before .before .before .before .before .counted2 .ensures) at (sym (c .before .before .before .before .before .before .units-verdict .ensures) ∙ c .before .before .before .before .enum-told .given .1) in
+    let h =
+    rw (c .before .before .before .before .before .before .before .before .counted .ensures, c .before .before .before .before .before .before .before .counted2 .ensures, c .before .before .before .parents-of .ensures .0) at (sym (c .before .convertible .ensures) ∙ c .if1 .left) in
+    convert-no (now (a .page)) (now (a .names)) (a .lent) (a .left) (a .right) v (walk k (parentsIn (now (a .page))))
+    (λ s. passed-root (now (a .page)) (now (a .names)) (a .lent) (counted (a .left)) (counted (a .right)) v k s (c .before .before .count .ensures .0)) h
 
 pub is-convertible-to-spec : {M : Type 1} → statement M
 is-convertible-to-spec =

@@ -1,5 +1,5 @@
 -- `sums::units_verdict` meets its contract. Assumes nothing.
-use mathlib.Core.Path.{_≡_, sym, _∙_}
+use mathlib.Core.Path.{sym, _∙_}
 use denote.Ref.{now}
 use borrow.Author.Tests.{not-true, not-false}
 use Rattle.pairs.proofs.Calls.{unbroken}
@@ -41,7 +41,8 @@ returns-3 c =
     let t = sym (c .before .before .before .before .before .before .is-broken .ensures) ∙ c .before .before .before .before .before .if1 .left in
     let u = sym (c .before .before .before .is-used .ensures) ∙ not-false (c .before .before .before .is-used .result) (c .before .before .if2 .left) in
     let w = sym (c .before .is-used2 .ensures) ∙ not-true (c .before .is-used2 .result) (c .if3 .taken) in
-    right-unused (now (g .page)) (now (g .names)) (g .lent) (g .a) (g .b) t (rw (c .before .before .before .before .in-use .ensures .0) at u) (rw (c .before .before .before .before .in-use .ensures .0) at w)
+    right-unused (now (g .page)) (now (g .names)) (g .lent) (g .a) (g .b) t (rw (c .before .before .before .before .in-use .ensures .0) at u)
+    (rw (c .before .before .before .before .in-use .ensures .0) at w)
 
 is-formed-requires : tie.Need-is-formed-requires
 is-formed-requires c κs = search needs
@@ -49,11 +50,16 @@ is-formed-requires c κs = search needs
 returns-4 : tie.Need-returns-4
 returns-4 c =
     let g = c .before .before .before .before .before .before .before .before .before .before .before .args in
-    let t = sym (c .before .before .before .before .before .before .before .before .is-broken .ensures) ∙ c .before .before .before .before .before .before .before .if1 .left in
-    let u = sym (c .before .before .before .before .before .is-used .ensures) ∙ not-false (c .before .before .before .before .before .is-used .result) (c .before .before .before .before .if2 .left) in
+    let t =
+    sym (c .before .before .before .before .before .before .before .before .is-broken .ensures)
+    ∙ c .before .before .before .before .before .before .before .if1 .left in
+    let u =
+    sym (c .before .before .before .before .before .is-used .ensures)
+    ∙ not-false (c .before .before .before .before .before .is-used .result) (c .before .before .before .before .if2 .left) in
     let w = sym (c .before .before .before .is-used2 .ensures) ∙ not-false (c .before .before .before .is-used2 .result) (c .before .before .if3 .left) in
     let x = sym (c .before .is-formed .ensures) ∙ not-true (c .before .is-formed .result) (c .if4 .taken) in
-    left-bad (now (g .page)) (now (g .names)) (g .lent) (g .a) (g .b) t (rw (c .before .before .before .before .before .before .in-use .ensures .0) at u) (rw (c .before .before .before .before .before .before .in-use .ensures .0) at w) x
+    left-bad (now (g .page)) (now (g .names)) (g .lent) (g .a) (g .b) t (rw (c .before .before .before .before .before .before .in-use .ensures .0) at u)
+    (rw (c .before .before .before .before .before .before .in-use .ensures .0) at w) x
 
 is-formed-requires-2 : tie.Need-is-formed-requires-2
 is-formed-requires-2 c κs = search needs
@@ -61,22 +67,38 @@ is-formed-requires-2 c κs = search needs
 returns-5 : tie.Need-returns-5
 returns-5 c =
     let g = c .before .before .before .before .before .before .before .before .before .before .before .before .before .args in
-    let t = sym (c .before .before .before .before .before .before .before .before .before .before .is-broken .ensures) ∙ c .before .before .before .before .before .before .before .before .before .if1 .left in
-    let u = sym (c .before .before .before .before .before .before .before .is-used .ensures) ∙ not-false (c .before .before .before .before .before .before .before .is-used .result) (c .before .before .before .before .before .before .if2 .left) in
-    let w = sym (c .before .before .before .before .before .is-used2 .ensures) ∙ not-false (c .before .before .before .before .before .is-used2 .result) (c .before .before .before .before .if3 .left) in
+    let t =
+    sym (c .before .before .before .before .before .before .before .before .before .before .is-broken .ensures)
+    ∙ c .before .before .before .before .before .before .before .before .before .if1 .left in
+    let u =
+    sym (c .before .before .before .before .before .before .before .is-used .ensures)
+    ∙ not-false (c .before .before .before .before .before .before .before .is-used .result) (c .before .before .before .before .before .before .if2 .left) in
+    let w =
+    sym (c .before .before .before .before .before .is-used2 .ensures)
+    ∙ not-false (c .before .before .before .before .before .is-used2 .result) (c .before .before .before .before .if3 .left) in
     let x = sym (c .before .before .before .is-formed .ensures) ∙ not-false (c .before .before .before .is-formed .result) (c .before .before .if4 .left) in
     let y = sym (c .before .is-formed2 .ensures) ∙ not-true (c .before .is-formed2 .result) (c .if5 .taken) in
-    right-bad (now (g .page)) (now (g .names)) (g .lent) (g .a) (g .b) t (rw (c .before .before .before .before .before .before .before .before .in-use .ensures .0) at u) (rw (c .before .before .before .before .before .before .before .before .in-use .ensures .0) at w) x y
+    right-bad (now (g .page)) (now (g .names)) (g .lent) (g .a) (g .b) t
+    (rw (c .before .before .before .before .before .before .before .before .in-use .ensures .0) at u)
+    (rw (c .before .before .before .before .before .before .before .before .in-use .ensures .0) at w) x y
 
 returns-6 : tie.Need-returns-6
 returns-6 c =
     let g = c .before .before .before .before .before .before .before .before .before .before .before .before .before .args in
-    let t = sym (c .before .before .before .before .before .before .before .before .before .before .is-broken .ensures) ∙ c .before .before .before .before .before .before .before .before .before .if1 .left in
-    let u = sym (c .before .before .before .before .before .before .before .is-used .ensures) ∙ not-false (c .before .before .before .before .before .before .before .is-used .result) (c .before .before .before .before .before .before .if2 .left) in
-    let w = sym (c .before .before .before .before .before .is-used2 .ensures) ∙ not-false (c .before .before .before .before .before .is-used2 .result) (c .before .before .before .before .if3 .left) in
+    let t =
+    sym (c .before .before .before .before .before .before .before .before .before .before .is-broken .ensures)
+    ∙ c .before .before .before .before .before .before .before .before .before .if1 .left in
+    let u =
+    sym (c .before .before .before .before .before .before .before .is-used .ensures)
+    ∙ not-false (c .before .before .before .before .before .before .before .is-used .result) (c .before .before .before .before .before .before .if2 .left) in
+    let w =
+    sym (c .before .before .before .before .before .is-used2 .ensures)
+    ∙ not-false (c .before .before .before .before .before .is-used2 .result) (c .before .before .before .before .if3 .left) in
     let x = sym (c .before .before .before .is-formed .ensures) ∙ not-false (c .before .before .before .is-formed .result) (c .before .before .if4 .left) in
     let y = sym (c .before .is-formed2 .ensures) ∙ not-false (c .before .is-formed2 .result) (c .if5 .left) in
-    units-passed (now (g .page)) (now (g .names)) (g .lent) (g .a) (g .b) t (rw (c .before .before .before .before .before .before .before .before .in-use .ensures .0) at u) (rw (c .before .before .before .before .before .before .before .before .in-use .ensures .0) at w) x y
+    units-passed (now (g .page)) (now (g .names)) (g .lent) (g .a) (g .b) t
+    (rw (c .before .before .before .before .before .before .before .before .in-use .ensures .0) at u)
+    (rw (c .before .before .before .before .before .before .before .before .in-use .ensures .0) at w) x y
 
 pub units-verdict-spec : {M : Type 1} → statement M
 units-verdict-spec =
