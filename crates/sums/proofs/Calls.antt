@@ -29,7 +29,7 @@ use Rattle.pairs.specs.Calls.{tableBroken}
 use Rattle.pairs.proofs.Calls.{unbroken, root-in}
 use Rattle.pairs.proofs.Run.{form-all}
 use Rattle.sums.specs.Sums.{groupSums, convertible, sumsOf}
-use Rattle.sums.specs.Calls.{allUsed, allFormed, unitsVerdict, rootsIn, summed, sumsAnswer, counted, convertAnswer}
+use Rattle.sums.specs.Calls.{allUsed, allFormed, unitsVerdict, rootsIn, summed, sumsAnswer, orEmpty, convertAnswer}
 use Rattle.sums.specs.declared.SumsResult.{SumsResult}
 use Rattle.sums.specs.declared.Conversion.{Conversion}
 
@@ -133,16 +133,16 @@ module _ (page names : List ℕ) (lent : Bool) (u : Unit) where
 -- ---- convertible or not
 
 module _ (page names : List ℕ) (lent : Bool) (left right : MaybeUnit) where
-  pub convert-refused : (r : Refusal) → Refused r ≡ unitsVerdict page names lent (counted left ∷ counted right ∷ [])
+  pub convert-refused : (r : Refusal) → Refused r ≡ unitsVerdict page names lent (orEmpty left ∷ orEmpty right ∷ [])
       → Conversion.Refused r ≡ convertAnswer page names lent left right
   unfolding convertAnswer
   convert-refused r v = rw (← v)
 
-  module _ (v : unitsVerdict page names lent (counted left ∷ counted right ∷ []) ≡ Passed) (root : ℕ → ℕ) (same : (s : ℕ) → root s ≡ rootsIn page s) where
-    pub convert-yes : convertible namesMax root (termsOf (counted left)) (termsOf (counted right)) ≡ true → Conversion.Yes ≡ convertAnswer page names lent left right
+  module _ (v : unitsVerdict page names lent (orEmpty left ∷ orEmpty right ∷ []) ≡ Passed) (root : ℕ → ℕ) (same : (s : ℕ) → root s ≡ rootsIn page s) where
+    pub convert-yes : convertible namesMax root (termsOf (orEmpty left)) (termsOf (orEmpty right)) ≡ true → Conversion.Yes ≡ convertAnswer page names lent left right
     unfolding convertAnswer
     convert-yes h = let e : root ≡ rootsIn page = fun-ext same in rw (v, ← e, h)
 
-    pub convert-no : convertible namesMax root (termsOf (counted left)) (termsOf (counted right)) ≡ false → Conversion.No ≡ convertAnswer page names lent left right
+    pub convert-no : convertible namesMax root (termsOf (orEmpty left)) (termsOf (orEmpty right)) ≡ false → Conversion.No ≡ convertAnswer page names lent left right
     unfolding convertAnswer
     convert-no h = let e : root ≡ rootsIn page = fun-ext same in rw (v, ← e, h)

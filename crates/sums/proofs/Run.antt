@@ -20,7 +20,7 @@ use Rattle.pairs.specs.Page.{listedIn, formed}
 use Rattle.pairs.specs.Runs.{Request, pageAfterAll, acceptedPairs}
 use Rattle.pairs.proofs.Run.{page-within, run-listed}
 use Rattle.sums.specs.Sums.{convertible, SameSums}
-use Rattle.sums.specs.Calls.{unitsVerdict, rootsIn, counted, convertAnswer}
+use Rattle.sums.specs.Calls.{unitsVerdict, rootsIn, orEmpty, convertAnswer}
 use Rattle.sums.specs.declared.Conversion.{Conversion}
 use Rattle.sums.proofs.Convert.{convertible-groups}
 use Rattle.sums.proofs.Calls.{passed-all-names, passed-left, passed-right}
@@ -33,27 +33,27 @@ answer-yes false = (λ e. let z : _≡_ {A = ℕ} 0 1 = cc in absurd (omega arit
 formed-used : (u : Unit) → units.formed placesMax namesMax (termsOf u) ≡ true → inUse namesMax (termsOf u) ≡ true
 formed-used u f = ordered-used namesMax 0 (termsOf u) (formed-ordered placesMax namesMax (termsOf u) f)
 
-module _ (page names : List ℕ) (lent : Bool) (left right : MaybeUnit) (v : unitsVerdict page names lent (counted left ∷ counted right ∷ []) ≡ Passed) where
+module _ (page names : List ℕ) (lent : Bool) (left right : MaybeUnit) (v : unitsVerdict page names lent (orEmpty left ∷ orEmpty right ∷ []) ≡ Passed) where
   answer-is : (convertAnswer page names lent left right ≡ Conversion.Yes)
-      ↔ (convertible namesMax (rootsIn page) (termsOf (counted left)) (termsOf (counted right)) ≡ true)
+      ↔ (convertible namesMax (rootsIn page) (termsOf (orEmpty left)) (termsOf (orEmpty right)) ≡ true)
   unfolding convertAnswer
-  answer-is = rw v (answer-yes (convertible namesMax (rootsIn page) (termsOf (counted left)) (termsOf (counted right))))
+  answer-is = rw v (answer-yes (convertible namesMax (rootsIn page) (termsOf (orEmpty left)) (termsOf (orEmpty right))))
 
   -- of the pairs that the page lists
-  pub converts : (convertAnswer page names lent left right ≡ Conversion.Yes) ↔ SameSums namesMax (listedIn page) (termsOf (counted left)) (termsOf (counted right))
+  pub converts : (convertAnswer page names lent left right ≡ Conversion.Yes) ↔ SameSums namesMax (listedIn page) (termsOf (orEmpty left)) (termsOf (orEmpty right))
   converts =
-      let f = passed-all-names page names lent (counted left) (counted right) v in
+      let f = passed-all-names page names lent (orEmpty left) (orEmpty right) v in
       let g =
-      convertible-groups namesMax (listedIn page) (page-within page namesMax f) (termsOf (counted left)) (termsOf (counted right))
-      (formed-used (counted left) (passed-left page names lent (counted left) (counted right) v))
-      (formed-used (counted right) (passed-right page names lent (counted left) (counted right) v)) in
+      convertible-groups namesMax (listedIn page) (page-within page namesMax f) (termsOf (orEmpty left)) (termsOf (orEmpty right))
+      (formed-used (orEmpty left) (passed-left page names lent (orEmpty left) (orEmpty right) v))
+      (formed-used (orEmpty right) (passed-right page names lent (orEmpty left) (orEmpty right) v)) in
       (λ e. g .0 (answer-is .0 e), λ s. answer-is .1 (g .1 s))
 
 -- after any list of insertions: of the accepted pairs
 pub run-converts : (rs : List Request) (page names : List ℕ) (lent : Bool) (left right : MaybeUnit)
-    → formed page namesMax ≡ true → unitsVerdict (pageAfterAll page rs) names lent (counted left ∷ counted right ∷ []) ≡ Passed
+    → formed page namesMax ≡ true → unitsVerdict (pageAfterAll page rs) names lent (orEmpty left ∷ orEmpty right ∷ []) ≡ Passed
     → (convertAnswer (pageAfterAll page rs) names lent left right ≡ Conversion.Yes)
-    ↔ SameSums namesMax (acceptedPairs page rs) (termsOf (counted left)) (termsOf (counted right))
+    ↔ SameSums namesMax (acceptedPairs page rs) (termsOf (orEmpty left)) (termsOf (orEmpty right))
 run-converts rs page names lent left right g v =
-    subst (λ ps. (convertAnswer (pageAfterAll page rs) names lent left right ≡ Conversion.Yes) ↔ SameSums namesMax ps (termsOf (counted left)) (termsOf (counted right)))
+    subst (λ ps. (convertAnswer (pageAfterAll page rs) names lent left right ≡ Conversion.Yes) ↔ SameSums namesMax ps (termsOf (orEmpty left)) (termsOf (orEmpty right)))
     (run-listed rs page g) (converts (pageAfterAll page rs) names lent left right v)

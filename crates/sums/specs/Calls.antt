@@ -60,8 +60,8 @@ sumsAnswer page names lent u = summed (unitsVerdict page names lent (u ∷ [])) 
 -- ---- convertible or not
 
 -- "no unit counting as empty"
-abbrev pub counted : MaybeUnit → Unit
-counted m = cond (m .some) (m .unit) (unitOf [])
+abbrev pub orEmpty : MaybeUnit → Unit
+orEmpty m = cond (m .some) (m .unit) (unitOf [])
 
 -- yes or no, or the refusal
 abbrev pub answered : Verdict → Bool → Conversion
@@ -71,5 +71,5 @@ answered (Refused r) holds = Conversion.Refused r
 -- are two units, or none, convertible (`is_convertible_to`)
 unfoldable pub convertAnswer : List ℕ → List ℕ → Bool → MaybeUnit → MaybeUnit → Conversion
 convertAnswer page names lent left right =
-    answered (unitsVerdict page names lent (counted left ∷ counted right ∷ []))
-    (convertible namesMax (rootsIn page) (termsOf (counted left)) (termsOf (counted right)))
+    answered (unitsVerdict page names lent (orEmpty left ∷ orEmpty right ∷ []))
+    (convertible namesMax (rootsIn page) (termsOf (orEmpty left)) (termsOf (orEmpty right)))

@@ -23,7 +23,7 @@ ghost use Rattle.units.specs.Calls.{termsOf, unitOf};
 ghost use Rattle.groups.specs.Groups.{walk};
 ghost use Rattle.sums.specs.Sums.{rooted, groupSums, convertible, sumsOf, sumsIn};
 ghost use Rattle.sums.specs.Gather.{nearer, leastFrom};
-ghost use Rattle.sums.specs.Calls.{unitsVerdict, sumsAnswer, counted, convertAnswer};
+ghost use Rattle.sums.specs.Calls.{unitsVerdict, sumsAnswer, orEmpty, convertAnswer};
 
 // The root of each group, ascending by number, with the sum of a unit's exponents in it, none of them zero. Output only: a sum
 // may reach 8,000 either way.
@@ -225,8 +225,8 @@ pub fn canonicalize(page: &[u8], names: &[u8], lent: bool, u: Unit) -> SumsResul
 }
 
 // The unit, or the empty one where there is none.
-fn counted(m: MaybeUnit) -> Unit
-    ensures { λ r. ⌜ r ≡ counted m ⌝ }
+fn or_empty(m: MaybeUnit) -> Unit
+    ensures { λ r. ⌜ r ≡ orEmpty m ⌝ }
 {
     if m.some {
         return m.unit;
@@ -244,8 +244,8 @@ pub fn is_convertible_to(
 ) -> Conversion
     ensures { λ r. ⌜ r ≡ convertAnswer (now (page .entry)) (now (names .entry)) lent left right ⌝ }
 {
-    let a = counted(left);
-    let b = counted(right);
+    let a = or_empty(left);
+    let b = or_empty(right);
     let verdict = units_verdict(page, names, lent, a, b);
     if let Verdict::Refused(r) = verdict {
         return Conversion::Refused(r);

@@ -25,7 +25,9 @@ same-length c = search needs
 
 returns : tie.Need-returns
 unfolding enter
-returns c = rw (c .symbol-index .ensures .0, c .before .linked .ensures, c .before .before .root2 .ensures, c .before .before .before .before .root .ensures)
+returns c =
+    let root = c .before .before .before .before .root in
+    rw (c .symbol-index .ensures .0, c .before .linked .ensures, c .before .before .root2 .ensures, root .ensures)
 
 pub join-spec : {M : Type 1} → statement M
 join-spec =

@@ -28,8 +28,10 @@ shared-slice-read-up c = search needs
 
 returns : tie.Need-returns Inv-loop μ-loop
 returns c =
-    let l = c .before .before .before .before .loop in
-    let a = c .before .before .before .before .before .before .args in
+    let loop = c .before .before .before .before .loop in
+    let start = c .before .before .before .before .before .before in
+    let l = loop in
+    let a = start .args in
     sym (l .inv .1 ∙ walk-stays (a .steps - l .k) (now (a .parents)) (l .at) (rw (c .before .before .symbol-index .ensures .0) at (c .if1 .taken)))
 
 add-k : tie.Need-add-k Inv-loop μ-loop
@@ -40,16 +42,19 @@ loop-less c = search needs
 
 loop-again : tie.Need-loop-again Inv-loop μ-loop
 loop-again c =
-    let l = c .before .before .before .before .loop in
-    let a = c .before .before .before .before .before .before .args in (
+    let loop = c .before .before .before .before .loop in
+    let start = c .before .before .before .before .before .before in
+    let l = loop in
+    let a = start .args in (
       omega arith,
       l .inv .1 ∙ walk-one (a .steps) (l .k) (now (a .parents)) (l .at) (omega arith) ∙ rw (c .before .before .symbol-index .ensures .0),
     )
 
 returns-2 : tie.Need-returns-2 Inv-loop μ-loop
 returns-2 c =
+    let start = c .before .before .before in
     let l = c .before .loop in
-    let a = c .before .before .before .args in
+    let a = start .args in
     sym (l .inv .1 ∙ walk-none (a .steps) (l .k) (now (a .parents)) (l .at) (omega arith))
 
 pub root-spec : {M : Type 1} → statement M

@@ -38,8 +38,12 @@ are-used-requires c κs = search needs
 
 returns : tie.Need-returns Inv-loop μ-loop
 returns c =
-    let a = c .before .before .before .before .before .before .before .args in
-    sym (all-failed (usedAt (now (a .pairs)) (a .n)) (a .k) (c .before .before .before .before .before .loop .i) (c .before .before .before .before .loop-test .taken) (sym (c .before .are-used .ensures) ∙ not-true (c .before .are-used .result) (c .if1 .taken)))
+    let start = c .before .before .before .before .before .before .before in
+    let loop = c .before .before .before .before .before .loop in
+    let loop-test = c .before .before .before .before .loop-test in
+    let are-used = c .before .are-used in
+    let a = start .args in
+    sym (all-failed (usedAt (now (a .pairs)) (a .n)) (a .k) (loop .i) (loop-test .taken) (sym (are-used .ensures) ∙ not-true (are-used .result) (c .if1 .taken)))
 
 add-i : tie.Need-add-i Inv-loop μ-loop
 add-i c = search needs
@@ -49,13 +53,18 @@ loop-less c = search needs
 
 loop-again : tie.Need-loop-again Inv-loop μ-loop
 loop-again c =
-    let a = c .before .before .before .before .before .before .before .args in
-    (omega arith, all-more (usedAt (now (a .pairs)) (a .n)) (c .before .before .before .before .before .loop .i) (c .before .before .before .before .before .loop .inv .1) (sym (c .before .are-used .ensures) ∙ not-false (c .before .are-used .result) (c .if1 .left)))
+    let start = c .before .before .before .before .before .before .before in
+    let loop = c .before .before .before .before .before .loop in
+    let are-used = c .before .are-used in
+    let a = start .args in
+    (omega arith, all-more (usedAt (now (a .pairs)) (a .n)) (loop .i) (loop .inv .1) (sym (are-used .ensures) ∙ not-false (are-used .result) (c .if1 .left)))
 
 returns-2 : tie.Need-returns-2 Inv-loop μ-loop
 returns-2 c =
-    let e : c .before .loop .i ≡ c .before .before .before .args .k = omega arith in
-    sym (rw e at (c .before .loop .inv .1))
+    let loop = c .before .loop in
+    let start = c .before .before .before in
+    let e : loop .i ≡ start .args .k = omega arith in
+    sym (rw e at (loop .inv .1))
 
 pub all-used-spec : {M : Type 1} → statement M
 all-used-spec =

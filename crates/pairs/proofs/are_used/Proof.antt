@@ -10,7 +10,8 @@ symbol-index-requires c κs = search needs
 
 returns : tie.Need-returns
 returns c =
-    symbol-unused (c .before .before .args .symbol) (c .before .before .args .base) (c .before .before .args .n)
+    let start = c .before .before in
+    symbol-unused (start .args .symbol) (start .args .base) (start .args .n)
     (rw (c .before .symbol-index .ensures .0) at (c .if1 .taken))
 
 symbol-index-requires-2 : tie.Need-symbol-index-requires-2
@@ -18,8 +19,9 @@ symbol-index-requires-2 c κs = search needs
 
 returns-2 : tie.Need-returns-2
 returns-2 c =
+    let start = c .before .before .before in
     rw (c .symbol-index2 .ensures .0)
-    (base-decides (c .before .before .before .args .symbol) (c .before .before .before .args .base) (c .before .before .before .args .n) (rw (c .before .before .symbol-index .ensures .0) at (c .before .if1 .left)))
+    (base-decides (start .args .symbol) (start .args .base) (start .args .n) (rw (c .before .before .symbol-index .ensures .0) at (c .before .if1 .left)))
 
 pub are-used-spec : {M : Type 1} → statement M
 are-used-spec =

@@ -18,7 +18,8 @@ enum-known-verdict c = search needs
 
 returns : tie.Need-returns
 returns c =
-    let a = c .before .before .before .before .before .before .args in
+    let start = c .before .before .before .before .before .before in
+    let a = start .args in
     root-refused (now (a .page)) (now (a .names)) (a .lent) (a .symbol) _ (sym (c .before .verdict .given .1) ∙ c .before .before .before .symbol-verdict .ensures)
 
 enum-told : tie.Need-enum-told
@@ -26,13 +27,15 @@ enum-told c = search needs
 
 parents-of-requires : tie.Need-parents-of-requires
 parents-of-requires c κs =
-    let a = c .before .before .before .before .before .args in
+    let start = c .before .before .before .before .before in
+    let a = start .args in
     let v = sym (c .enum-told .given .1) ∙ c .before .before .symbol-verdict .ensures in
     formed-held (now (a .page)) (usedOf (now (a .names)) (a .lent)) (passed-formed (now (a .page)) (now (a .names)) (a .lent) (a .symbol) v)
 
 count-requires : tie.Need-count-requires
 count-requires c κs =
-    let a = c .before .before .before .before .before .before .args in
+    let start = c .before .before .before .before .before .before in
+    let a = start .args in
     let v = sym (c .before .enum-told .given .1) ∙ c .before .before .before .symbol-verdict .ensures in
     let h = formed-held (now (a .page)) (usedOf (now (a .names)) (a .lent)) (passed-formed (now (a .page)) (now (a .names)) (a .lent) (a .symbol) v) in
     omega (arith, h .room)
@@ -42,11 +45,14 @@ root-requires c κs = search needs
 
 returns-2 : tie.Need-returns-2
 returns-2 c =
-    let a = c .before .before .before .before .before .before .before .before .args in
-    let v = sym (c .before .before .before .enum-told .given .1) ∙ c .before .before .before .before .before .symbol-verdict .ensures in
+    let start = c .before .before .before .before .before .before .before .before in
+    let symbol-verdict = c .before .before .before .before .before .symbol-verdict in
+    let count = c .before .count in
+    let a = start .args in
+    let v = sym (c .before .before .before .enum-told .given .1) ∙ symbol-verdict .ensures in
     let f = passed-formed (now (a .page)) (now (a .names)) (a .lent) (a .symbol) v in
     root-given (now (a .page)) (now (a .names)) (a .lent) (a .symbol) v _
-    (c .root .ensures ∙ rw (c .before .before .parents-of .ensures .0) (root-in (now (a .page)) (usedOf (now (a .names)) (a .lent)) (c .before .count .result) (a .symbol) f (c .before .count .ensures .0)))
+    (c .root .ensures ∙ rw (c .before .before .parents-of .ensures .0) (root-in (now (a .page)) (usedOf (now (a .names)) (a .lent)) (count .result) (a .symbol) f (count .ensures .0)))
 
 pub canonical-spec : {M : Type 1} → statement M
 canonical-spec =

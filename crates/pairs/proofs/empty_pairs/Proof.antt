@@ -11,7 +11,9 @@ size-of-requires : tie.Need-size-of-requires
 size-of-requires c κs = search needs
 
 returns : tie.Need-returns
-returns c = empty-short (now (c .before .before .before .args .page)) (rw (c .before .size-of .ensures) at (c .if1 .taken))
+returns c =
+    let start = c .before .before .before in
+    empty-short (now (start .args .page)) (rw (c .before .size-of .ensures) at (c .if1 .taken))
 
 own-parents-requires : tie.Need-own-parents-requires
 own-parents-requires c κs = search needs
@@ -30,10 +32,13 @@ same-length c = search needs
 
 returns-2 : tie.Need-returns-2
 returns-2 c =
-    let m =
-    empty-made (now (c .before .before .before .before .before .before .before .before .before .before .before .before .before .args .page))
-    (rw (c .before .before .before .before .before .before .before .before .before .before .before .size-of .ensures) at (c .before .before .before .before .before .before .before .before .before .before .if1 .left)) in
-    (m .0, c .before .before .put-bytes .ensures ∙ rw (c .before .before .before .before .before .before .before .clear .ensures, c .before .before .before .before .before .before .before .before .before .own-parents .ensures) (m .1))
+    let start = c .before .before .before .before .before .before .before .before .before .before .before .before .before in
+    let size-of = c .before .before .before .before .before .before .before .before .before .before .before .size-of in
+    let if1 = c .before .before .before .before .before .before .before .before .before .before .if1 in
+    let clear = c .before .before .before .before .before .before .before .clear in
+    let own-parents = c .before .before .before .before .before .before .before .before .before .own-parents in
+    let m = empty-made (now (start .args .page)) (rw (size-of .ensures) at (if1 .left)) in
+    (m .0, c .before .before .put-bytes .ensures ∙ rw (clear .ensures, own-parents .ensures) (m .1))
 
 pub empty-pairs-spec : {M : Type 1} → statement M
 empty-pairs-spec =

@@ -29,8 +29,10 @@ shared-slice-read-if1 c = search needs
 
 returns : tie.Need-returns Inv-loop μ-loop
 returns c =
-    let a = c .before .before .before .before .args in
-    sym (first-at (isOf (now (a .bodies)) (a .symbol)) (a .k) (c .before .before .before .loop .i) (c .before .before .loop-test .taken) (c .before .before .before .loop .inv .1) (eq-eqb _ _ (c .if1 .taken)))
+    let start = c .before .before .before .before in
+    let loop = c .before .before .before .loop in
+    let a = start .args in
+    sym (first-at (isOf (now (a .bodies)) (a .symbol)) (a .k) (loop .i) (c .before .before .loop-test .taken) (loop .inv .1) (eq-eqb _ _ (c .if1 .taken)))
 
 add-i : tie.Need-add-i Inv-loop μ-loop
 add-i c = search needs
@@ -40,14 +42,18 @@ loop-less c = search needs
 
 loop-again : tie.Need-loop-again Inv-loop μ-loop
 loop-again c =
-    let a = c .before .before .before .before .args in
-    (omega arith, any-more (isOf (now (a .bodies)) (a .symbol)) (c .before .before .before .loop .i) (c .before .before .before .loop .inv .1) (ne-eqb _ _ (c .if1 .left)))
+    let start = c .before .before .before .before in
+    let loop = c .before .before .before .loop in
+    let a = start .args in
+    (omega arith, any-more (isOf (now (a .bodies)) (a .symbol)) (loop .i) (loop .inv .1) (ne-eqb _ _ (c .if1 .left)))
 
 returns-2 : tie.Need-returns-2 Inv-loop μ-loop
 returns-2 c =
-    let a = c .before .before .args in
-    let e : c .before .loop .i ≡ a .k = omega arith in
-    sym (first-none (isOf (now (a .bodies)) (a .symbol)) (a .k) (rw e at (c .before .loop .inv .1)))
+    let start = c .before .before in
+    let loop = c .before .loop in
+    let a = start .args in
+    let e : loop .i ≡ a .k = omega arith in
+    sym (first-none (isOf (now (a .bodies)) (a .symbol)) (a .k) (rw e at (loop .inv .1)))
 
 pub find-symbol-spec : {M : Type 1} → statement M
 find-symbol-spec =

@@ -18,7 +18,8 @@ enum-known-verdict c = search needs
 
 returns : tie.Need-returns
 returns c =
-    let a = c .before .before .before .before .before .before .args in
+    let start = c .before .before .before .before .before .before in
+    let a = start .args in
     factor-refused (now (a .page)) (now (a .names)) (a .lent) (a .symbol) _ (sym (c .before .verdict .given .1) ∙ c .before .before .before .symbol-verdict .ensures)
 
 enum-told : tie.Need-enum-told
@@ -26,14 +27,16 @@ enum-told c = search needs
 
 count-requires : tie.Need-count-requires
 count-requires c κs =
-    let a = c .before .before .before .before .before .args in
+    let start = c .before .before .before .before .before in
+    let a = start .args in
     let v = sym (c .enum-told .given .1) ∙ c .before .before .symbol-verdict .ensures in
     let h = formed-held (now (a .page)) (usedOf (now (a .names)) (a .lent)) (passed-formed (now (a .page)) (now (a .names)) (a .lent) (a .symbol) v) in
     omega (arith, h .room)
 
 parents-at-requires : tie.Need-parents-at-requires
 parents-at-requires c κs =
-    let a = c .before .before .before .before .before .before .args in
+    let start = c .before .before .before .before .before .before in
+    let a = start .args in
     let v = sym (c .before .enum-told .given .1) ∙ c .before .before .before .symbol-verdict .ensures in
     let h = formed-held (now (a .page)) (usedOf (now (a .names)) (a .lent)) (passed-formed (now (a .page)) (now (a .names)) (a .lent) (a .symbol) v) in
     omega (arith, h .few, c .count .ensures .0)
@@ -46,8 +49,10 @@ part-bodies-start c = search needs
 
 part-bodies-end : tie.Need-part-bodies-end
 part-bodies-end c =
-    let a = c .before .before .before .before .before .before .before .args in
-    let v = sym (c .before .before .enum-told .given .1) ∙ c .before .before .before .before .symbol-verdict .ensures in
+    let start = c .before .before .before .before .before .before .before in
+    let symbol-verdict = c .before .before .before .before .symbol-verdict in
+    let a = start .args in
+    let v = sym (c .before .before .enum-told .given .1) ∙ symbol-verdict .ensures in
     let h = formed-held (now (a .page)) (usedOf (now (a .names)) (a .lent)) (passed-formed (now (a .page)) (now (a .names)) (a .lent) (a .symbol) v) in
     omega (arith, h .room, c .before .count .ensures .0, c .parents-at .ensures)
 
@@ -71,27 +76,31 @@ shared-slice-read-t20 c = search needs
 
 returns-2 : tie.Need-returns-2
 returns-2 c =
-    let a = c .before .before .before .before .before .before .before .before .before .before .before .before .args in
-    let v =
-    sym (c .before .before .before .before .before .before .before .enum-told .given .1)
-    ∙ c .before .before .before .before .before .before .before .before .before .symbol-verdict .ensures in
-    let e =
-    bodies-read (now (a .page)) (c .before .before .before .before .before .before .count .result)
-    (c .before .before .before .before .before .parents-at .result) (c .before .before .before .before .before .before .count .ensures .0)
-    (c .before .before .before .before .before .parents-at .ensures) in
+    let start = c .before .before .before .before .before .before .before .before .before .before .before .before in
+    let enum-told = c .before .before .before .before .before .before .before .enum-told in
+    let symbol-verdict = c .before .before .before .before .before .before .before .before .before .symbol-verdict in
+    let count = c .before .before .before .before .before .before .count in
+    let parents-at = c .before .before .before .before .before .parents-at in
+    let find-symbol = c .before .before .before .find-symbol in
+    let a = start .args in
+    let v = sym (enum-told .given .1) ∙ symbol-verdict .ensures in
+    let e = bodies-read (now (a .page)) (count .result) (parents-at .result) (count .ensures .0) (parents-at .ensures) in
     rw (c .before .long .ensures, e)
-    (factor-found (now (a .page)) (now (a .names)) (a .lent) (a .symbol) v (c .before .before .before .before .before .before .count .result) (c .before .before .before .before .before .before .count .ensures .0) (c .before .before .before .find-symbol .result) (rw e at (c .before .before .before .find-symbol .ensures)) (c .before .before .if1 .taken))
+    (factor-found (now (a .page)) (now (a .names)) (a .lent) (a .symbol) v (count .result) (count .ensures .0) (find-symbol .result) (rw e at (find-symbol .ensures)) (c .before .before .if1 .taken))
 
 returns-3 : tie.Need-returns-3
 returns-3 c =
-    let a = c .before .before .before .before .before .before .before .before .before .before .args in
-    let v =
-    sym (c .before .before .before .before .before .enum-told .given .1) ∙ c .before .before .before .before .before .before .before .symbol-verdict .ensures in
-    let e =
-    bodies-read (now (a .page)) (c .before .before .before .before .count .result) (c .before .before .before .parents-at .result)
-    (c .before .before .before .before .count .ensures .0) (c .before .before .before .parents-at .ensures) in
-    factor-absent (now (a .page)) (now (a .names)) (a .lent) (a .symbol) v (c .before .before .before .before .count .result)
-    (c .before .before .before .before .count .ensures .0) (c .before .find-symbol .result) (rw e at (c .before .find-symbol .ensures)) (c .if1 .left)
+    let start = c .before .before .before .before .before .before .before .before .before .before in
+    let enum-told = c .before .before .before .before .before .enum-told in
+    let symbol-verdict = c .before .before .before .before .before .before .before .symbol-verdict in
+    let count = c .before .before .before .before .count in
+    let parents-at = c .before .before .before .parents-at in
+    let find-symbol = c .before .find-symbol in
+    let a = start .args in
+    let v = sym (enum-told .given .1) ∙ symbol-verdict .ensures in
+    let e = bodies-read (now (a .page)) (count .result) (parents-at .result) (count .ensures .0) (parents-at .ensures) in
+    factor-absent (now (a .page)) (now (a .names)) (a .lent) (a .symbol) v (count .result)
+    (count .ensures .0) (find-symbol .result) (rw e at (find-symbol .ensures)) (c .if1 .left)
 
 pub first-factor-spec : {M : Type 1} → statement M
 first-factor-spec =

@@ -15,8 +15,10 @@ kept-requires c κs = search needs
 
 returns : tie.Need-returns
 returns c =
-    let a = c .before .before .before .args in
-    let f = sym (c .before .before .is-table .ensures) ∙ not-true (c .before .before .is-table .result) (c .before .if1 .taken) in
+    let start = c .before .before .before in
+    let is-table = c .before .before .is-table in
+    let a = start .args in
+    let f = sym (is-table .ensures) ∙ not-true (is-table .result) (c .before .if1 .taken) in
     c .kept .ensures ∙ insert-broken (a .t) (a .n) (a .symbol) (a .factor) (a .base) f
 
 are-used-requires : tie.Need-are-used-requires
@@ -27,11 +29,12 @@ kept-requires-2 c κs = search needs
 
 returns-2 : tie.Need-returns-2
 returns-2 c =
-    let a = c .before .before .before .before .before .args in
-    let f =
-    sym (c .before .before .before .before .is-table .ensures)
-    ∙ not-false (c .before .before .before .before .is-table .result) (c .before .before .before .if1 .left) in
-    let u = sym (c .before .before .are-used .ensures) ∙ not-true (c .before .before .are-used .result) (c .before .if2 .taken) in
+    let start = c .before .before .before .before .before in
+    let is-table = c .before .before .before .before .is-table in
+    let are-used = c .before .before .are-used in
+    let a = start .args in
+    let f = sym (is-table .ensures) ∙ not-false (is-table .result) (c .before .before .before .if1 .left) in
+    let u = sym (are-used .ensures) ∙ not-true (are-used .result) (c .before .if2 .taken) in
     c .kept2 .ensures ∙ insert-unused (a .t) (a .n) (a .symbol) (a .factor) (a .base) f u
 
 kept-requires-3 : tie.Need-kept-requires-3
@@ -39,28 +42,32 @@ kept-requires-3 c κs = search needs
 
 returns-3 : tie.Need-returns-3
 returns-3 c =
-    let a = c .before .before .before .before .before .before .args in
-    let f =
-    sym (c .before .before .before .before .before .is-table .ensures)
-    ∙ not-false (c .before .before .before .before .before .is-table .result) (c .before .before .before .before .if1 .left) in
-    let u = sym (c .before .before .before .are-used .ensures) ∙ not-false (c .before .before .before .are-used .result) (c .before .before .if2 .left) in
+    let start = c .before .before .before .before .before .before in
+    let is-table = c .before .before .before .before .before .is-table in
+    let if1 = c .before .before .before .before .if1 in
+    let are-used = c .before .before .before .are-used in
+    let a = start .args in
+    let f = sym (is-table .ensures) ∙ not-false (is-table .result) (if1 .left) in
+    let u = sym (are-used .ensures) ∙ not-false (are-used .result) (c .before .before .if2 .left) in
     c .kept3 .ensures ∙ insert-full (a .t) (a .n) (a .symbol) (a .factor) (a .base) f u (c .before .if3 .taken)
 
 with-pair-requires : tie.Need-with-pair-requires
 with-pair-requires c κs =
-    let a = c .before .before .before .before .before .args in
-    let f =
-    sym (c .before .before .before .before .is-table .ensures)
-    ∙ not-false (c .before .before .before .before .is-table .result) (c .before .before .before .if1 .left) in
+    let start = c .before .before .before .before .before in
+    let is-table = c .before .before .before .before .is-table in
+    let a = start .args in
+    let f = sym (is-table .ensures) ∙ not-false (is-table .result) (c .before .before .before .if1 .left) in
     (c .if3 .left, form (a .t) (a .n) f .given)
 
 returns-4 : tie.Need-returns-4
 returns-4 c =
-    let a = c .before .before .before .before .before .before .args in
-    let f =
-    sym (c .before .before .before .before .before .is-table .ensures)
-    ∙ not-false (c .before .before .before .before .before .is-table .result) (c .before .before .before .before .if1 .left) in
-    let u = sym (c .before .before .before .are-used .ensures) ∙ not-false (c .before .before .before .are-used .result) (c .before .before .if2 .left) in
+    let start = c .before .before .before .before .before .before in
+    let is-table = c .before .before .before .before .before .is-table in
+    let if1 = c .before .before .before .before .if1 in
+    let are-used = c .before .before .before .are-used in
+    let a = start .args in
+    let f = sym (is-table .ensures) ∙ not-false (is-table .result) (if1 .left) in
+    let u = sym (are-used .ensures) ∙ not-false (are-used .result) (c .before .before .if2 .left) in
     rw (c .with-pair .ensures) (insert-done (a .t) (a .n) (a .symbol) (a .factor) (a .base) f u (c .before .if3 .left))
 
 pub inserted-spec : {M : Type 1} → statement M

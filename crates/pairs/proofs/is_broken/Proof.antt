@@ -12,7 +12,8 @@ is-broken-requires c κs = search needs
 
 returns : tie.Need-returns
 returns c =
-    let a = c .before .before .before .before .args in
+    let start = c .before .before .before .before in
+    let a = start .args in
     broken-names (now (a .page)) (now (a .names)) (a .lent) (sym (c .before .is-broken .ensures) ∙ c .if1 .taken)
 
 in-use-requires : tie.Need-in-use-requires
@@ -23,7 +24,8 @@ is-formed-requires c κs = search needs
 
 returns-2 : tie.Need-returns-2
 returns-2 c =
-    let a = c .before .before .before .before .before .before .args in
+    let start = c .before .before .before .before .before .before in
+    let a = start .args in
     rw (c .is-formed .ensures, c .before .in-use .ensures .0)
     (broken-rest (now (a .page)) (now (a .names)) (a .lent) (sym (c .before .before .before .is-broken .ensures) ∙ c .before .before .if1 .left))
 

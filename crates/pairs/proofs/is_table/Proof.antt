@@ -19,21 +19,27 @@ slice-aggregate-all-used c = search needs
 
 all-used-requires : tie.Need-all-used-requires
 all-used-requires c κs =
-    let z : length (c .before .before .before .args .t .pairs) ≡ pairBytes * pairsMax = search needs in
+    let start = c .before .before .before in
+    let z : length (start .args .t .pairs) ≡ pairBytes * pairsMax = search needs in
     omega (arith, z, c .before .before .if1 .left)
 
 returns-2 : tie.Need-returns-2
 returns-2 c =
-    form-unused (c .before .before .before .before .before .args .t) (c .before .before .before .before .before .args .n)
-    (c .before .before .before .before .if1 .left) (sym (c .before .all-used .ensures) ∙ not-true (c .before .all-used .result) (c .if2 .taken))
+    let start = c .before .before .before .before .before in
+    let if1 = c .before .before .before .before .if1 in
+    let all-used = c .before .all-used in
+    form-unused (start .args .t) (start .args .n)
+    (if1 .left) (sym (all-used .ensures) ∙ not-true (all-used .result) (c .if2 .taken))
 
 slice-aggregate-replayed : tie.Need-slice-aggregate-replayed
 slice-aggregate-replayed c = search needs
 
 replayed-requires : tie.Need-replayed-requires
 replayed-requires c κs =
-    let z : length (c .before .before .before .before .before .before .before .args .t .pairs) ≡ pairBytes * pairsMax = search needs in
-    omega (arith, z, c .before .before .before .before .before .before .if1 .left)
+    let start = c .before .before .before .before .before .before .before in
+    let if1 = c .before .before .before .before .before .before .if1 in
+    let z : length (start .args .t .pairs) ≡ pairBytes * pairsMax = search needs in
+    omega (arith, z, if1 .left)
 
 slice-aggregate-same : tie.Need-slice-aggregate-same
 slice-aggregate-same c = search needs
@@ -46,12 +52,14 @@ same-requires c κs = search needs
 
 returns-3 : tie.Need-returns-3
 returns-3 c =
-    let t = c .before .before .before .before .before .before .before .before .before .before .before .args .t in
-    let u =
-    sym (c .before .before .before .before .before .before .before .all-used .ensures)
-    ∙ not-false (c .before .before .before .before .before .before .before .all-used .result) (c .before .before .before .before .before .before .if2 .left) in
+    let start = c .before .before .before .before .before .before .before .before .before .before .before in
+    let all-used = c .before .before .before .before .before .before .before .all-used in
+    let if2 = c .before .before .before .before .before .before .if2 in
+    let if1 = c .before .before .before .before .before .before .before .before .before .before .if1 in
+    let t = start .args .t in
+    let u = sym (all-used .ensures) ∙ not-false (all-used .result) (if2 .left) in
     c .same .ensures ∙ rw (c .before .before .before .replayed .ensures)
-    (form-rest t (c .before .before .before .before .before .before .before .before .before .before .before .args .n) (c .before .before .before .before .before .before .before .before .before .before .if1 .left) u)
+    (form-rest t (start .args .n) (if1 .left) u)
 
 pub is-table-spec : {M : Type 1} → statement M
 is-table-spec =

@@ -27,8 +27,10 @@ part-result-end c = search needs
 
 returns : tie.Need-returns
 returns c =
-    parents-read (now (c .before .before .before .before .args .page)) (c .before .parents-at .result) (c .before .before .before .before .pre)
-    (c .before .parents-at .ensures ∙ rw (c .before .before .count .ensures .0)) _ refl
+    let start = c .before .before .before .before in
+    let parents-at = c .before .parents-at in
+    parents-read (now (start .args .page)) (parents-at .result) (start .pre)
+    (parents-at .ensures ∙ rw (c .before .before .count .ensures .0)) _ refl
 
 pub parents-of-spec : {M : Type 1} → statement M
 parents-of-spec =

@@ -25,8 +25,9 @@ own-parents-requires c κs = search needs
 
 loop-holds : tie.Need-loop-holds Inv-loop μ-loop
 loop-holds c =
-    let e = c .own-parents .ensures ∙ parents-none (now (c .before .before .args .pairs)) in
-    (omega arith, e, ap length e ∙ length-parents namesMax (pairsIn (now (c .before .before .args .pairs)) 0))
+    let start = c .before .before in
+    let e = c .own-parents .ensures ∙ parents-none (now (start .args .pairs)) in
+    (omega arith, e, ap length e ∙ length-parents namesMax (pairsIn (now (start .args .pairs)) 0))
 
 mul-at : tie.Need-mul-at Inv-loop μ-loop
 mul-at c = search needs
@@ -54,17 +55,19 @@ loop-less c = search needs
 
 loop-again : tie.Need-loop-again Inv-loop μ-loop
 loop-again c =
-    let bodies = now (c .before .before .before .before .before .before .before .before .before .args .pairs) in
-    let i = c .before .before .before .before .before .before .loop .i in
-    let e =
-    c .before .join .ensures ∙ ap (λ (p : List ℕ). enter i p (pairAt bodies i)) (c .before .before .before .before .before .before .loop .inv .1)
-    ∙ parents-next bodies i in
+    let start = c .before .before .before .before .before .before .before .before .before in
+    let loop = c .before .before .before .before .before .before .loop in
+    let bodies = now (start .args .pairs) in
+    let i = loop .i in
+    let e = c .before .join .ensures ∙ ap (λ (p : List ℕ). enter i p (pairAt bodies i)) (loop .inv .1) ∙ parents-next bodies i in
     (omega arith, e, ap length e ∙ length-parents namesMax (pairsIn bodies (i + 1)))
 
 returns : tie.Need-returns Inv-loop μ-loop
 returns c =
-    let e : c .before .loop .i ≡ c .before .before .before .before .args .k = omega arith in
-    rw e at (c .before .loop .inv .1)
+    let loop = c .before .loop in
+    let start = c .before .before .before .before in
+    let e : loop .i ≡ start .args .k = omega arith in
+    rw e at (loop .inv .1)
 
 pub replayed-spec : {M : Type 1} → statement M
 replayed-spec =

@@ -12,12 +12,14 @@ is-broken-requires c κs = search needs
 
 returns : tie.Need-returns
 returns c =
-    let a = c .before .before .before .before .args in
+    let start = c .before .before .before .before in
+    let a = start .args in
     symbol-broken (now (a .page)) (now (a .names)) (a .lent) (a .symbol) (sym (c .before .is-broken .ensures) ∙ c .if1 .taken)
 
 in-use-requires : tie.Need-in-use-requires
 in-use-requires c κs =
-    let a = c .before .before .before .before .args in
+    let start = c .before .before .before .before in
+    let a = start .args in
     unbroken (now (a .page)) (now (a .names)) (a .lent) (sym (c .before .is-broken .ensures) ∙ c .if1 .left) .0
 
 symbol-index-requires : tie.Need-symbol-index-requires
@@ -25,16 +27,20 @@ symbol-index-requires c κs = search needs
 
 returns-2 : tie.Need-returns-2
 returns-2 c =
-    let a = c .before .before .before .before .before .before .before .args in
+    let start = c .before .before .before .before .before .before .before in
+    let is-broken = c .before .before .before .before .is-broken in
+    let a = start .args in
     symbol-unused (now (a .page)) (now (a .names)) (a .lent) (a .symbol)
-    (sym (c .before .before .before .before .is-broken .ensures) ∙ c .before .before .before .if1 .left)
+    (sym (is-broken .ensures) ∙ c .before .before .before .if1 .left)
     (rw (c .before .before .in-use .ensures .0, c .before .symbol-index .ensures .0) at (c .if2 .taken))
 
 returns-3 : tie.Need-returns-3
 returns-3 c =
-    let a = c .before .before .before .before .before .before .before .args in
+    let start = c .before .before .before .before .before .before .before in
+    let is-broken = c .before .before .before .before .is-broken in
+    let a = start .args in
     symbol-used (now (a .page)) (now (a .names)) (a .lent) (a .symbol)
-    (sym (c .before .before .before .before .is-broken .ensures) ∙ c .before .before .before .if1 .left)
+    (sym (is-broken .ensures) ∙ c .before .before .before .if1 .left)
     (rw (c .before .before .in-use .ensures .0, c .before .symbol-index .ensures .0) at (c .if2 .left))
 
 pub symbol-verdict-spec : {M : Type 1} → statement M

@@ -54,13 +54,19 @@ put-bytes-requires-2 c κs = search needs
 
 returns : tie.Need-returns
 returns c =
-    let page = now (c .before .before .before .before .before .before .before .before .before .before .before .before .before .args .page) in
-    let k = c .before .before .before .before .before .before .before .before .before .before .before .count in
-    table-read page (k .result) (c .before .before .before .before .before .before .before .before .before .before .parents-at .result) (k .ensures .0)
-    (c .before .before .before .before .before .before .before .before .before .before .parents-at .ensures)
-    (rw (k .ensures .0) (c .before .before .before .before .before .before .before .before .before .before .before .before .before .pre .few))
-    (rw (k .ensures .0) (c .before .before .before .before .before .before .before .before .before .before .before .before .before .pre .room)) _ _
-    (c .before .before .before .before .before .put-bytes .ensures ∙ rw (c .before .before .before .before .before .before .before .before .before .no-bodies .ensures)) (c .before .put-bytes2 .ensures ∙ rw (c .before .before .before .before .before .before .before .before .own-parents .ensures))
+    let start = c .before .before .before .before .before .before .before .before .before .before .before .before .before in
+    let count = c .before .before .before .before .before .before .before .before .before .before .before .count in
+    let parents-at = c .before .before .before .before .before .before .before .before .before .before .parents-at in
+    let put-bytes = c .before .before .before .before .before .put-bytes in
+    let no-bodies = c .before .before .before .before .before .before .before .before .before .no-bodies in
+    let own-parents = c .before .before .before .before .before .before .before .before .own-parents in
+    let page = now (start .args .page) in
+    let k = count in
+    table-read page (k .result) (parents-at .result) (k .ensures .0)
+    (parents-at .ensures)
+    (rw (k .ensures .0) (start .pre .few))
+    (rw (k .ensures .0) (start .pre .room)) _ _
+    (put-bytes .ensures ∙ rw (no-bodies .ensures)) (c .before .put-bytes2 .ensures ∙ rw (own-parents .ensures))
 
 pub table-in-spec : {M : Type 1} → statement M
 table-in-spec =

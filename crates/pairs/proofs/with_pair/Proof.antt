@@ -24,8 +24,9 @@ slice-aggregate-put-bytes-2 c = search needs
 
 put-bytes-requires : tie.Need-put-bytes-requires
 put-bytes-requires c κs =
-    let z : length (c .before .before .before .before .before .args .t .pairs) ≡ pairBytes * pairsMax = search needs in
-    omega (arith, z, c .before .before .before .before .before .pre .0)
+    let start = c .before .before .before .before .before in
+    let z : length (start .args .t .pairs) ≡ pairBytes * pairsMax = search needs in
+    omega (arith, z, start .pre .0)
 
 slice-aggregate-put-bytes-3 : tie.Need-slice-aggregate-put-bytes-3
 slice-aggregate-put-bytes-3 c = search needs
@@ -50,11 +51,15 @@ add-t19 c = search needs
 
 returns : tie.Need-returns
 returns c =
-    let a = c .before .before .before .before .before .before .before .before .before .before .before .before .before .before .args in
+    let start = c .before .before .before .before .before .before .before .before .before .before .before .before .before .before in
+    let put-bytes2 = c .before .before .before .before .put-bytes2 in
+    let put-bytes = c .before .before .before .before .before .before .before .before .put-bytes in
+    let long-bytes = c .before .before .before .before .before .before .before .before .before .before .before .long-bytes in
+    let a = start .args in
     let z : length (a .t .pairs) ≡ pairBytes * pairsMax = search needs in
     with-pair (a .t) (a .symbol) (a .factor) (a .base) (a .t .count) refl (omega (arith, z))
-    (c .before .before .before .before .before .before .before .before .before .before .before .before .before .before .pre .1) _ _
-    (c .before .before .before .before .put-bytes2 .ensures ∙ rw (c .before .before .before .before .before .before .before .before .put-bytes .ensures, c .before .before .before .before .before .before .before .before .before .before .before .long-bytes .ensures)) (c .before .join .ensures)
+    (start .pre .1) _ _
+    (put-bytes2 .ensures ∙ rw (put-bytes .ensures, long-bytes .ensures)) (c .before .join .ensures)
 
 pub with-pair-spec : {M : Type 1} → statement M
 with-pair-spec =

@@ -29,8 +29,9 @@ part-put-bytes-start c = search needs
 
 part-put-bytes-end : tie.Need-part-put-bytes-end
 part-put-bytes-end c =
-    let z : length (c .before .before .before .before .before .before .before .args .t .pairs) ≡ pairBytes * pairsMax = search needs in
-    omega (arith, z, c .before .before .before .before .before .before .before .pre .0)
+    let start = c .before .before .before .before .before .before .before in
+    let z : length (start .args .t .pairs) ≡ pairBytes * pairsMax = search needs in
+    omega (arith, z, start .pre .0)
 
 put-bytes-requires : tie.Need-put-bytes-requires
 put-bytes-requires c κs = search needs
@@ -40,9 +41,11 @@ slice-aggregate-put-bytes c = search needs
 
 put-bytes-requires-2 : tie.Need-put-bytes-requires-2
 put-bytes-requires-2 c κs =
-    let z : length (c .before .before .before .before .before .before .before .before .before .before .before .before .before .args .t .parents) ≡ namesMax =
-    search needs in
-    omega (arith, z, c .before .before .before .before .before .before .before .before .before .before .before .parents-at .ensures, c .before .before .before .before .before .before .before .before .before .before .before .before .before .pre .1, c .before .before .before .before .put-bytes .kept .0)
+    let start = c .before .before .before .before .before .before .before .before .before .before .before .before .before in
+    let parents-at = c .before .before .before .before .before .before .before .before .before .before .before .parents-at in
+    let put-bytes = c .before .before .before .before .put-bytes in
+    let z : length (start .args .t .parents) ≡ namesMax = search needs in
+    omega (arith, z, parents-at .ensures, start .pre .1, put-bytes .kept .0)
 
 slice-aggregate-put-bytes-2 : tie.Need-slice-aggregate-put-bytes-2
 slice-aggregate-put-bytes-2 c = search needs
@@ -55,10 +58,15 @@ same-length c = search needs
 
 returns : tie.Need-returns
 returns c =
-    table-written (now (c .before .before .before .before .before .before .before .before .before .before .before .before .before .before .before .before .before .before .before .before .before .args .page)) (c .before .before .before .before .before .before .before .before .before .before .before .before .before .before .before .before .before .before .before .before .before .args .t) (c .before .before .before .before .before .before .before .before .before .before .before .before .before .before .before .before .before .before .before .parents-at .result) (c .before .before .before .before .before .before .before .before .before .before .before .before .before .before .before .before .before .before .before .parents-at .ensures) _ _ _
-    (c .before .before .before .before .before .before .before .before .before .before .before .before .put-bytes .ensures)
-    (c .before .before .before .before .before .before .before .put-bytes2 .ensures)
-    (c .before .before .put-bytes3 .ensures ∙ rw (c .before .before .before .before .before .before .before .before .before .before .before .before .before .before .before .before .count-bytes .ensures))
+    let start = c .before .before .before .before .before .before .before .before .before .before .before .before .before .before .before .before .before .before .before .before .before in
+    let parents-at = c .before .before .before .before .before .before .before .before .before .before .before .before .before .before .before .before .before .before .before .parents-at in
+    let put-bytes = c .before .before .before .before .before .before .before .before .before .before .before .before .put-bytes in
+    let put-bytes2 = c .before .before .before .before .before .before .before .put-bytes2 in
+    let count-bytes = c .before .before .before .before .before .before .before .before .before .before .before .before .before .before .before .before .count-bytes in
+    table-written (now (start .args .page)) (start .args .t) (parents-at .result) (parents-at .ensures) _ _ _
+    (put-bytes .ensures)
+    (put-bytes2 .ensures)
+    (c .before .before .put-bytes3 .ensures ∙ rw (count-bytes .ensures))
 
 pub write-table-spec : {M : Type 1} → statement M
 write-table-spec =

@@ -22,46 +22,49 @@ no-sums-requires c κs = search needs
 
 returns : tie.Need-returns
 returns c =
-    let a = c .before .before .before .before .before .before .args in
+    let start = c .before .before .before .before .before .before in
+    let units-verdict = c .before .before .before .units-verdict in
+    let a = start .args in
     rw (c .no-sums .ensures)
-    (sums-refused (now (a .page)) (now (a .names)) (a .lent) (a .u) (c .before .before .before .units-verdict .result) (c .before .before .before .units-verdict .ensures) (sym (c .before .before .is-refused .ensures) ∙ c .before .if1 .taken))
+    (sums-refused (now (a .page)) (now (a .names)) (a .lent) (a .u) (units-verdict .result) (units-verdict .ensures) (sym (c .before .before .is-refused .ensures) ∙ c .before .if1 .taken))
 
 parents-of-requires : tie.Need-parents-of-requires
 parents-of-requires c κs =
-    let a = c .before .before .before .before .before .args in
-    let v =
-    sym (c .before .before .units-verdict .ensures)
-    ∙ passed-is (c .before .before .units-verdict .result) (sym (c .before .is-refused .ensures) ∙ c .if1 .left) in
+    let start = c .before .before .before .before .before in
+    let units-verdict = c .before .before .units-verdict in
+    let a = start .args in
+    let v = sym (units-verdict .ensures) ∙ passed-is (units-verdict .result) (sym (c .before .is-refused .ensures) ∙ c .if1 .left) in
     passed-held (now (a .page)) (now (a .names)) (a .lent) (a .u) (a .u) v
 
 count-requires : tie.Need-count-requires
 count-requires c κs =
-    let a = c .before .before .before .before .before .before .args in
-    let v =
-    sym (c .before .before .before .units-verdict .ensures)
-    ∙ passed-is (c .before .before .before .units-verdict .result) (sym (c .before .before .is-refused .ensures) ∙ c .before .if1 .left) in
+    let start = c .before .before .before .before .before .before in
+    let units-verdict = c .before .before .before .units-verdict in
+    let a = start .args in
+    let v = sym (units-verdict .ensures) ∙ passed-is (units-verdict .result) (sym (c .before .before .is-refused .ensures) ∙ c .before .if1 .left) in
     let h = passed-held (now (a .page)) (now (a .names)) (a .lent) (a .u) (a .u) v in
     omega (arith, h .room)
 
 group-sums-requires : tie.Need-group-sums-requires
 group-sums-requires c κs =
-    let a = c .before .before .before .before .before .before .before .args in
-    let v =
-    sym (c .before .before .before .before .units-verdict .ensures)
-    ∙ passed-is (c .before .before .before .before .units-verdict .result) (sym (c .before .before .before .is-refused .ensures) ∙ c .before .before .if1 .left)
-    in
+    let start = c .before .before .before .before .before .before .before in
+    let units-verdict = c .before .before .before .before .units-verdict in
+    let a = start .args in
+    let v = sym (units-verdict .ensures) ∙ passed-is (units-verdict .result) (sym (c .before .before .before .is-refused .ensures) ∙ c .before .before .if1 .left) in
     (c .before .parents-of .ensures .1, passed-left (now (a .page)) (now (a .names)) (a .lent) (a .u) (a .u) v)
 
 returns-2 : tie.Need-returns-2
 returns-2 c =
-    let a = c .before .before .before .before .before .before .before .before .args in
-    let p =
-    passed-is (c .before .before .before .before .before .units-verdict .result)
-    (sym (c .before .before .before .before .is-refused .ensures) ∙ c .before .before .before .if1 .left) in
-    let v = sym (c .before .before .before .before .before .units-verdict .ensures) ∙ p in
-    let k = c .before .count .result in
+    let start = c .before .before .before .before .before .before .before .before in
+    let units-verdict = c .before .before .before .before .before .units-verdict in
+    let is-refused = c .before .before .before .before .is-refused in
+    let count = c .before .count in
+    let a = start .args in
+    let p = passed-is (units-verdict .result) (sym (is-refused .ensures) ∙ c .before .before .before .if1 .left) in
+    let v = sym (units-verdict .ensures) ∙ p in
+    let k = count .result in
     rw (c .group-sums .ensures, c .before .before .parents-of .ensures .0)
-    (sums-given (now (a .page)) (now (a .names)) (a .lent) (a .u) (c .before .before .before .before .before .units-verdict .result) (c .before .before .before .before .before .units-verdict .ensures) p (walk k (parentsIn (now (a .page)))) (λ s. passed-root (now (a .page)) (now (a .names)) (a .lent) (a .u) (a .u) v k s (c .before .count .ensures .0)))
+    (sums-given (now (a .page)) (now (a .names)) (a .lent) (a .u) (units-verdict .result) (units-verdict .ensures) p (walk k (parentsIn (now (a .page)))) (λ s. passed-root (now (a .page)) (now (a .names)) (a .lent) (a .u) (a .u) v k s (count .ensures .0)))
 
 pub canonicalize-spec : {M : Type 1} → statement M
 canonicalize-spec =

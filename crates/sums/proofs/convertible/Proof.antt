@@ -28,7 +28,8 @@ same-sums-requires c κs =
 
 returns : tie.Need-returns
 returns c =
-    let start = c .before .before .before .before in
+    let before = c .before .before .before .before in
+    let start = before in
     let group-sums = c .before .before .group-sums in
     let group-sums2 = c .before .group-sums2 in
     let g = start .args in

@@ -32,7 +32,8 @@ next-symbol-requires c κs = search needs
 
 returns : tie.Need-returns Inv-loop μ-loop
 returns c =
-    let start = c .before .before .before .before in
+    let before = c .before .before .before .before in
+    let start = before in
     let loop = c .before .before .loop in
     let next-symbol = c .before .next-symbol in
     gathering-end (start .args .u) (loop .w) (loop .lo) (loop .inv) (next-symbol .result) (next-symbol .ensures) (c .if1 .taken)
@@ -45,7 +46,8 @@ sum-of-requires c κs = search needs
 
 with-sum-requires : tie.Need-with-sum-requires Inv-loop μ-loop
 with-sum-requires c κs =
-    let start = c .before .before .before .before .before in
+    let before = c .before .before .before .before .before in
+    let start = before in
     let loop = c .before .before .before .loop in
     let next-symbol = c .before .before .next-symbol in
     λ z. gathering-room (start .args .u) (loop .w) (loop .lo) (loop .inv) (next-symbol .result) (next-symbol .ensures) (start .pre .0)
@@ -56,7 +58,8 @@ add-lo c = search needs
 
 loop-less : tie.Need-loop-less Inv-loop μ-loop
 loop-less c =
-    let start = c .before .before .before .before .before .before in
+    let before = c .before .before .before .before .before .before in
+    let start = before in
     let loop = c .before .before .before .before .loop in
     let next-symbol = c .before .before .before .next-symbol in
     let if1 = c .before .before .if1 in
@@ -64,7 +67,8 @@ loop-less c =
 
 loop-again : tie.Need-loop-again Inv-loop μ-loop
 loop-again c =
-    let start = c .before .before .before .before .before .before in
+    let before = c .before .before .before .before .before .before in
+    let start = before in
     let loop = c .before .before .before .before .loop in
     let next-symbol = c .before .before .before .next-symbol in
     let if1 = c .before .before .if1 in

@@ -33,7 +33,8 @@ loop-less c = search needs
 
 loop-again : tie.Need-loop-again Inv-loop μ-loop
 loop-again c =
-    let start = c .before .before .before .before .before in
+    let before = c .before .before .before .before .before in
+    let start = before in
     let loop = c .before .before .before .before .loop in
     let loop-test = c .before .before .before .loop-test in
     let symbol-index = c .before .symbol-index in

@@ -41,7 +41,8 @@ element-copy-out-with-term c = search needs
 
 with-term-requires : tie.Need-with-term-requires Inv-loop μ-loop
 with-term-requires c κs =
-    let start = c .before .before .before .before .before .before .before in
+    let before = c .before .before .before .before .before .before .before in
+    let start = before in
     let loop = c .before .before .before .before .loop in
     let loop-test = c .before .before .before .loop-test in
     let g = start .args in
@@ -55,7 +56,8 @@ loop-less c = search needs
 
 loop-again : tie.Need-loop-again Inv-loop μ-loop
 loop-again c =
-    let start = c .before .before .before .before .before .before .before .before in
+    let before = c .before .before .before .before .before .before .before .before in
+    let start = before in
     let loop = c .before .before .before .before .before .loop in
     let loop-test = c .before .before .before .before .loop-test in
     let root = c .before .before .root in
@@ -66,7 +68,8 @@ loop-again c =
 
 returns : tie.Need-returns Inv-loop μ-loop
 returns c =
-    let start = c .before .before .before .before in
+    let before = c .before .before .before .before in
+    let start = before in
     let loop = c .before .loop in
     let g = start .args in
     rooting-end (walk (g .steps) (now (g .parents))) (g .t3) (loop .v) (loop .i) (loop .inv) (c .loop-test .left)

@@ -34,7 +34,8 @@ element-copy-out-if2-2 c = search needs
 
 returns-2 : tie.Need-returns-2 Inv-loop μ-loop
 returns-2 c =
-    let start = c .before .before .before .before .before .before in
+    let before = c .before .before .before .before .before .before in
+    let start = before in
     let loop = c .before .before .before .before .loop in
     let loop-test = c .before .before .before .loop-test in
     compared-symbol (start .args .t1) (start .args .t2) (loop .i) (loop .inv) (loop-test .taken) (c .if2 .taken)
@@ -53,7 +54,8 @@ element-copy-out-if3-2 c = search needs
 
 returns-3 : tie.Need-returns-3 Inv-loop μ-loop
 returns-3 c =
-    let start = c .before .before .before .before .before .before .before .before .before in
+    let before = c .before .before .before .before .before .before .before .before .before in
+    let start = before in
     let loop = c .before .before .before .before .before .before .before .loop in
     let loop-test = c .before .before .before .before .before .before .loop-test in
     compared-exponent (start .args .t1) (start .args .t2) (loop .i) (loop .inv) (loop-test .taken) (λ e. c .if3 .taken (ap (ofZ w16) e))
@@ -66,7 +68,8 @@ loop-less c = search needs
 
 loop-again : tie.Need-loop-again Inv-loop μ-loop
 loop-again c =
-    let start = c .before .before .before .before .before .before .before .before .before in
+    let before = c .before .before .before .before .before .before .before .before .before in
+    let start = before in
     let loop = c .before .before .before .before .before .before .before .loop in
     let loop-test = c .before .before .before .before .before .before .loop-test in
     let if2 = c .before .before .before .if2 in

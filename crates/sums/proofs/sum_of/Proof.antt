@@ -34,7 +34,8 @@ element-copy-out-sum c = search needs
 
 add-sum : tie.Need-add-sum Inv-loop μ-loop
 add-sum c =
-    let start = c .before .before .before .before .before in
+    let before = c .before .before .before .before .before in
+    let start = before in
     let loop = c .before .before .before .before .loop in
     let loop-test = c .before .before .before .loop-test in
     let g = start .args in
@@ -49,7 +50,8 @@ loop-less c = search needs
 
 loop-again : tie.Need-loop-again Inv-loop μ-loop
 loop-again c =
-    let start = c .before .before .before .before in
+    let before = c .before .before .before .before in
+    let start = before in
     let loop = c .before .before .before .loop in
     let loop-test = c .before .before .loop-test in
     let g = start .args in
