@@ -6,7 +6,7 @@ use Prim.Native.Nat.{ℕ, _+_, _-_, _*_, _<_, _≤_}
 use native.Mathlib.Omega.{arith}
 use lib.Dec.{T, leb, ltb}
 use lib.ListN.{length, take, drop, replicate}
-use borrow.Author.Tests.{lt-ltb, le-ltb, leb-false, not-false}
+use borrow.Author.Tests.{lt-ltb, le-ltb, ltb-true, leb-false, not-false}
 use Rattle.refusals.specs.Numbers.{isRefused}
 use Rattle.refusals.specs.Lowest.{_when_, lowest}
 use Rattle.refusals.specs.declared.Refusal.{Refusal}
@@ -18,6 +18,7 @@ use Rattle.pages.specs.Quant.{firstTo}
 use Rattle.pages.specs.Bytes.{countBytes, countOf, put}
 use Rattle.names.specs.Table.{namesMax}
 use Rattle.names.specs.Calls.{lentBroken, usedOf}
+use Rattle.names.proofs.Calls.{used-few}
 use Rattle.groups.specs.Groups.{pair, selves, walk, rootOf}
 use Rattle.pairs.specs.Table.{pairsMax, pairBytes, bothUsed, insertVerdict, withPair, insertion}
 use Rattle.pairs.specs.Table as tables
@@ -195,6 +196,15 @@ module _ (page names : List ℕ) (lent : Bool) (s : ℕ) where
   pub passed-formed : Passed ≡ symbolVerdict page names lent s → formed page (usedOf names lent) ≡ true
   unfolding symbolVerdict
   passed-formed v = unbroken page names lent (passed-parts Broken (tableBroken page names lent) ((Unused when not (ltb s (usedOf names lent))) ∷ []) (sym v) .0) .1
+
+-- it is the number of a name
+pub symbol-below : (page names : List ℕ) (lent : Bool) (s : ℕ) → symbolVerdict page names lent s ≡ Passed → s < namesMax
+unfolding symbolVerdict
+symbol-below page names lent s v =
+    let x = passed-parts Broken (tableBroken page names lent) ((Unused when not (ltb s (usedOf names lent))) ∷ []) v in
+    let y = passed-parts Unused (not (ltb s (usedOf names lent))) [] (x .1) in
+    let l = ltb-true s (usedOf names lent) (not-false (ltb s (usedOf names lent)) (y .0)) in
+    omega (arith, l, used-few names lent (unbroken page names lent (x .0) .0))
 
 -- the bytes of the pairs, as a part of the page
 pub bodies-read : (page : List ℕ) (k at : ℕ) → k ≡ countOf page → at ≡ parentsAt k → take (at - countBytes) (drop countBytes page) ≡ bodiesIn page

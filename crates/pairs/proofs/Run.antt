@@ -28,12 +28,14 @@ use Rattle.groups.proofs.UnionFind.{groups, walk-short}
 use Rattle.pairs.specs.Table.{pairsMax, pairBytes, pairAt, listed, bothUsed, usedAt, insertVerdict, withPair, insertion}
 use Rattle.pairs.specs.Table as tables
 use Rattle.pairs.specs.Page.{sizeOf, bodiesIn, parentsIn, tableIn, listedIn, holds, formed, withTable}
-use Rattle.pairs.specs.Calls.{tableBroken, pairVerdict, pageAfter}
+use Rattle.pairs.specs.Calls.{tableBroken, pairVerdict, pageAfter, symbolVerdict, rootAnswer}
 use Rattle.pairs.specs.Runs.{afterAll, takenBy, Every, Request, asked, bodyAsked, Lends, accepts, after, pageAfterAll, acceptedPairs, TableRequest, tableAsked, tableAccepts, tableAfter, tableAfterAll, tableAcceptedPairs}
 use Rattle.pairs.specs.declared.ConversionTable.{ConversionTable}
+use Rattle.pairs.specs.declared.Root.{Root}
+use Rattle.pairs.specs.declared.Root.the-variants as root
 use Rattle.pairs.proofs.Table.{Form, form}
 use Rattle.pairs.proofs.Page.{held-zeros, formed-parts, formed-held}
-use Rattle.pairs.proofs.Calls.{unbroken}
+use Rattle.pairs.proofs.Calls.{unbroken, symbol-below}
 use Rattle.pairs.proofs.Grown.{form-formed, form-within, more-used, listed-more, sized-more, form-more, written-count, written-bodies, written-listed, written-formed, bodies-more, within-all}
 
 -- ---- of any kind of table
@@ -263,3 +265,23 @@ unfolding tableIn
 page-short page j g c s l =
     let p : parentsIn page ≡ parentsOf namesMax (listedIn page) = formed-parts page namesMax g .1 .given in
     rw p (walk-short namesMax (listedIn page) j (page-within page namesMax g) c s l)
+
+-- ---- what the call for a root answers
+
+root-inside : {x y : ℕ} → Root.At x ≡ Root.At y → x ≡ y
+root-inside {x} {y} e = ap (λ (r : Root). inside r) e
+  where
+    inside : Root → ℕ
+    inside (root.At s) = s
+    inside (root.Refused r) = 0
+
+-- two symbols that are not refused have one root exactly if they are in one group of the accepted pairs
+pub run-roots : (rs : List Request) (page names : List ℕ) (lent : Bool) (a b : ℕ) → formed page namesMax ≡ true
+    → symbolVerdict (pageAfterAll page rs) names lent a ≡ Passed → symbolVerdict (pageAfterAll page rs) names lent b ≡ Passed
+    → (rootAnswer (pageAfterAll page rs) names lent a ≡ rootAnswer (pageAfterAll page rs) names lent b) ↔ Joined (acceptedPairs page rs) a b
+unfolding rootAnswer
+run-roots rs page names lent a b g va vb =
+    let end = pageAfterAll page rs in
+    let below : (s : ℕ) → symbolVerdict end names lent s ≡ Passed → s < namesMax = λ s v. symbol-below end names lent s v in
+    let law = page-groups rs page g a b (below a va) (below b vb) in
+    rw (va, vb) (λ e. law .0 (root-inside e), λ j. ap Root.At (law .1 j))
