@@ -109,11 +109,11 @@ factorCode (factor.Of f b) = packed Passed b
 factorCode factor.Absent = packed Passed absent
 factorCode (factor.Refused r) = packed (Refused r) 0
 
--- what is lent for a factor's bytes, afterwards: the bytes of the factor, or as it was where none is found
-abbrev pub factorBytesIn : Factor → List ℕ → List ℕ
-factorBytesIn (factor.Of f b) out = bigEndian longBytes f
-factorBytesIn factor.Absent out = out
-factorBytesIn (factor.Refused r) out = out
+-- the array lent for a factor's bytes, afterwards: the factor's bytes, or as it was where none is found or the call is refused
+abbrev pub outAfterFactor : Factor → List ℕ → List ℕ
+outAfterFactor (factor.Of f b) out = bigEndian longBytes f
+outAfterFactor factor.Absent out = out
+outAfterFactor (factor.Refused r) out = out
 
 -- the group sums, over the pairs of a page, of the unit that a slice says
 abbrev pub groupSumsIn : List ℕ → List ℕ → Bool → List ℕ → SumsResult

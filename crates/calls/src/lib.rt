@@ -27,7 +27,7 @@ ghost use Rattle.units.specs.Calls.{formVerdict, exponentAnswer};
 ghost use Rattle.groups.specs.Groups.{pair};
 ghost use Rattle.pairs.specs.Calls.{pairVerdict, rootAnswer, factorAnswer};
 ghost use Rattle.pairs.specs.Calls as tables;
-ghost use Rattle.calls.specs.Codes.{packed, addedCode, foundCode, powerCode, unitlessCode, brokenUnit, unitOrBroken, unitlessIn, productIn, textIn, bytesOfUnit, rootCode, factorCode, factorBytesIn, groupSumsIn, bytesOfSums, maybeOrBroken, convertibleIn, conversionCode};
+ghost use Rattle.calls.specs.Codes.{packed, addedCode, foundCode, powerCode, unitlessCode, brokenUnit, unitOrBroken, unitlessIn, productIn, textIn, bytesOfUnit, rootCode, factorCode, outAfterFactor, groupSumsIn, bytesOfSums, maybeOrBroken, convertibleIn, conversionCode};
 
 // What a name or a factor that the table does not have is answered with, which is no name's number and no symbol.
 pub const ABSENT: usize = 65535;
@@ -224,14 +224,14 @@ pub extern "C" fn riddlepoppy_canonical(page: &[u8], names: &[u8], lent: bool, s
 
 // The first factor of a symbol, and its base, or 65,535 where no pair has the symbol.
 #[no_mangle]
-pub extern "C" fn riddlepoppy_factor(
+pub extern "C" fn riddlepoppy_first_factor(
     page: &[u8],
     names: &[u8],
     lent: bool,
     symbol: u8,
     out: &mut [u8; LONG_BYTES],
 ) -> u32
-    ensures { λ r. ⌜ (r ≡ factorCode (factorAnswer (now (page .entry)) (now (names .entry)) lent symbol)) × (now (out .exit) ≡ factorBytesIn (factorAnswer (now (page .entry)) (now (names .entry)) lent symbol) (now (out .entry))) ⌝ }
+    ensures { λ r. ⌜ (r ≡ factorCode (factorAnswer (now (page .entry)) (now (names .entry)) lent symbol)) × (now (out .exit) ≡ outAfterFactor (factorAnswer (now (page .entry)) (now (names .entry)) lent symbol) (now (out .entry))) ⌝ }
 {
     let first = pairs::first_factor(page, names, lent, symbol);
     match first {

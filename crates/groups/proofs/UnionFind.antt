@@ -1,4 +1,4 @@
--- The group law: two symbols have one root exactly if the pairs join them, and no walk has more steps than there are joining pairs,
+-- The group law: two symbols have one root exactly if the pairs join them (`groups`), and no walk has more steps than there are joining pairs,
 -- of which there is always a number (`joining`). Of which root wins, only `link-either` is used. Assumes nothing.
 use mathlib.Core.Path.{_≡_, refl, sym, _∙_, ap, subst}
 use mathlib.Core.Logic.{_⊎_, inl, inr, _≢_, _↔_}

@@ -71,7 +71,7 @@ pub const LONG_BYTES: usize = 8;
 // A number of 64 bits in bytes, big-endian.
 pub type Long = [u8; LONG_BYTES];
 
-// The eight bytes that say a number.
+// The eight bytes that say a number: its quotients by the powers of 256, the seventh first, each modulo 256.
 pub fn long_bytes(n: u64) -> Long
     ensures { λ r. ⌜ r ≡ bigEndian longBytes n ⌝ }
 {

@@ -5,7 +5,7 @@ use mathlib.Core.Path.{_≡_, refl, sym, _∙_, ap, ap₂}
 use mathlib.Core.Bool.{Bool, true, false, cond}
 use mathlib.Core.List.{List}
 use Prim.Native.Nat.{ℕ, zero, suc, _+_, _*_, _^_, _<_, _≤_}
-use native.Mathlib.Nat.{add-zero}
+use native.Mathlib.Nat.{add-zero, le-refl}
 use native.Mathlib.Numerals.{add-one}
 use native.Mathlib.Decide.{decLt}
 use native.Mathlib.Omega.{arith}
@@ -17,13 +17,14 @@ use Rattle.pages.specs.Quant.{anyTo, firstTo}
 use Rattle.pages.specs.Bytes.{countOf, bigEndian, numberAt, longBytes}
 use Rattle.pages.proofs.Quant.{any-cong, first-cong, first-none, first-le, first-below}
 use Rattle.pages.proofs.Bytes.{number-back}
+use Rattle.names.specs.Calls.{usedOf}
 use Rattle.pairs.specs.Table.{pairBytes, baseAt, factorAt}
 use Rattle.pairs.specs.Page.{bodiesIn, formed}
 use Rattle.pairs.specs.Calls.{isOf, factorOf, firstFactor, factorIn}
-use Rattle.pairs.specs.Runs.{Request, bodyAsked, Lends, accepts, after}
+use Rattle.pairs.specs.Runs.{Request, bodyAsked, UsesAtMost, accepts, after}
 use Rattle.pairs.specs.declared.Factor.{Factor}
 use Rattle.pairs.proofs.Page.{formed-held}
-use Rattle.pairs.proofs.Run.{added-bodies, added-count}
+use Rattle.pairs.proofs.Run.{accepted-formed, added-bodies, added-count}
 
 -- ---- bodies with one more behind them
 
@@ -89,7 +90,18 @@ module _ (l m : List ℕ) (k s : ℕ) (agree : (i : ℕ) → i < pairBytes * k �
 
 -- ---- a page
 
-module _ (page : List ℕ) (r : Request) (n : ℕ) (g : formed page n ≡ true) (lends : Lends n r) (e : accepts page r ≡ true) where
+module _ (page : List ℕ) (r : Request) (e : accepts page r ≡ true) where
+  n : ℕ
+  n = usedOf (r .names) (r .lent)
+
+  g : formed page n ≡ true
+  unfolding n
+  g = accepted-formed page r e
+
+  lends : UsesAtMost n r
+  unfolding n
+  lends named = le-refl (usedOf (r .names) (r .lent))
+
   size : length (bodiesIn page) ≡ pairBytes * countOf page
   size = simp (length-take, length-drop) (omega (arith, formed-held page n g .room))
 

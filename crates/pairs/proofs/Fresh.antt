@@ -96,7 +96,7 @@ empty-formed l long n =
 
 -- ---- zeros
 
--- two symbols would have one parent, 0, that no pair gives
+-- a page of zeros, of any length, is no table in form: symbol 1 would have the parent 0, which no pair gives
 pub zeros-unformed : (len n : ℕ) → formed (replicate len 0) n ≡ false
 unfolding formed
 zeros-unformed len n = go (formed (replicate len 0) n) refl

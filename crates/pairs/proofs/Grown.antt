@@ -61,7 +61,7 @@ form-formed t n f = rw (le-leb (t .count) pairsMax (f .few), f .used, f .given) 
 pub form-within : (t : ConversionTable) (n : ℕ) → Form t n → Within n (listed t)
 form-within t n f = within-listed n (t .pairs) (t .count) (λ i l. all-at (usedAt (t .pairs) n) (t .count) i (f .used) l)
 
--- names in use are among all names
+-- what is in use among n numbers is in use among m, if n is at most m
 pub more-used : (n m : ℕ) (q : Pair) → n ≤ m → bothUsed n q ≡ true → bothUsed m q ≡ true
 more-used n m q h u =
     let a = and-true (ltb (q .symbol) n) (ltb (q .base) n) u in

@@ -1,6 +1,6 @@
 -- After any list of insertions, refused ones among them, into any table in form: the table is in form, it lists the pairs of the
--- start and then the accepted ones, and its groups are theirs. Of a table by value (`table-groups`) and in a page
--- (`page-groups`). Assumes nothing.
+-- start and then the accepted ones, and its groups are theirs. Of a table by value, each insertion saying at most 256
+-- names in use (`table-groups`), and in a page (`page-groups`). Assumes nothing.
 use mathlib.Core.Path.{_≡_, refl, sym, _∙_, ap, subst}
 use mathlib.Core.Logic.{_↔_}
 use mathlib.Core.Bool.{Bool, true, false, not, cond}
@@ -29,7 +29,7 @@ use Rattle.pairs.specs.Table.{pairsMax, pairBytes, pairAt, listed, bothU
 use Rattle.pairs.specs.Table as tables
 use Rattle.pairs.specs.Page.{sizeOf, bodiesIn, parentsIn, tableIn, listedIn, holds, formed, withTable}
 use Rattle.pairs.specs.Calls.{tableBroken, pairVerdict, pageAfter, symbolVerdict, rootAnswer}
-use Rattle.pairs.specs.Runs.{afterAll, takenBy, Every, Request, asked, bodyAsked, Lends, accepts, after, pageAfterAll, acceptedPairs, TableRequest, tableAsked, tableAccepts, tableAfter, tableAfterAll, tableAcceptedPairs}
+use Rattle.pairs.specs.Runs.{afterAll, takenBy, Every, Request, asked, bodyAsked, UsesAtMost, accepts, after, pageAfterAll, acceptedPairs, TableRequest, tableAsked, tableAccepts, tableAfter, tableAfterAll, tableAcceptedPairs}
 use Rattle.pairs.specs.declared.ConversionTable.{ConversionTable}
 use Rattle.pairs.specs.declared.Root.{Root}
 use Rattle.pairs.specs.declared.Root.the-variants as root
@@ -134,6 +134,7 @@ record Taken (page : List ℕ) (r : Request) : Type 0 where
   few : countOf page < pairsMax
   room : sizeOf (countOf page + 1) ≤ length page
   named : lentBroken (r .names) (r .lent) ≡ false
+  form! : formed page (usedOf (r .names) (r .lent)) ≡ true
   used : bothUsed (usedOf (r .names) (r .lent)) (asked r) ≡ true
   done : after page r ≡ withTable page (withPair (tableIn page) (r .symbol) (r .factor) (r .base))
 
@@ -153,9 +154,14 @@ taken page r e =
       few = leb-false pairsMax (countOf page) (z .0);
       room = ltb-false (length page) (sizeOf (countOf page + 1)) (o .0);
       named = unbroken page (r .names) (r .lent) (x .0) .0;
+      form! = unbroken page (r .names) (r .lent) (x .0) .1;
       used = not-false (bothUsed n (asked r)) (y .0);
       done = rw v;
     }
+
+-- what is accepted is accepted into a page in form
+pub accepted-formed : (page : List ℕ) (r : Request) → accepts page r ≡ true → formed page (usedOf (r .names) (r .lent)) ≡ true
+accepted-formed page r e = taken page r e .form!
 
 -- zeros behind a table are zeros behind one of one pair more
 zeros-more : (page : List ℕ) → holds page ≡ true → zeros (drop (sizeOf (countOf page + 1)) page) ≡ true
@@ -164,7 +170,7 @@ zeros-more page h =
     rw (e, ← drop-drop pairBytes (sizeOf (countOf page)) page) (zeros-drop (drop (sizeOf (countOf page)) page) pairBytes (held-zeros page h))
 
 -- what an insertion that is not refused leaves
-module _ (page : List ℕ) (r : Request) (n : ℕ) (g : formed page n ≡ true) (lends : Lends n r) (e : accepts page r ≡ true) where
+module _ (page : List ℕ) (r : Request) (n : ℕ) (g : formed page n ≡ true) (lends : UsesAtMost n r) (e : accepts page r ≡ true) where
   k : Taken page r
   k = taken page r e
 
@@ -217,23 +223,23 @@ module _ (page : List ℕ) (r : Request) (n : ℕ) (g : formed page n ≡ true) 
   added-bodies =
       rw done (written-bodies page grown n grown-form grown-sized room ∙ unfold grown in (bodies-more page (r .symbol) (r .factor) (r .base) (formed-held page n g) (k .few)))
 
--- ---- any list of requests whose names are at most n
+-- ---- any list of requests with at most n numbers in use: every number where no names are lent
 
-module _ (n : ℕ) (rs : List Request) (page : List ℕ) (g : formed page n ≡ true) (all : Every (Lends n) rs) where
+module _ (n : ℕ) (rs : List Request) (page : List ℕ) (g : formed page n ≡ true) (all : Every (UsesAtMost n) rs) where
   -- the page at the end is in form, and lists the accepted pairs
   pub page-run : (formed (pageAfterAll page rs) n ≡ true) × (listedIn (pageAfterAll page rs) ≡ acceptedPairs page rs)
   page-run =
-      run after accepts (λ (r : Request). asked r ∷ []) (λ (p : List ℕ). formed p n ≡ true) (Lends n) listedIn page-stays
+      run after accepts (λ (r : Request). asked r ∷ []) (λ (p : List ℕ). formed p n ≡ true) (UsesAtMost n) listedIn page-stays
       (λ p r f l e. (added-formed p r n f l e, added-listed p r n f l e)) rs page g all
 
   -- the bytes of its pairs are those of the start and of the accepted requests, factors included
   pub page-bodies : bodiesIn (pageAfterAll page rs) ≡ bodiesIn page ++ takenBy after accepts bodyAsked page rs
   page-bodies =
-      run after accepts bodyAsked (λ (p : List ℕ). formed p n ≡ true) (Lends n) bodiesIn page-stays
+      run after accepts bodyAsked (λ (p : List ℕ). formed p n ≡ true) (UsesAtMost n) bodiesIn page-stays
       (λ p r f l e. (added-formed p r n f l e, added-bodies p r n f l e)) rs page g all .1
 
 -- no request has more names than there can be
-pub all-lend : (rs : List Request) → Every (Lends namesMax) rs
+pub all-lend : (rs : List Request) → Every (UsesAtMost namesMax) rs
 all-lend [] = tt
 all-lend (r ∷ rs) = (used-few (r .names) (r .lent), all-lend rs)
 

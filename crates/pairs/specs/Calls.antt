@@ -29,7 +29,7 @@ tableBroken page names lent = lentBroken names lent || not (formed page (usedOf 
 unfoldable pub emptyVerdict : List ℕ → Verdict
 emptyVerdict page = lowest ((Broken when ltb (length page) (sizeOf 0)) ∷ [])
 
--- a table without pairs: no count, each symbol its own parent, zeros
+-- the page afterwards: count 0, each symbol its own parent, zeros; or as it was where it is refused
 unfoldable pub emptyPage : List ℕ → List ℕ
 emptyPage page = unlessRefused (emptyVerdict page) (put (replicate (length page) 0) countBytes (selves 0 namesMax)) page
 

@@ -37,7 +37,7 @@ tableIn page = record { count = countOf page; pairs = pad (pairBytes * pairsMax)
 abbrev pub listedIn : List ℕ → List Pair
 listedIn page = listed (tableIn page)
 
--- the page holds the table whose count it says, of few enough pairs, and zeros behind it
+-- the page holds the table whose count it says, of few enough pairs (as `table.formed` has it, too), and zeros behind it
 unfoldable pub holds : List ℕ → Bool
 holds page =
     leb (countOf page) pairsMax && (leb (sizeOf (countOf page)) (length page) && zeros (drop (sizeOf (countOf page)) page))

@@ -23,7 +23,7 @@ abbrev pub takenBy : {T R A : Type 0} → (T → R → T) → (T → R → Bool)
 takenBy after accepts adds t [] = []
 takenBy after accepts adds t (r ∷ rs) = cond (accepts t r) (adds r) [] ++ takenBy after accepts adds (after t r) rs
 
--- every request of a list
+-- P holds of every request of a list
 abbrev pub Every : {R : Type 0} → (R → Type 0) → List R → Type 0
 Every P [] = Unit
 Every P (r ∷ rs) = P r × Every P rs
@@ -46,9 +46,9 @@ asked r = pair (r .symbol) (r .base)
 abbrev pub bodyAsked : Request → List ℕ
 bodyAsked r = bodyOf (r .symbol) (r .factor) (r .base)
 
--- the names of the request, if they are in form, are at most n
-abbrev pub Lends : ℕ → Request → Type 0
-Lends n r = lentBroken (r .names) (r .lent) ≡ false → usedOf (r .names) (r .lent) ≤ n
+-- the request has at most n numbers in use, if its names are in form; without names that is every number
+abbrev pub UsesAtMost : ℕ → Request → Type 0
+UsesAtMost n r = lentBroken (r .names) (r .lent) ≡ false → usedOf (r .names) (r .lent) ≤ n
 
 -- does no refusal apply
 abbrev pub accepts : List ℕ → Request → Bool

@@ -60,7 +60,7 @@ freshTable = record { count = 0; pairs = replicate (pairBytes * pairsMax) 0; par
 abbrev pub bothUsed : ℕ → Pair → Bool
 bothUsed n q = ltb (q .symbol) n && ltb (q .base) n
 
--- are both symbols of pair i of bodies
+-- are those of pair i of bodies
 abbrev pub usedAt : List ℕ → ℕ → ℕ → Bool
 usedAt bodies n i = bothUsed n (pairAt bodies i)
 

@@ -35,7 +35,7 @@ pub const PAIR_BYTES: usize = FACTOR_AT + pages::LONG_BYTES;
 // The bytes of the pairs, one after another.
 pub type Bodies = [u8; PAIR_BYTES * PAIRS];
 
-// The pairs stand at the first `count` places, and their symbols' parents are as they give them.
+// In form, the pairs stand at the first `count` places, and the parents of all symbols are as they give them.
 pub struct ConversionTable {
     pub count: usize,
     pub pairs: Bodies,
@@ -257,8 +257,8 @@ fn table_in(page: &[u8]) -> ConversionTable
     }
 }
 
-// Whether the page is a table in form, with n name numbers in use, for crates above.
-pub fn is_formed(page: &[u8], n: usize) -> bool
+// Whether the page is a table in form, with n name numbers in use.
+fn is_formed(page: &[u8], n: usize) -> bool
     ensures { λ r. ⌜ r ≡ formed (now (page .entry)) n ⌝ }
 {
     if holds_table(page) {
@@ -349,7 +349,7 @@ fn symbol_verdict(page: &[u8], names: &[u8], lent: bool, symbol: Symbol) -> Verd
     Verdict::Passed
 }
 
-// The parents in a page that an entry call found in form, for crates above (`canonical` tests it).
+// The parents in a page that holds a table; in form, they are as its pairs give them. For crates above (`canonical` tests the form).
 pub fn parents_of(page: &[u8]) -> &[u8]
     requires { ⌜ Held (now page) ⌝ }
     ensures { λ r. ⌜ (now r ≡ parentsIn (now (page .entry))) × (length (now r) ≡ namesMax) ⌝ }

@@ -170,7 +170,7 @@ fn is_factor_same(argument: usize, page: &[u8], names: &[u8], code: usize, out: 
     let mut factor = [0u8; LONG_BYTES];
     let lent = is_lent(argument);
     let symbol = symbol_in(argument);
-    if calls::riddlepoppy_factor(page, names, lent, symbol, &mut factor) as usize != code {
+    if calls::riddlepoppy_first_factor(page, names, lent, symbol, &mut factor) as usize != code {
         return false;
     }
     is_factor(&factor, out)

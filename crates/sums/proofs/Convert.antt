@@ -1,4 +1,4 @@
--- Convertible: the same group sums (`convertible-sums`, the source's test), and the same exponent sum in every group, for any
+-- Convertible: the same group sums (`convertible-sums`, the source's test, to which its `self == other` adds nothing), and the same exponent sum in every group, for any
 -- function that gives each group one root of its own (`convertible-by`), as the parents of the pairs do (`convertible-groups`).
 -- For any number of symbols. Assumes nothing.
 use mathlib.Core.Path.{_≡_, refl, sym, ap, ap₂, subst, _∙_}

@@ -1,6 +1,6 @@
--- The convertibility call says yes exactly if the two units have equal exponent sums in every group: of the pairs that its page
--- lists (`converts`), and of those that it listed before any list of insertions with those accepted since (`run-converts`).
--- Assumes nothing.
+-- A convertibility call that is not refused says yes exactly if the two units have equal exponent sums in every group, and no
+-- exactly if they have not: of the pairs that its page lists (`converts`, `converts-not`) and, from any page in form, of those that
+-- it listed before any list of insertions with those accepted since (`run-converts`, `run-converts-not`). Assumes nothing.
 use mathlib.Core.Path.{_≡_, refl, subst}
 use mathlib.Core.Logic.{_↔_}
 use mathlib.Core.Bool.{Bool, true, false, cond}
@@ -30,6 +30,11 @@ answer-yes : (b : Bool) → (cond b Conversion.Yes Conversion.No ≡ Conversion.
 answer-yes true = (λ e. refl, λ e. refl)
 answer-yes false = (λ e. let z : _≡_ {A = ℕ} 0 1 = cc in absurd (omega arith), λ e. let z : _≡_ {A = ℕ} 0 1 = cc in absurd (omega arith))
 
+-- no is the answer where yes is not
+answer-no : (b : Bool) → (cond b Conversion.Yes Conversion.No ≡ Conversion.No) ↔ (cond b Conversion.Yes Conversion.No ≡ Conversion.Yes → ⊥)
+answer-no true = (λ e. let z : _≡_ {A = ℕ} 0 1 = cc in absurd (omega arith), λ never. absurd (never refl))
+answer-no false = (λ e y. let z : _≡_ {A = ℕ} 0 1 = cc in omega arith, λ never. refl)
+
 formed-used : (u : Unit) → units.formed placesMax namesMax (termsOf u) ≡ true → inUse namesMax (termsOf u) ≡ true
 formed-used u f = ordered-used namesMax 0 (termsOf u) (formed-ordered placesMax namesMax (termsOf u) f)
 
@@ -49,6 +54,13 @@ module _ (page names : List ℕ) (lent : Bool) (left right : MaybeUnit) (v : uni
       (formed-used (orEmpty right) (passed-right page names lent (orEmpty left) (orEmpty right) v)) in
       (λ e. g .0 (answer-is .0 e), λ s. answer-is .1 (g .1 s))
 
+  no-is : (convertAnswer page names lent left right ≡ Conversion.No) ↔ (convertAnswer page names lent left right ≡ Conversion.Yes → ⊥)
+  unfolding convertAnswer
+  no-is = rw v (answer-no (convertible namesMax (rootsIn page) (termsOf (orEmpty left)) (termsOf (orEmpty right))))
+
+  pub converts-not : (convertAnswer page names lent left right ≡ Conversion.No) ↔ (¬ (SameSums namesMax (listedIn page) (termsOf (orEmpty left)) (termsOf (orEmpty right))))
+  converts-not = (λ e s. no-is .0 e (converts .1 s), λ never. no-is .1 (λ y. never (converts .0 y)))
+
 -- after any list of insertions: of the accepted pairs
 pub run-converts : (rs : List Request) (page names : List ℕ) (lent : Bool) (left right : MaybeUnit)
     → formed page namesMax ≡ true → unitsVerdict (pageAfterAll page rs) names lent (orEmpty left ∷ orEmpty right ∷ []) ≡ Passed
@@ -57,3 +69,10 @@ pub run-converts : (rs : List Request) (page names : List ℕ) (lent : Bool) (le
 run-converts rs page names lent left right g v =
     subst (λ ps. (convertAnswer (pageAfterAll page rs) names lent left right ≡ Conversion.Yes) ↔ SameSums namesMax ps (termsOf (orEmpty left)) (termsOf (orEmpty right)))
     (run-listed rs page g) (converts (pageAfterAll page rs) names lent left right v)
+
+pub run-converts-not : (rs : List Request) (page names : List ℕ) (lent : Bool) (left right : MaybeUnit)
+    → formed page namesMax ≡ true → unitsVerdict (pageAfterAll page rs) names lent (orEmpty left ∷ orEmpty right ∷ []) ≡ Passed
+    → (convertAnswer (pageAfterAll page rs) names lent left right ≡ Conversion.No) ↔ (¬ (SameSums namesMax (acceptedPairs page rs) (termsOf (orEmpty left)) (termsOf (orEmpty right))))
+run-converts-not rs page names lent left right g v =
+    subst (λ ps. (convertAnswer (pageAfterAll page rs) names lent left right ≡ Conversion.No) ↔ (¬ (SameSums namesMax ps (termsOf (orEmpty left)) (termsOf (orEmpty right)))))
+    (run-listed rs page g) (converts-not (pageAfterAll page rs) names lent left right v)

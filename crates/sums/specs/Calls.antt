@@ -23,7 +23,7 @@ use Rattle.sums.specs.declared.Conversion.{Conversion}
 
 -- ---- units that a call is given
 
--- is every symbol of every unit a number in use, of n
+-- are all symbols of the units among n numbers in use; of a unit that says more symbols than places none is looked up
 abbrev pub allUsed : ℕ → List Unit → Bool
 allUsed n [] = true
 allUsed n (u ∷ us) = inUse n (present u) && allUsed n us

@@ -16,7 +16,7 @@ use Rattle.sums.specs.declared.Sums.{Sums}
 
 -- ---- by roots, as they are computed
 
--- "Rewrites every symbol through the conversion table": a unit's terms, each symbol's root in its place
+-- units.rs: "Rewrites every symbol through the conversion table". A unit's terms, each symbol's root in its place
 abbrev pub rooted : (ℕ → ℕ) → List Term → List Term
 rooted root [] = []
 rooted root (x ∷ xs) = term (root (x .symbol)) (x .exp) ∷ rooted root xs

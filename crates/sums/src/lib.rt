@@ -88,7 +88,7 @@ fn rooted(parents: &[Symbol], steps: usize, u: Unit) -> Unit
     v
 }
 
-// The symbol s, if it is lo or more and below the least so far.
+// The symbol s, if it is lo or more and below the least so far, else the least so far.
 fn nearer_of(lo: usize, least: usize, s: usize) -> usize
     ensures { λ r. ⌜ r ≡ nearer lo least s ⌝ }
 {
@@ -145,7 +145,7 @@ fn gathered(u: Unit) -> Sums
     }
 }
 
-// The group sums of a unit in form, where that many steps lead to a root, for crates above (`canonicalize` tests both).
+// The group sums of a unit in form, where that many steps lead to a root, for crates above (`canonicalize` tests the unit, and the table, whose count is steps enough).
 pub fn group_sums(parents: &[Symbol], steps: usize, u: Unit) -> Sums
     requires { ⌜ (length (now parents) ≡ namesMax) × (formed placesMax namesMax (termsOf u) ≡ true) ⌝ }
     ensures { λ r. ⌜ r ≡ sumsOf (groupSums namesMax (walk steps (now (parents .entry))) (termsOf u)) ⌝ }

@@ -44,7 +44,7 @@ extern "C" {
         lent: bool,
         symbol: u8,
     ) -> u32;
-    pub fn riddlepoppy_factor(
+    pub fn riddlepoppy_first_factor(
         page: *const u8,
         n: usize,
         names: *const u8,

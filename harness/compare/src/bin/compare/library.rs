@@ -71,7 +71,7 @@ fn call(
                 riddlepoppy_insert_pair(p, n, t, k, lent, symbol, pair.factor, pair.base)
             }
             Call::Canonical => riddlepoppy_canonical(p, n, t, k, lent, symbol),
-            Call::Factor => riddlepoppy_factor(p, n, t, k, lent, symbol, out),
+            Call::Factor => riddlepoppy_first_factor(p, n, t, k, lent, symbol, out),
             Call::Canonicalize => riddlepoppy_canonicalize(p, n, t, k, lent, a, m, out),
             Call::IsConvertibleTo => riddlepoppy_is_convertible_to(p, n, t, k, lent, a, m, b, l),
         }

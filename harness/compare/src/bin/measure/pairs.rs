@@ -90,7 +90,7 @@ fn some_unit(random: &mut Random) -> (Vec<u8>, Unit) {
 }
 
 /// Convertibility with the full table, and `canonical` beside it, which is the test
-/// of the page's form and one walk: the difference is the units' own work.
+/// of the page's form and one walk.
 fn convertibility(shape: &str, list: &[Pair], random: &mut Random) {
     let mut page = vec![0; PAGE_BYTES];
     inserted(list, &mut page, &[], false);

@@ -1,11 +1,11 @@
--- `calls::riddlepoppy_factor` meets its contract. Assumes nothing.
+-- `calls::riddlepoppy_first_factor` meets its contract. Assumes nothing.
 use mathlib.Core.Path.{sym, ap, _∙_}
 use denote.Ref.{now}
 use Rattle.refusals.specs.declared.Verdict.the-variants.{Passed}
-use Rattle.calls.specs.Codes.{packed, factorCode, factorBytesIn}
+use Rattle.calls.specs.Codes.{packed, factorCode, outAfterFactor}
 use borrow.Author.Needs.{needs}
-use Rattle.calls.proofs.riddlepoppy_factor.Statement.{statement}
-use Rattle.calls.proofs.riddlepoppy_factor.Tie as tie
+use Rattle.calls.proofs.riddlepoppy_first_factor.Statement.{statement}
+use Rattle.calls.proofs.riddlepoppy_first_factor.Tie as tie
 
 first-factor-requires : tie.Need-first-factor-requires
 first-factor-requires c κs = search needs
@@ -38,21 +38,21 @@ returns : tie.Need-returns
 returns c =
     let e = sym (c .before .before .before .before .first .given .1) ∙ c .before .before .before .before .before .before .first-factor .ensures in (
       c .packed-as .ensures ∙ ap (packed Passed) (c .before .symbol-index .ensures .0) ∙ ap factorCode e,
-      c .before .before .long-bytes .ensures ∙ ap (λ f. factorBytesIn f (now (c .before .before .before .before .before .before .before .before .before .args .out))) e,
+      c .before .before .long-bytes .ensures ∙ ap (λ f. outAfterFactor f (now (c .before .before .before .before .before .before .before .before .before .args .out))) e,
     )
 
 returns-2 : tie.Need-returns-2
 returns-2 c =
     let e = sym (c .before .enum-told .given .1) ∙ c .before .before .before .first-factor .ensures in
-    (c .packed-as2 .ensures ∙ ap factorCode e, ap (λ f. factorBytesIn f (now (c .before .before .before .before .before .before .args .out))) e)
+    (c .packed-as2 .ensures ∙ ap factorCode e, ap (λ f. outAfterFactor f (now (c .before .before .before .before .before .before .args .out))) e)
 
 returns-3 : tie.Need-returns-3
 returns-3 c =
     let e = sym (c .before .before .first2 .given .1) ∙ c .before .before .before .before .first-factor .ensures in
-    (c .packed-as3 .ensures ∙ ap factorCode e, ap (λ f. factorBytesIn f (now (c .before .before .before .before .before .before .before .args .out))) e)
+    (c .packed-as3 .ensures ∙ ap factorCode e, ap (λ f. outAfterFactor f (now (c .before .before .before .before .before .before .before .args .out))) e)
 
-pub riddlepoppy-factor-spec : {M : Type 1} → statement M
-riddlepoppy-factor-spec =
+pub riddlepoppy-first-factor-spec : {M : Type 1} → statement M
+riddlepoppy-first-factor-spec =
     tie.close
     (tie.spec
     first-factor-requires
