@@ -2,7 +2,7 @@
 ghost use mathlib.Core.Path.{_≡_};
 ghost use Prim.Native.Nat.{_+_, _*_, _≤_, _<_};
 ghost use lib.ListN.{length, drop, replicate};
-ghost use Rattle.pages.specs.Bytes.{eqs, zeros, countBytes, countOf, bytesOf, bigEndian, numberAt, longBytes, put};
+ghost use Rattle.pages.specs.Bytes.{eqs, zeros, countBytes, wordAt, countOf, bytesOf, bigEndian, numberAt, longBytes, put};
 
 // How many bytes the count at a page's front takes.
 pub const COUNT_BYTES: usize = 2;
@@ -46,12 +46,20 @@ pub fn zeros_from(page: &[u8], at: usize) -> bool
     true
 }
 
+// The number that two bytes from index at on say.
+pub fn word_at(page: &[u8], at: usize) -> usize
+    requires { ⌜ at + countBytes ≤ length (now page) ⌝ }
+    ensures { λ r. ⌜ (r ≡ wordAt (now (page .entry)) at) × (r < 65536) ⌝ }
+{
+    index(page[at]) * 256 + index(page[at + 1])
+}
+
 // The count that the page's first two bytes say.
 pub fn count(page: &[u8]) -> usize
     requires { ⌜ countBytes ≤ length (now page) ⌝ }
     ensures { λ r. ⌜ (r ≡ countOf (now (page .entry))) × (r < 65536) ⌝ }
 {
-    index(page[0]) * 256 + index(page[1])
+    word_at(page, 0)
 }
 
 // A number in two bytes, big-endian.

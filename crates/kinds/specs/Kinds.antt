@@ -1,0 +1,46 @@
+-- The kinds of types, by their codes (document 01, "Types").
+use mathlib.Core.Bool.{Bool, _&&_, _||_, cond}
+use Prim.Native.Nat.{ℕ, _+_, _%_}
+use lib.Dec.{eqb}
+use Rattle.pages.specs.Bytes.{within}
+
+-- "0 to 18, no child, always present under that number": how many types are fixed
+abbrev pub fixedMax : ℕ
+fixedMax = 19
+
+-- "0 to 16 children": how many children a type has at most
+abbrev pub childrenMax : ℕ
+childrenMax = 16
+
+-- "the last two are unions": Any and CAny
+abbrev pub isUnion : ℕ → Bool
+isUnion k = within 29 30 k
+
+-- "32 to 37, one name": Record, CRecord, Enum, CEnum, Handle, Generic
+abbrev pub isNamed : ℕ → Bool
+isNamed k = within 32 37 k
+
+-- the kinds of types that a store holds: all that are not fixed
+abbrev pub isStored : ℕ → Bool
+isStored k = within fixedMax 37 k
+
+-- how many children a kind has at least: "19 to 24, one child", "25, 26, two", "31 Callback, 1 to 16"
+unfoldable pub fewest : ℕ → ℕ
+fewest k = cond (within 25 26 k) 2 (cond (within 19 24 k || eqb k 31) 1 0)
+
+-- and at most: "27 to 30, 0 to 16 children" besides
+unfoldable pub most : ℕ → ℕ
+most k = cond (within 25 26 k) 2 (cond (within 19 24 k) 1 (cond (within 27 31 k) childrenMax 0))
+
+-- the plain one of two kinds, the const one having the next code: Int to Error, Array to Tuple
+abbrev pub isPlain : ℕ → Bool
+isPlain k = eqb (k % 2) 1 && (within 1 15 k || within 19 27 k)
+
+-- a kind's const form (`const_variant`): the next code where there is one, Record and Enum included, else its own
+unfoldable pub constVariant : ℕ → ℕ
+constVariant k = cond (isPlain k || (eqb k 32 || eqb k 34)) (k + 1) k
+
+-- does kind a stand against kind b by `const_matches`, which looks at no child: a const form against its plain one and, of Error and
+-- of the kinds from Array to Tuple, the plain one against its const form
+unfoldable pub constMatches : ℕ → ℕ → Bool
+constMatches a b = (isPlain b && eqb a (b + 1)) || ((isPlain a && within 15 27 a) && eqb b (a + 1))

@@ -1,0 +1,199 @@
+// The store of types in a lent page (document 01, "Types").
+use kinds::FIXED;
+use names::symbol_index;
+use pages::COUNT_BYTES;
+use pages::index;
+ghost use mathlib.Core.Path.{_≡_};
+ghost use mathlib.Core.Bool.{true};
+ghost use Prim.Native.Nat.{_+_, _*_, _≤_, _<_};
+ghost use lib.ListN.{length, set};
+ghost use Rattle.pages.specs.Quant.{allTo};
+ghost use Rattle.kinds.specs.Kinds.{fixedMax};
+ghost use Rattle.types.specs.Store.{entriesMax, headBytes, childBytes, childrenAt, sizeAt, offset, depthIn, larger, depthAt, isBelow, childrenBelow, partsAt, equalTo, goodAt, formed, Reached};
+
+// How many types there can be.
+pub const TYPES: usize = 4096;
+
+// How many of them stand in a page.
+pub const ENTRIES: usize = TYPES - FIXED;
+
+// How deep a type can be.
+pub const DEPTH: usize = 32;
+
+// A depth for each of the entries.
+type Depths = [u8; ENTRIES];
+
+// How many bytes of an entry stand before its children or its name.
+const HEAD_BYTES: usize = 2;
+
+// How many bytes a child takes.
+const CHILD_BYTES: usize = 2;
+
+// How many bytes a name takes.
+const NAME_BYTES: usize = 1;
+
+// How many bytes the entry at o takes.
+fn entry_size(page: &[u8], o: usize) -> usize
+    requires { ⌜ o + headBytes ≤ length (now page) ⌝ }
+    ensures { λ r. ⌜ (r ≡ sizeAt (now (page .entry)) o) × (r < 65536) ⌝ }
+{
+    if kinds::is_named(page[o + 1]) {
+        return HEAD_BYTES + NAME_BYTES;
+    }
+    HEAD_BYTES + CHILD_BYTES * index(page[o])
+}
+
+// Whether the first k children of the entry at o are numbered below t.
+fn are_below(page: &[u8], o: usize, k: usize, t: usize) -> bool
+    requires { ⌜ (o + headBytes + childBytes * k ≤ length (now page)) × (k < 256) ⌝ }
+    ensures { λ r. ⌜ r ≡ allTo k (isBelow (now (page .entry)) o t) ⌝ }
+{
+    let mut i: usize = 0;
+    while i < k {
+        if t <= pages::word_at(page, o + HEAD_BYTES + CHILD_BYTES * i) {
+            return false;
+        }
+        i += 1;
+    }
+    true
+}
+
+// Whether the entry at o has a kind that is stored, with a name in use, of n, or with as many children as it has, all below t.
+fn has_parts(page: &[u8], n: usize, t: usize, o: usize) -> bool
+    requires { ⌜ (o + headBytes ≤ length (now page)) × (o + sizeAt (now page) o ≤ length (now page)) ⌝ }
+    ensures { λ r. ⌜ r ≡ partsAt (now (page .entry)) n t o ⌝ }
+{
+    let kind = page[o + 1];
+    let children = index(page[o]);
+    if !kinds::is_stored(kind) {
+        return false;
+    }
+    if kinds::is_named(kind) {
+        if children != 0 {
+            return false;
+        }
+        return symbol_index(page[o + HEAD_BYTES]) < n;
+    }
+    if children < kinds::fewest(kind) {
+        return false;
+    }
+    if kinds::most(kind) < children {
+        return false;
+    }
+    are_below(page, o, children, t)
+}
+
+// The first of the first j entries that is equal to the one at o, or j.
+fn find_entry(page: &[u8], j: usize, o: usize) -> usize
+    requires { ⌜ (offset (now page) j ≤ length (now page)) × (o + headBytes ≤ length (now page)) × (o + sizeAt (now page) o ≤ length (now page)) ⌝ }
+    ensures { λ r. ⌜ r ≡ equalTo (now (page .entry)) j o ⌝ }
+{
+    let end = o + entry_size(page, o);
+    let mut at: usize = COUNT_BYTES;
+    let mut i: usize = 0;
+    while i < j {
+        let next = at + entry_size(page, at);
+        if pages::same(&page[at..next], &page[o..end]) {
+            return i;
+        }
+        at = next;
+        i += 1;
+    }
+    j
+}
+
+// The depth of a type, where depths has those of the entries.
+fn depth_in(depths: &[u8], t: usize) -> usize
+    requires { ⌜ t < fixedMax + length (now depths) ⌝ }
+    ensures { λ r. ⌜ (r ≡ depthIn (now (depths .entry)) t) × (r < 256) ⌝ }
+{
+    if t < FIXED {
+        return 1;
+    }
+    index(depths[t - FIXED])
+}
+
+// The larger of two numbers.
+fn larger_of(a: usize, b: usize) -> usize
+    ensures { λ r. ⌜ r ≡ larger a b ⌝ }
+{
+    if a < b { b } else { a }
+}
+
+// The depth of the entry at o.
+fn entry_depth(page: &[u8], depths: &[u8], o: usize) -> usize
+    requires { ⌜ (o + headBytes ≤ length (now page)) × (o + headBytes + childBytes * childrenAt (now page) o ≤ length (now page)) × (childrenBelow (now page) o (fixedMax + length (now depths)) ≡ true) ⌝ }
+    ensures { λ r. ⌜ (r ≡ depthAt (now (page .entry)) (now (depths .entry)) o) × (r ≤ 256) ⌝ }
+{
+    let children = index(page[o]);
+    let mut deepest: usize = 0;
+    let mut i: usize = 0;
+    while i < children {
+        let child = pages::word_at(page, o + HEAD_BYTES + CHILD_BYTES * i);
+        let depth = depth_in(depths, child);
+        deepest = larger_of(deepest, depth);
+        i += 1;
+    }
+    deepest + 1
+}
+
+// Whether entry j, which begins at o, lies in the page, has its parts, is equal to none before it, and is not too deep.
+fn is_good(page: &[u8], n: usize, j: usize, o: usize, depths: &[u8]) -> bool
+    requires { ⌜ Reached (now page) (now depths) j o ⌝ }
+    ensures { λ r. ⌜ r ≡ goodAt (now (page .entry)) n j ⌝ }
+{
+    if page.len() < o + HEAD_BYTES {
+        return false;
+    }
+    if page.len() < o + entry_size(page, o) {
+        return false;
+    }
+    if !has_parts(page, n, FIXED + j, o) {
+        return false;
+    }
+    if find_entry(page, j, o) < j {
+        return false;
+    }
+    entry_depth(page, depths, o) <= DEPTH
+}
+
+// Writes down a depth.
+fn set_depth(depths: &mut [u8], j: usize, depth: usize)
+    requires { ⌜ (j < length (now depths)) × (depth < 256) ⌝ }
+    ensures { λ _. ⌜ now (depths .exit) ≡ set (now (depths .entry)) j depth ⌝ }
+{
+    depths[j] = depth as u8;
+}
+
+// No depth yet.
+fn no_depths() -> Depths
+    ensures { λ r. ⌜ length r ≡ entriesMax ⌝ }
+{
+    [0; ENTRIES]
+}
+
+// Whether the page is a store in form, with n name numbers in use, for crates above.
+pub fn is_formed(page: &[u8], n: usize) -> bool
+    ensures { λ r. ⌜ r ≡ formed (now (page .entry)) n ⌝ }
+{
+    if page.len() < COUNT_BYTES {
+        return false;
+    }
+    let k = pages::count(page);
+    if ENTRIES < k {
+        return false;
+    }
+    let mut depths = no_depths();
+    let mut o: usize = COUNT_BYTES;
+    let mut j: usize = 0;
+    while j < k {
+        if !is_good(page, n, j, o, &depths) {
+            return false;
+        }
+        let depth = entry_depth(page, &depths, o);
+        set_depth(&mut depths, j, depth);
+        o = o + entry_size(page, o);
+        j += 1;
+    }
+    pages::zeros_from(page, o)
+}
