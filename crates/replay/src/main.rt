@@ -3,6 +3,7 @@
 use pages::LONG_BYTES;
 use pages::index;
 use pages::same;
+use pages::word_at;
 ghost use Prim.Native.Nat.{_+_, _≤_, _<_};
 ghost use lib.ListN.{length};
 
@@ -30,14 +31,6 @@ struct Tally {
     differ: usize,
 }
 
-// The two bytes at an index, as a number.
-fn word(s: &[u8], at: usize) -> usize
-    requires { ⌜ at + 2 ≤ length (now s) ⌝ }
-    ensures { λ r. ⌜ r < 65536 ⌝ }
-{
-    index(s[at]) * 256 + index(s[at + 1])
-}
-
 // The bytes of the field at an index, which follow its length; what is cut ends with the slice.
 fn field(s: &[u8], at: usize) -> Span
     requires { ⌜ at ≤ length (now s) ⌝ }
@@ -48,7 +41,7 @@ fn field(s: &[u8], at: usize) -> Span
         return Span { start: n, end: n };
     }
     let start = at + 2;
-    let size = word(s, at);
+    let size = word_at(s, at);
     if n - start < size {
         return Span { start, end: n };
     }
@@ -256,7 +249,7 @@ fn is_answered(
     if answer.len() < 3 {
         return false;
     }
-    let code = index(answer[0]) * 65536 + word(answer, 1);
+    let code = index(answer[0]) * 65536 + word_at(answer, 1);
     let out = field(answer, 3);
     let start = out.start;
     let end = out.end;
@@ -282,7 +275,7 @@ fn is_same(row: &[u8]) -> bool {
         return false;
     }
     let call = row[0];
-    let argument = word(row, 1);
+    let argument = word_at(row, 1);
     let page = field(row, 3);
     let p = page.start;
     let q = page.end;
