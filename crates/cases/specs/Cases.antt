@@ -26,11 +26,6 @@ Holds (product quotient xs ys zs) =
 Holds (root ps s r) = rootOf namesMax ps s ≡ r
 Holds (converts yes! ps xs ys) = convertible namesMax (rootOf namesMax ps) xs ys ≡ yes!
 
--- every row of a list
-abbrev pub Every : List Case → Type 0
-Every [] = Unit
-Every (c ∷ cs) = Holds c × Every cs
-
 -- ---- symbols
 
 abbrev metre : ℕ

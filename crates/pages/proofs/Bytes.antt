@@ -3,14 +3,14 @@ use mathlib.Core.Path.{_≡_, refl, sym, _∙_, ap}
 use mathlib.Core.Bool.{Bool, true, false, _&&_}
 use mathlib.Core.List.{List, [], _∷_}
 use Prim.Native.Nat.{ℕ, zero, suc, _+_, _-_, _*_, _/_, _%_, _^_, _<_, _≤_}
-use native.Mathlib.Nat.{pow-suc, div-one, div-eq-of-lt, div-div-eq-div-mul, sub-zero, not-suc-le-zero, le-of-suc-le-suc}
+use native.Mathlib.Nat.{add-zero, pow-suc, div-one, div-eq-of-lt, div-div-eq-div-mul, sub-zero, not-suc-le-zero, le-of-suc-le-suc}
 use native.Mathlib.Numerals.{add-one}
 use native.Mathlib.Omega.{arith}
 use lib.ListN.{length, getD, drop, replicate, drop-of-length-le}
 use lib.Seq.{drop-cons}
 use lib.Dec.{eqb}
 use borrow.Author.Tests.{eq-eqb, ne-eqb, eqb-true}
-use Rattle.pages.specs.Bytes.{eqs, zeros, bigEndian, numberAt}
+use Rattle.pages.specs.Bytes.{eqs, zeros, wordAt, bigEndian, numberAt, longBytes}
 use Rattle.pages.proofs.Quant.{and-true}
 
 module _ (l m : List ℕ) (i : ℕ) (il : i < length l) (im : i < length m) where
@@ -115,3 +115,12 @@ pub number-back : (bytes : List ℕ) (at n w : ℕ) → n < 256 ^ w → ((i : �
 number-back bytes at n w h e =
     let z : w - w ≡ 0 = omega arith in
     front bytes at n w h e w (omega arith) ∙ rw z (div-one n)
+
+-- eight bytes are four words
+pub four-words : (bytes : List ℕ) (at : ℕ)
+    → ((wordAt bytes at * 65536 + wordAt bytes (at + 2)) * 65536 + wordAt bytes (at + 4)) * 65536 + wordAt bytes (at + 6) ≡ numberAt bytes at longBytes
+four-words bytes at =
+    let a : at + 2 + 1 ≡ at + 3 = omega arith in
+    let b : at + 4 + 1 ≡ at + 5 = omega arith in
+    let c : at + 6 + 1 ≡ at + 7 = omega arith in
+    rw (a, b, c, add-zero) (omega arith)

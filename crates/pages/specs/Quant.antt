@@ -1,5 +1,6 @@
--- Tests over the numbers below n.
+-- Tests over the numbers below n, and what holds of every element of a list.
 use mathlib.Core.Bool.{Bool, true, false, cond}
+use mathlib.Core.List.{List, [], _∷_}
 use Prim.Native.Nat.{ℕ, zero, suc}
 
 -- some number below n passes
@@ -16,3 +17,8 @@ allTo (suc n) p = cond (allTo n p) (p n) false
 unfoldable pub firstTo : ℕ → (ℕ → Bool) → ℕ
 firstTo zero p = zero
 firstTo (suc n) p = cond (anyTo n p) (firstTo n p) (cond (p n) n (suc n))
+
+-- P holds of every element of a list
+abbrev pub Every : {A : Type 0} → (A → Type 0) → List A → Type 0
+Every P [] = Unit
+Every P (x ∷ xs) = P x × Every P xs

@@ -95,22 +95,15 @@ pub fn long_bytes(n: u64) -> Long
     ]
 }
 
-// Two bytes as a number.
-fn word(high: u8, low: u8) -> u64
-    ensures { λ r. ⌜ (r ≡ high * 256 + low) × (r < 65536) ⌝ }
-{
-    high as u64 * 256 + low as u64
-}
-
 // The number that the eight bytes from index at on say.
 pub fn long(page: &[u8], at: usize) -> u64
     requires { ⌜ at + longBytes ≤ length (now page) ⌝ }
     ensures { λ r. ⌜ r ≡ numberAt (now (page .entry)) at longBytes ⌝ }
 {
-    let a = word(page[at], page[at + 1]);
-    let b = word(page[at + 2], page[at + 3]);
-    let c = word(page[at + 4], page[at + 5]);
-    let d = word(page[at + 6], page[at + 7]);
+    let a = word_at(page, at) as u64;
+    let b = word_at(page, at + 2) as u64;
+    let c = word_at(page, at + 4) as u64;
+    let d = word_at(page, at + 6) as u64;
     ((a * 65536 + b) * 65536 + c) * 65536 + d
 }
 

@@ -16,6 +16,7 @@ use Rattle.refusals.specs.Lowest.{_when_}
 use Rattle.refusals.specs.declared.Refusal.the-variants.{Broken, Unused, Full}
 use Rattle.refusals.specs.declared.Verdict.the-variants.{Passed}
 use Rattle.refusals.proofs.Lowest.{passed-parts, passed-is, kept}
+use Rattle.pages.specs.Quant.{Every}
 use Rattle.pages.specs.Bytes.{zeros, countOf}
 use Rattle.pages.proofs.Quant.{and-true, all-at, all-each}
 use Rattle.pages.proofs.Bytes.{zeros-drop}
@@ -29,7 +30,7 @@ use Rattle.pairs.specs.Table.{pairsMax, pairBytes, pairAt, listed, bothU
 use Rattle.pairs.specs.Table as tables
 use Rattle.pairs.specs.Page.{sizeOf, bodiesIn, parentsIn, tableIn, listedIn, holds, formed, withTable}
 use Rattle.pairs.specs.Calls.{tableBroken, pairVerdict, pageAfter, symbolVerdict, rootAnswer}
-use Rattle.pairs.specs.Runs.{afterAll, takenBy, Every, Request, asked, bodyAsked, UsesAtMost, accepts, after, pageAfterAll, acceptedPairs, TableRequest, tableAsked, tableAccepts, tableAfter, tableAfterAll, tableAcceptedPairs}
+use Rattle.pairs.specs.Runs.{afterAll, takenBy, Request, asked, bodyAsked, UsesAtMost, accepts, after, pageAfterAll, acceptedPairs, TableRequest, tableAsked, tableAccepts, tableAfter, tableAfterAll, tableAcceptedPairs}
 use Rattle.pairs.specs.declared.ConversionTable.{ConversionTable}
 use Rattle.pairs.specs.declared.Root.{Root}
 use Rattle.pairs.specs.declared.Root.the-variants as root

@@ -23,11 +23,6 @@ abbrev pub takenBy : {T R A : Type 0} → (T → R → T) → (T → R → Bool)
 takenBy after accepts adds t [] = []
 takenBy after accepts adds t (r ∷ rs) = cond (accepts t r) (adds r) [] ++ takenBy after accepts adds (after t r) rs
 
--- P holds of every request of a list
-abbrev pub Every : {R : Type 0} → (R → Type 0) → List R → Type 0
-Every P [] = Unit
-Every P (r ∷ rs) = P r × Every P rs
-
 -- ---- a page
 
 -- a request for an insertion, with names lent or not

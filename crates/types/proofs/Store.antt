@@ -35,7 +35,7 @@ unfolding offset
 offset-next page j = rw (add-one j)
 
 -- entries begin one after another
-pub offset-up : (page : List ℕ) (i k : ℕ) → offset page i ≤ offset page (i + k)
+offset-up : (page : List ℕ) (i k : ℕ) → offset page i ≤ offset page (i + k)
 unfolding offset
 offset-up page i zero = let e : i + 0 ≡ i = omega arith in rw e (omega arith)
 offset-up page i (suc k) = let e : i + suc k ≡ suc (i + k) = omega arith in rw e (omega (arith, offset-up page i k))
