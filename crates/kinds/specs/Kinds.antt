@@ -12,6 +12,53 @@ fixedMax = 19
 abbrev pub childrenMax : ℕ
 childrenMax = 16
 
+-- the codes of single kinds
+abbrev pub null : ℕ
+null = 0
+
+abbrev pub handleInfer : ℕ
+handleInfer = 17
+
+abbrev pub function : ℕ
+function = 18
+
+abbrev pub callback : ℕ
+callback = 31
+
+abbrev pub handle : ℕ
+handle = 36
+
+abbrev pub generic : ℕ
+generic = 37
+
+-- a kind and its const form, the next code
+abbrev pub isInt : ℕ → Bool
+isInt k = within 1 2 k
+
+abbrev pub isByte : ℕ → Bool
+isByte k = within 11 12 k
+
+abbrev pub isArray : ℕ → Bool
+isArray k = within 19 20 k
+
+abbrev pub isSet : ℕ → Bool
+isSet k = within 21 22 k
+
+abbrev pub isResult : ℕ → Bool
+isResult k = within 23 24 k
+
+abbrev pub isMap : ℕ → Bool
+isMap k = within 25 26 k
+
+abbrev pub isTuple : ℕ → Bool
+isTuple k = within 27 28 k
+
+abbrev pub isRecord : ℕ → Bool
+isRecord k = within 32 33 k
+
+abbrev pub isEnum : ℕ → Bool
+isEnum k = within 34 35 k
+
 -- "the last two are unions": Any and CAny
 abbrev pub isUnion : ℕ → Bool
 isUnion k = within 29 30 k

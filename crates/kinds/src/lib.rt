@@ -2,7 +2,7 @@
 ghost use mathlib.Core.Path.{_≡_};
 ghost use Prim.Native.Nat.{_≤_};
 ghost use Rattle.pages.specs.Bytes.{within};
-ghost use Rattle.kinds.specs.Kinds.{childrenMax, isUnion, isNamed, isStored, fewest, most, isPlain, constVariant, constMatches};
+ghost use Rattle.kinds.specs.Kinds.{childrenMax, isInt, isByte, isArray, isSet, isResult, isMap, isTuple, isRecord, isEnum, isUnion, isNamed, isStored, fewest, most, isPlain, constVariant, constMatches};
 
 // The code of a kind.
 pub type Kind = u8;
@@ -15,9 +15,27 @@ pub const CHILDREN: usize = 16;
 
 const INT: Kind = 1;
 
+const CINT: Kind = 2;
+
+const BYTE: Kind = 11;
+
+const CBYTE: Kind = 12;
+
 const ERROR: Kind = 15;
 
+pub const HANDLE_INFER: Kind = 17;
+
+pub const FN: Kind = 18;
+
 const ARRAY: Kind = 19;
+
+const CARRAY: Kind = 20;
+
+const SET: Kind = 21;
+
+const CSET: Kind = 22;
+
+const RESULT: Kind = 23;
 
 const CRESULT: Kind = 24;
 
@@ -27,11 +45,13 @@ const CMAP: Kind = 26;
 
 const TUPLE: Kind = 27;
 
+const CTUPLE: Kind = 28;
+
 const ANY: Kind = 29;
 
 const CANY: Kind = 30;
 
-const CALLBACK: Kind = 31;
+pub const CALLBACK: Kind = 31;
 
 const RECORD: Kind = 32;
 
@@ -41,13 +61,78 @@ const ENUM: Kind = 34;
 
 const CENUM: Kind = 35;
 
-const GENERIC: Kind = 37;
+pub const HANDLE: Kind = 36;
+
+pub const GENERIC: Kind = 37;
 
 // Whether a code is one of those from a to b.
 fn is_within(k: Kind, a: Kind, b: Kind) -> bool
     ensures { λ r. ⌜ r ≡ within a b k ⌝ }
 {
     (a <= k) & (k <= b)
+}
+
+// Whether a kind is that of an Int or a CInt.
+pub fn is_int(k: Kind) -> bool
+    ensures { λ r. ⌜ r ≡ isInt k ⌝ }
+{
+    is_within(k, INT, CINT)
+}
+
+// Whether a kind is that of a Byte or a CByte.
+pub fn is_byte(k: Kind) -> bool
+    ensures { λ r. ⌜ r ≡ isByte k ⌝ }
+{
+    is_within(k, BYTE, CBYTE)
+}
+
+// Whether a kind is that of an Array or a CArray.
+pub fn is_array(k: Kind) -> bool
+    ensures { λ r. ⌜ r ≡ isArray k ⌝ }
+{
+    is_within(k, ARRAY, CARRAY)
+}
+
+// Whether a kind is that of a Set or a CSet.
+pub fn is_set(k: Kind) -> bool
+    ensures { λ r. ⌜ r ≡ isSet k ⌝ }
+{
+    is_within(k, SET, CSET)
+}
+
+// Whether a kind is that of a Result or a CResult.
+pub fn is_result(k: Kind) -> bool
+    ensures { λ r. ⌜ r ≡ isResult k ⌝ }
+{
+    is_within(k, RESULT, CRESULT)
+}
+
+// Whether a kind is that of a Map or a CMap.
+pub fn is_map(k: Kind) -> bool
+    ensures { λ r. ⌜ r ≡ isMap k ⌝ }
+{
+    is_within(k, MAP, CMAP)
+}
+
+// Whether a kind is that of a Tuple or a CTuple.
+pub fn is_tuple(k: Kind) -> bool
+    ensures { λ r. ⌜ r ≡ isTuple k ⌝ }
+{
+    is_within(k, TUPLE, CTUPLE)
+}
+
+// Whether a kind is that of a Record or a CRecord.
+pub fn is_record(k: Kind) -> bool
+    ensures { λ r. ⌜ r ≡ isRecord k ⌝ }
+{
+    is_within(k, RECORD, CRECORD)
+}
+
+// Whether a kind is that of an Enum or a CEnum.
+pub fn is_enum(k: Kind) -> bool
+    ensures { λ r. ⌜ r ≡ isEnum k ⌝ }
+{
+    is_within(k, ENUM, CENUM)
 }
 
 // Whether a kind is that of a union.

@@ -1,4 +1,6 @@
 -- Laws that the proofs of this crate, and of the crates above it, cite.
+pub mod Recur
 pub mod Store
 pub mod Form
+pub mod Types
 pub mod Fresh

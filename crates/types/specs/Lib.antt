@@ -1,1 +1,3 @@
 pub mod Store
+pub mod Types
+pub mod Recur

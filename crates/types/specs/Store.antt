@@ -1,7 +1,7 @@
 -- The store of types in a lent page: "a two-byte count of entries above 18, then each as a child-count byte (0 beside a name) and a
 -- T body (see sheets); bytes after the last are zero" (document 01, "Types").
 use mathlib.Core.Path.{_≡_}
-use mathlib.Core.Bool.{Bool, _&&_, cond}
+use mathlib.Core.Bool.{Bool, true, _&&_, cond}
 use mathlib.Core.List.{List, [], _∷_, _++_}
 use Prim.Native.Nat.{ℕ, zero, suc, _+_, _-_, _*_, _<_, _≤_}
 use lib.Dec.{ltb, leb, eqb}
@@ -106,20 +106,20 @@ partsAt page n t o =
     && cond (isNamed (kindAt page o)) (eqb (childrenAt page o) 0 && ltb (nameAt page o) n)
     (within (fewest (kindAt page o)) (most (kindAt page o)) (childrenAt page o) && childrenBelow page o t)
 
--- has entry i the bytes of the one at o
-abbrev pub isEntry : List ℕ → ℕ → ℕ → Bool
-isEntry page o i = eqs (entryAt page (offset page i)) (entryAt page o)
+-- has entry i these bytes
+abbrev pub isEntry : List ℕ → List ℕ → ℕ → Bool
+isEntry page entry i = eqs (entryAt page (offset page i)) entry
 
--- the first of the first j entries that is equal to the one at o, or j
-abbrev pub equalTo : List ℕ → ℕ → ℕ → ℕ
-equalTo page j o = firstTo j (isEntry page o)
+-- the first of the first j entries that has these bytes, or j
+abbrev pub equalTo : List ℕ → ℕ → List ℕ → ℕ
+equalTo page j entry = firstTo j (isEntry page entry)
 
 -- entry j lies in the page, has its parts, is equal to none before it ("no two entries are equal"), and is not too deep
 unfoldable pub goodAt : List ℕ → ℕ → ℕ → Bool
 goodAt page n j =
     leb (offset page (suc j)) (length page)
     && (partsAt page n (fixedMax + j) (offset page j)
-    && (leb j (equalTo page j (offset page j))
+    && (leb j (equalTo page j (entryAt page (offset page j)))
     && leb (depthAt page (depths page j) (offset page j)) depthMax))
 
 -- where a test stands that goes through the entries: entry j begins at o, and ds begins with the depths of those before it
@@ -137,3 +137,8 @@ formed page n =
     && (leb (countOf page) entriesMax
     && (allTo (countOf page) (goodAt page n)
     && zeros (drop (offset page (countOf page)) page)))
+
+-- in form, with some number of names in use
+pub record Formed (page : List ℕ) : Type 0 where
+  pub names : ℕ
+  pub form : formed page names ≡ true

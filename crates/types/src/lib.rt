@@ -1,15 +1,17 @@
 // The store of types in a lent page (document 01, "Types").
 use kinds::FIXED;
+use kinds::Kind;
 use names::symbol_index;
 use pages::COUNT_BYTES;
 use pages::index;
 ghost use mathlib.Core.Path.{_≡_};
 ghost use mathlib.Core.Bool.{true};
-ghost use Prim.Native.Nat.{_+_, _*_, _≤_, _<_};
-ghost use lib.ListN.{length, set};
+ghost use Prim.Native.Nat.{suc, _+_, _-_, _*_, _≤_, _<_};
+ghost use lib.ListN.{length, getD, set};
 ghost use Rattle.pages.specs.Quant.{allTo};
-ghost use Rattle.kinds.specs.Kinds.{fixedMax};
+ghost use Rattle.kinds.specs.Kinds.{fixedMax, childrenMax, isNamed};
 ghost use Rattle.types.specs.Store.{entriesMax, headBytes, childBytes, childrenAt, sizeAt, offset, depthIn, larger, depthAt, isBelow, childrenBelow, partsAt, equalTo, goodAt, formed, Reached};
+ghost use Rattle.types.specs.Types.{typesIn, kindOf, arity, childOf, nameOf, Held, Measured};
 
 // How many types there can be.
 pub const TYPES: usize = 4096;
@@ -17,11 +19,17 @@ pub const TYPES: usize = 4096;
 // How many of them stand in a page.
 pub const ENTRIES: usize = TYPES - FIXED;
 
+// The number of Null.
+pub const NULL: usize = 0;
+
 // How deep a type can be.
 pub const DEPTH: usize = 32;
 
 // A depth for each of the entries.
 type Depths = [u8; ENTRIES];
+
+// Where each of the entries begins, and the last one ends.
+type Offsets = [usize; ENTRIES + 1];
 
 // How many bytes of an entry stand before its children or its name.
 const HEAD_BYTES: usize = 2;
@@ -83,17 +91,16 @@ fn has_parts(page: &[u8], n: usize, t: usize, o: usize) -> bool
     are_below(page, o, children, t)
 }
 
-// The first of the first j entries that is equal to the one at o, or j.
-fn find_entry(page: &[u8], j: usize, o: usize) -> usize
-    requires { ⌜ (offset (now page) j ≤ length (now page)) × (o + headBytes ≤ length (now page)) × (o + sizeAt (now page) o ≤ length (now page)) ⌝ }
-    ensures { λ r. ⌜ r ≡ equalTo (now (page .entry)) j o ⌝ }
+// The first of the first j entries that has these bytes, or j.
+fn find_entry(page: &[u8], j: usize, entry: &[u8]) -> usize
+    requires { ⌜ offset (now page) j ≤ length (now page) ⌝ }
+    ensures { λ r. ⌜ (r ≡ equalTo (now (page .entry)) j (now (entry .entry))) × (r ≤ j) ⌝ }
 {
-    let end = o + entry_size(page, o);
     let mut at: usize = COUNT_BYTES;
     let mut i: usize = 0;
     while i < j {
         let next = at + entry_size(page, at);
-        if pages::same(&page[at..next], &page[o..end]) {
+        if pages::same(&page[at..next], entry) {
             return i;
         }
         at = next;
@@ -145,13 +152,14 @@ fn is_good(page: &[u8], n: usize, j: usize, o: usize, depths: &[u8]) -> bool
     if page.len() < o + HEAD_BYTES {
         return false;
     }
-    if page.len() < o + entry_size(page, o) {
+    let end = o + entry_size(page, o);
+    if page.len() < end {
         return false;
     }
     if !has_parts(page, n, FIXED + j, o) {
         return false;
     }
-    if find_entry(page, j, o) < j {
+    if find_entry(page, j, &page[o..end]) < j {
         return false;
     }
     entry_depth(page, depths, o) <= DEPTH
@@ -165,16 +173,32 @@ fn set_depth(depths: &mut [u8], j: usize, depth: usize)
     depths[j] = depth as u8;
 }
 
+// Writes down where an entry begins.
+fn set_offset(offsets: &mut [usize], j: usize, o: usize)
+    requires { ⌜ j < length (now offsets) ⌝ }
+    ensures { λ _. ⌜ now (offsets .exit) ≡ set (now (offsets .entry)) j o ⌝ }
+{
+    offsets[j] = o;
+}
+
 // No depth yet.
-fn no_depths() -> Depths
+pub fn no_depths() -> Depths
     ensures { λ r. ⌜ length r ≡ entriesMax ⌝ }
 {
     [0; ENTRIES]
 }
 
-// Whether the page is a store in form, with n name numbers in use, for crates above.
-pub fn is_formed(page: &[u8], n: usize) -> bool
-    ensures { λ r. ⌜ r ≡ formed (now (page .entry)) n ⌝ }
+// No offset yet.
+pub fn no_offsets() -> Offsets
+    ensures { λ r. ⌜ length r ≡ suc entriesMax ⌝ }
+{
+    [0; ENTRIES + 1]
+}
+
+// Whether the page is a store in form, with n name numbers in use; if so, the offsets and depths of its entries are written down.
+pub fn survey(page: &[u8], n: usize, offsets: &mut [usize], depths: &mut [u8]) -> bool
+    requires { ⌜ (length (now offsets) ≡ suc entriesMax) × (length (now depths) ≡ entriesMax) ⌝ }
+    ensures { λ r. ⌜ (r ≡ formed (now (page .entry)) n) × (r ≡ true → Measured (now (page .entry)) (now (offsets .exit)) (now (depths .exit))) ⌝ }
 {
     if page.len() < COUNT_BYTES {
         return false;
@@ -183,17 +207,68 @@ pub fn is_formed(page: &[u8], n: usize) -> bool
     if ENTRIES < k {
         return false;
     }
-    let mut depths = no_depths();
     let mut o: usize = COUNT_BYTES;
     let mut j: usize = 0;
     while j < k {
-        if !is_good(page, n, j, o, &depths) {
+        if !is_good(page, n, j, o, depths) {
             return false;
         }
-        let depth = entry_depth(page, &depths, o);
-        set_depth(&mut depths, j, depth);
+        let depth = entry_depth(page, depths, o);
+        set_depth(depths, j, depth);
+        set_offset(offsets, j, o);
         o = o + entry_size(page, o);
         j += 1;
     }
+    set_offset(offsets, k, o);
     pages::zeros_from(page, o)
+}
+
+// Where the entry of a type begins, as the table has it.
+fn offset_of(offsets: &[usize], t: usize) -> usize
+    requires { ⌜ (fixedMax ≤ t) × (t < fixedMax + length (now offsets)) × (length (now offsets) ≡ suc entriesMax) ⌝ }
+    ensures { λ r. ⌜ r ≡ getD (now (offsets .entry)) (t - fixedMax) 0 ⌝ }
+{
+    offsets[t - FIXED]
+}
+
+// The kind of a type.
+pub fn kind_of(page: &[u8], offsets: &[usize], t: usize) -> Kind
+    requires { ⌜ Held (now page) (now offsets) ⌝ }
+    requires { ⌜ t < typesIn (now page) ⌝ }
+    ensures { λ r. ⌜ r ≡ kindOf (now (page .entry)) t ⌝ }
+{
+    if t < FIXED {
+        return t as u8;
+    }
+    page[offset_of(offsets, t) + 1]
+}
+
+// How many children a type has.
+pub fn arity(page: &[u8], offsets: &[usize], t: usize) -> usize
+    requires { ⌜ Held (now page) (now offsets) ⌝ }
+    requires { ⌜ t < typesIn (now page) ⌝ }
+    ensures { λ r. ⌜ (r ≡ arity (now (page .entry)) t) × (r ≤ childrenMax) ⌝ }
+{
+    if t < FIXED {
+        return 0;
+    }
+    index(page[offset_of(offsets, t)])
+}
+
+// Child i of a type, numbered below it.
+pub fn child_of(page: &[u8], offsets: &[usize], t: usize, i: usize) -> usize
+    requires { ⌜ Held (now page) (now offsets) ⌝ }
+    requires { ⌜ (t < typesIn (now page)) × (i < arity (now page) t) ⌝ }
+    ensures { λ r. ⌜ (r ≡ childOf (now (page .entry)) t i) × (r < t) ⌝ }
+{
+    pages::word_at(page, offset_of(offsets, t) + HEAD_BYTES + CHILD_BYTES * i)
+}
+
+// The name of a type whose kind has one.
+pub fn name_of(page: &[u8], offsets: &[usize], t: usize) -> u8
+    requires { ⌜ Held (now page) (now offsets) ⌝ }
+    requires { ⌜ (t < typesIn (now page)) × (isNamed (kindOf (now page) t) ≡ true) ⌝ }
+    ensures { λ r. ⌜ r ≡ nameOf (now (page .entry)) t ⌝ }
+{
+    page[offset_of(offsets, t) + HEAD_BYTES]
 }

@@ -1,0 +1,42 @@
+-- `types::arity` meets its contract. Assumes nothing.
+use mathlib.Core.Path.{_≡_, refl, sym, _∙_, ap}
+use Prim.Native.Nat.{ℕ, _+_, _-_, _*_, _≤_, _<_}
+use native.Mathlib.Omega.{arith}
+use denote.Ref.{now}
+use Rattle.kinds.specs.Kinds.{fixedMax}
+use Rattle.types.specs.Types.{placeOf, kindOf, childOf, nameOf}
+use Rattle.types.proofs.Types.{kind-fixed, kind-entry, arity-fixed, arity-entry, few-children, head-inside, child-above, child-inside, child-lower, name-above, name-inside, offset-asks, offset-is}
+use borrow.Author.Needs.{needs}
+use Rattle.types.proofs.arity.Statement.{statement}
+use Rattle.types.proofs.arity.Tie as tie
+
+returns : tie.Need-returns
+returns c =
+    let page = now (c .before .before .before .args .page) in
+    (arity-fixed page (c .before .before .before .args .t) (c .if1 .taken), omega arith)
+
+offset-of-requires : tie.Need-offset-of-requires
+offset-of-requires c κs =
+    offset-asks (now (c .before .before .before .args .page)) (now (c .before .before .before .args .offsets)) (c .before .before .before .pre .0) (c .before .before .before .args .t) (c .before .before .before .pre .1) (c .if1 .left)
+
+shared-slice-read-index : tie.Need-shared-slice-read-index
+shared-slice-read-index c =
+    let page = now (c .before .before .before .before .before .args .page) in
+    let e = offset-is page (now (c .before .before .before .before .before .args .offsets)) (c .before .before .before .before .before .pre .0) (c .before .before .before .before .before .args .t) (c .before .before .before .before .before .pre .1) (c .before .offset-of .result) (c .before .before .if1 .left) (c .before .offset-of .ensures) in
+    omega (arith, e, head-inside page (c .before .before .before .before .before .pre .0 .sound) (c .before .before .before .before .before .args .t) (c .before .before .before .before .before .pre .1) (c .before .before .if1 .left))
+
+index-requires : tie.Need-index-requires
+index-requires c κs = search needs
+
+returns-2 : tie.Need-returns-2
+returns-2 c =
+    let page = now (c .before .before .before .before .before .before .args .page) in
+    let e = offset-is page (now (c .before .before .before .before .before .before .args .offsets)) (c .before .before .before .before .before .before .pre .0) (c .before .before .before .before .before .before .args .t) (c .before .before .before .before .before .before .pre .1) (c .before .before .offset-of .result) (c .before .before .before .if1 .left) (c .before .before .offset-of .ensures) in
+    let r = rw e at (c .index .ensures .0) in
+    let q = r ∙ arity-entry page (c .before .before .before .before .before .before .args .t) (c .before .before .before .if1 .left) in
+    (q, rw q (few-children page (c .before .before .before .before .before .before .pre .0 .sound) (c .before .before .before .before .before .before .args .t) (c .before .before .before .before .before .before .pre .1)))
+
+pub arity-spec : {M : Type 1} → statement M
+arity-spec =
+    tie.close
+    (tie.spec returns offset-of-requires shared-slice-read-index index-requires returns-2)

@@ -1,0 +1,44 @@
+-- `types::kind_of` meets its contract. Assumes nothing.
+use mathlib.Core.Path.{_≡_, refl, sym, _∙_, ap}
+use Prim.Native.Nat.{ℕ, _+_, _-_, _*_, _≤_, _<_}
+use native.Mathlib.Omega.{arith}
+use denote.Ref.{now}
+use Rattle.kinds.specs.Kinds.{fixedMax}
+use Rattle.types.specs.Types.{placeOf, kindOf, childOf, nameOf}
+use Rattle.types.proofs.Types.{kind-fixed, kind-entry, arity-fixed, arity-entry, few-children, head-inside, child-above, child-inside, child-lower, name-above, name-inside, offset-asks, offset-is}
+use borrow.Author.Needs.{needs}
+use Rattle.types.proofs.kind_of.Statement.{statement}
+use Rattle.types.proofs.kind_of.Tie as tie
+
+cast-result : tie.Need-cast-result
+cast-result c = search needs
+
+returns : tie.Need-returns
+returns c = kind-fixed (now (c .before .before .before .args .page)) (c .before .before .before .args .t) (c .if1 .taken)
+
+offset-of-requires : tie.Need-offset-of-requires
+offset-of-requires c κs =
+    offset-asks (now (c .before .before .before .args .page)) (now (c .before .before .before .args .offsets)) (c .before .before .before .pre .0) (c .before .before .before .args .t) (c .before .before .before .pre .1) (c .if1 .left)
+
+add-result : tie.Need-add-result
+add-result c =
+    let page = now (c .before .before .before .before .args .page) in
+    let e = offset-is page (now (c .before .before .before .before .args .offsets)) (c .before .before .before .before .pre .0) (c .before .before .before .before .args .t) (c .before .before .before .before .pre .1) (c .offset-of .result) (c .before .if1 .left) (c .offset-of .ensures) in
+    search (needs, e, head-inside page (c .before .before .before .before .pre .0 .sound) (c .before .before .before .before .args .t) (c .before .before .before .before .pre .1) (c .before .if1 .left))
+
+shared-slice-read-result : tie.Need-shared-slice-read-result
+shared-slice-read-result c =
+    let page = now (c .before .before .before .before .before .args .page) in
+    let e = offset-is page (now (c .before .before .before .before .before .args .offsets)) (c .before .before .before .before .before .pre .0) (c .before .before .before .before .before .args .t) (c .before .before .before .before .before .pre .1) (c .before .offset-of .result) (c .before .before .if1 .left) (c .before .offset-of .ensures) in
+    omega (arith, e, head-inside page (c .before .before .before .before .before .pre .0 .sound) (c .before .before .before .before .before .args .t) (c .before .before .before .before .before .pre .1) (c .before .before .if1 .left))
+
+returns-2 : tie.Need-returns-2
+returns-2 c =
+    let page = now (c .before .before .before .before .before .args .page) in
+    let e = offset-is page (now (c .before .before .before .before .before .args .offsets)) (c .before .before .before .before .before .pre .0) (c .before .before .before .before .before .args .t) (c .before .before .before .before .before .pre .1) (c .before .offset-of .result) (c .before .before .if1 .left) (c .before .offset-of .ensures) in
+    rw e (kind-entry page (c .before .before .before .before .before .args .t) (c .before .before .if1 .left))
+
+pub kind-of-spec : {M : Type 1} → statement M
+kind-of-spec =
+    tie.close
+    (tie.spec cast-result returns offset-of-requires add-result shared-slice-read-result returns-2)
