@@ -47,28 +47,32 @@ below-more page o t u h b =
 
 -- ---- depths as far as they are known
 
-module _ (page ds : List ℕ) (j o : ℕ) (r : Reached page ds j o) where
-  depth-same : (t : ℕ) → t < fixedMax + j → depthIn ds t ≡ depthIn (depths page j) t
+module _ (ds es : List ℕ) (j : ℕ) (known : take j ds ≡ es) where
+  depth-same : (t : ℕ) → t < fixedMax + j → depthIn ds t ≡ depthIn es t
   depth-same t h = go (ltb t fixedMax) refl
     where
-      go : (b : Bool) → ltb t fixedMax ≡ b → depthIn ds t ≡ depthIn (depths page j) t
-      go true e = let l = ltb-true t fixedMax e in sym (depth-fixed ds t l) ∙ depth-fixed (depths page j) t l
+      go : (b : Bool) → ltb t fixedMax ≡ b → depthIn ds t ≡ depthIn es t
+      go true e = let l = ltb-true t fixedMax e in sym (depth-fixed ds t l) ∙ depth-fixed es t l
       go false e =
           let l : fixedMax ≤ t = ltb-false t fixedMax e in
-          sym (depth-entry ds t l) ∙ sym (getD-take j ds (t - fixedMax) 0 (omega arith)) ∙ ap (λ (x : List ℕ). getD x (t - fixedMax) 0) (r .known)
-          ∙ depth-entry (depths page j) t l
+          sym (depth-entry ds t l) ∙ sym (getD-take j ds (t - fixedMax) 0 (omega arith)) ∙ ap (λ (x : List ℕ). getD x (t - fixedMax) 0) known ∙ depth-entry es t l
 
-  deepest-same : (k : ℕ) → ((i : ℕ) → i < k → childAt page o i < fixedMax + j) → deepest page ds o k ≡ deepest page (depths page j) o k
-  unfolding deepest
-  deepest-same zero h = refl
-  deepest-same (suc k) h = ap₂ larger (deepest-same k (λ i l. h i (omega arith))) (depth-same (childAt page o k) (h k (omega arith)))
+  module _ (page : List ℕ) (o : ℕ) where
+    deepest-same : (k : ℕ) → ((i : ℕ) → i < k → childAt page o i < fixedMax + j) → deepest page ds o k ≡ deepest page es o k
+    unfolding deepest
+    deepest-same zero h = refl
+    deepest-same (suc k) h = ap₂ larger (deepest-same k (λ i l. h i (omega arith))) (depth-same (childAt page o k) (h k (omega arith)))
 
+    pub depth-known : childrenBelow page o (fixedMax + j) ≡ true → depthAt page ds o ≡ depthAt page es o
+    depth-known b = ap suc (deepest-same (childrenAt page o) (λ i l. child-below page o (fixedMax + j) i b l))
+
+module _ (page ds : List ℕ) (j o : ℕ) (r : Reached page ds j o) where
   module _ (n : ℕ) (p : partsAt page n (fixedMax + j) o ≡ true) where
     below : childrenBelow page o (fixedMax + j) ≡ true
     below = parts-children page n (fixedMax + j) o p .1
 
     pub depth-is : depthAt page ds o ≡ depthAt page (depths page j) o
-    depth-is = ap suc (deepest-same (childrenAt page o) (λ i l. child-below page o (fixedMax + j) i below l))
+    depth-is = depth-known ds (depths page j) j (r .known) page o below
 
     -- what its depth asks for
     pub depth-asks : o + sizeAt page o ≤ length page → (o + headBytes ≤ length page) × (o + headBytes + childBytes * childrenAt page o ≤ length page)

@@ -3,4 +3,6 @@ pub mod Recur
 pub mod Store
 pub mod Form
 pub mod Types
+pub mod Grown
+pub mod Making
 pub mod Fresh

@@ -6,10 +6,10 @@ use mathlib.Core.List.{List}
 use Prim.Native.Nat.{ℕ, zero, suc, _+_, _-_, _*_, _<_, _≤_}
 use native.Mathlib.Omega.{arith}
 use lib.Dec.{ltb, leb, eqb, T}
-use lib.ListN.{length, getD}
+use lib.ListN.{length, getD, drop}
 use borrow.Author.Tests.{lt-ltb, le-ltb, lt-leb, leb-true, eqb-true, ne-eqb, ltb-true, ltb-false}
 use Rattle.pages.specs.Quant.{allTo}
-use Rattle.pages.specs.Bytes.{within, countBytes, countOf}
+use Rattle.pages.specs.Bytes.{zeros, within, countBytes, countOf}
 use Rattle.pages.proofs.Quant.{and-true, all-at}
 use Rattle.pages.proofs.Bytes.{and-false}
 use Rattle.kinds.specs.Kinds.{fixedMax, childrenMax, isNamed, isStored, fewest, most}
@@ -24,6 +24,7 @@ pub record Whole (page : List ℕ) (n : ℕ) : Type 0 where
   pub two : countBytes ≤ length page
   pub few : countOf page ≤ entriesMax
   pub good : (j : ℕ) → j < countOf page → goodAt page n j ≡ true
+  pub clear : zeros (drop (offset page (countOf page)) page) ≡ true
 
 pub whole : (page : List ℕ) (n : ℕ) → formed page n ≡ true → Whole page n
 unfolding formed
@@ -35,6 +36,7 @@ whole page n h =
       two = leb-true countBytes (length page) (a .0);
       few = leb-true (countOf page) entriesMax (b .0);
       good = λ j l. all-at (goodAt page n) (countOf page) j (d .0) l;
+      clear = d .1;
     }
 
 -- what a good entry is

@@ -1,3 +1,4 @@
 pub mod Store
 pub mod Types
 pub mod Recur
+pub mod Making

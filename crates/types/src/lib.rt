@@ -4,6 +4,7 @@ use kinds::Kind;
 use names::symbol_index;
 use pages::COUNT_BYTES;
 use pages::index;
+use refusals::Refusal;
 ghost use mathlib.Core.Path.{_≡_};
 ghost use mathlib.Core.Bool.{true};
 ghost use Prim.Native.Nat.{suc, _+_, _-_, _*_, _≤_, _<_};
@@ -12,6 +13,7 @@ ghost use Rattle.pages.specs.Quant.{allTo};
 ghost use Rattle.kinds.specs.Kinds.{fixedMax, childrenMax, isNamed};
 ghost use Rattle.types.specs.Store.{entriesMax, headBytes, childBytes, childrenAt, sizeAt, offset, depthIn, larger, depthAt, isBelow, childrenBelow, partsAt, equalTo, goodAt, formed, Reached};
 ghost use Rattle.types.specs.Types.{typesIn, kindOf, arity, childOf, nameOf, Held, Measured};
+ghost use Rattle.types.specs.Making.{Ready, enterAnswer, enterPage};
 
 // How many types there can be.
 pub const TYPES: usize = 4096;
@@ -39,6 +41,12 @@ const CHILD_BYTES: usize = 2;
 
 // How many bytes a name takes.
 const NAME_BYTES: usize = 1;
+
+// The number of a type that was made, or why it was not.
+pub enum Made {
+    At(usize),
+    Refused(Refusal),
+}
 
 // How many bytes the entry at o takes.
 fn entry_size(page: &[u8], o: usize) -> usize
@@ -271,4 +279,33 @@ pub fn name_of(page: &[u8], offsets: &[usize], t: usize) -> u8
     ensures { λ r. ⌜ r ≡ nameOf (now (page .entry)) t ⌝ }
 {
     page[offset_of(offsets, t) + HEAD_BYTES]
+}
+
+// Enters an entry in a store that an entry call found in form: the number of its equal, else the next. The tables grow with it.
+pub fn enter(page: &mut [u8], offsets: &mut [usize], depths: &mut [u8], entry: &[u8]) -> Made
+    requires { ⌜ Ready (now page) (now offsets) (now depths) (now entry) ⌝ }
+    ensures { λ r. ⌜ (r ≡ enterAnswer (now (page .entry)) (now (entry .entry))) × (now (page .exit) ≡ enterPage (now (page .entry)) (now (entry .entry))) × (Measured (now (page .exit)) (now (offsets .exit)) (now (depths .exit))) ⌝ }
+{
+    let n = pages::count(page);
+    let k = find_entry(page, n, entry);
+    if k < n {
+        return Made::At(FIXED + k);
+    }
+    let depth = entry_depth(entry, depths, 0);
+    if DEPTH < depth {
+        return Made::Refused(Refusal::Depth);
+    }
+    if ENTRIES <= n {
+        return Made::Refused(Refusal::Full);
+    }
+    let end = offset_of(offsets, FIXED + n);
+    if page.len() < end + entry.len() {
+        return Made::Refused(Refusal::Full);
+    }
+    let number = pages::count_bytes(n + 1);
+    pages::put_bytes(page, end, entry);
+    pages::put_bytes(page, 0, &number);
+    set_offset(offsets, n + 1, end + entry.len());
+    set_depth(depths, n, depth);
+    Made::At(FIXED + n)
 }
