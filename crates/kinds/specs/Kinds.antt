@@ -31,6 +31,10 @@ handle = 36
 abbrev pub generic : ℕ
 generic = 37
 
+-- the last of the codes
+abbrev pub kindLast : ℕ
+kindLast = generic
+
 -- a kind and its const form, the next code
 abbrev pub isInt : ℕ → Bool
 isInt k = within 1 2 k
@@ -69,7 +73,7 @@ isNamed k = within 32 37 k
 
 -- the kinds of types that a store holds: all that are not fixed
 abbrev pub isStored : ℕ → Bool
-isStored k = within fixedMax 37 k
+isStored k = within fixedMax kindLast k
 
 -- how many children a kind has at least: "19 to 24, one child", "25, 26, two", "31 Callback, 1 to 16"
 unfoldable pub fewest : ℕ → ℕ

@@ -2,3 +2,4 @@ pub mod Store
 pub mod Types
 pub mod Recur
 pub mod Making
+pub mod Calls

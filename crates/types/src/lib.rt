@@ -1,10 +1,12 @@
 // The store of types in a lent page (document 01, "Types").
+use kinds::CHILDREN;
 use kinds::FIXED;
 use kinds::Kind;
 use names::symbol_index;
 use pages::COUNT_BYTES;
 use pages::index;
 use refusals::Refusal;
+use refusals::Verdict;
 ghost use mathlib.Core.Path.{_≡_};
 ghost use mathlib.Core.Bool.{true};
 ghost use Prim.Native.Nat.{suc, _+_, _-_, _*_, _≤_, _<_};
@@ -46,6 +48,21 @@ const NAME_BYTES: usize = 1;
 pub enum Made {
     At(usize),
     Refused(Refusal),
+}
+
+// A type as it is read: its kind, its depth, its children with zeros after them, its name, 0 where it has none.
+pub struct Shape {
+    pub kind: Kind,
+    pub depth: usize,
+    pub count: usize,
+    pub children: [u16; CHILDREN],
+    pub name: u8,
+}
+
+// A type, or why there is none.
+pub struct TypeRead {
+    pub verdict: Verdict,
+    pub shape: Shape,
 }
 
 // How many bytes the entry at o takes.
