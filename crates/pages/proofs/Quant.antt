@@ -119,3 +119,24 @@ first-below p (suc n) e = go (anyTo n p) (p n) refl e (first-below p n)
     go true b f h ih = omega (arith, ih f)
     go false true f h ih = omega arith
     go false false f h ih = let z : _≡_ {A = ℕ} 0 1 = cc in absurd (omega arith)
+
+-- the first one passes, and none before it
+pub first-found : (p : ℕ → Bool) (n : ℕ) → firstTo n p < n → (anyTo (firstTo n p) p ≡ false) × (p (firstTo n p) ≡ true)
+unfolding firstTo
+first-found p zero h = absurd (not-suc-le-zero h)
+first-found p (suc n) h = go (anyTo n p) (p n) refl refl h (first-found p n)
+  where
+    go : (a b : Bool) → anyTo n p ≡ a → p n ≡ b → cond a (firstTo n p) (cond b n (suc n)) < suc n
+        → (firstTo n p < n → (anyTo (firstTo n p) p ≡ false) × (p (firstTo n p) ≡ true))
+        → (anyTo (cond a (firstTo n p) (cond b n (suc n))) p ≡ false) × (p (cond a (firstTo n p) (cond b n (suc n))) ≡ true)
+    go true b e f l ih = ih (first-below p n e)
+    go false true e f l ih = (e, f)
+    go false false e f l ih = absurd (omega arith)
+
+-- where the bound stands for none, none passes
+pub first-missed : (p : ℕ → Bool) (n : ℕ) → n ≤ firstTo n p → anyTo n p ≡ false
+first-missed p n h = go (anyTo n p) refl
+  where
+    go : (a : Bool) → anyTo n p ≡ a → a ≡ false
+    go true e = absurd (omega (arith, first-below p n e))
+    go false e = refl

@@ -3,3 +3,4 @@ pub mod Types
 pub mod Recur
 pub mod Making
 pub mod Calls
+pub mod Trees
