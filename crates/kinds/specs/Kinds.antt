@@ -63,6 +63,10 @@ isRecord k = within 32 33 k
 abbrev pub isEnum : ℕ → Bool
 isEnum k = within 34 35 k
 
+-- a kind from Array to CTuple
+abbrev pub isBuilt : ℕ → Bool
+isBuilt k = within 19 28 k
+
 -- "the last two are unions": Any and CAny
 abbrev pub isUnion : ℕ → Bool
 isUnion k = within 29 30 k

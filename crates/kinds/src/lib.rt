@@ -2,7 +2,7 @@
 ghost use mathlib.Core.Path.{_≡_};
 ghost use Prim.Native.Nat.{_≤_};
 ghost use Rattle.pages.specs.Bytes.{within};
-ghost use Rattle.kinds.specs.Kinds.{childrenMax, isInt, isByte, isArray, isSet, isResult, isMap, isTuple, isRecord, isEnum, isUnion, isNamed, isStored, fewest, most, isPlain, constVariant, constMatches};
+ghost use Rattle.kinds.specs.Kinds.{childrenMax, isInt, isByte, isArray, isSet, isResult, isMap, isTuple, isRecord, isEnum, isBuilt, isUnion, isNamed, isStored, fewest, most, isPlain, constVariant, constMatches};
 
 // The code of a kind.
 pub type Kind = u8;
@@ -133,6 +133,13 @@ pub fn is_enum(k: Kind) -> bool
     ensures { λ r. ⌜ r ≡ isEnum k ⌝ }
 {
     is_within(k, ENUM, CENUM)
+}
+
+// Whether a kind is one from Array to CTuple.
+pub fn is_built(k: Kind) -> bool
+    ensures { λ r. ⌜ r ≡ isBuilt k ⌝ }
+{
+    is_within(k, ARRAY, CTUPLE)
 }
 
 // Whether a kind is that of a union.

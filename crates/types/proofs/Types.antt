@@ -13,7 +13,7 @@ use Rattle.pages.specs.Bytes.{zeros, within, countBytes, countOf}
 use Rattle.pages.proofs.Quant.{and-true, all-at}
 use Rattle.pages.proofs.Bytes.{and-false}
 use Rattle.kinds.specs.Kinds.{fixedMax, childrenMax, isNamed, isStored, fewest, most}
-use Rattle.types.specs.Store.{entriesMax, depthMax, headBytes, childBytes, nameBytes, childrenAt, kindAt, childAt, nameAt, sizeAt, entryAt, offset, depthAt, depths, childrenBelow, partsAt, equalTo, goodAt, formed, Formed}
+use Rattle.types.specs.Store.{typesMax, entriesMax, depthMax, headBytes, childBytes, nameBytes, childrenAt, kindAt, childAt, nameAt, sizeAt, entryAt, offset, depthAt, depths, childrenBelow, partsAt, equalTo, goodAt, formed, Formed}
 use Rattle.types.specs.Types.{typesIn, placeOf, kindOf, arity, childOf, nameOf, Held}
 use Rattle.types.proofs.Store.{size-named, size-head, offset-start, offset-next, child-below}
 use Rattle.types.proofs.Form.{parts-children}
@@ -122,6 +122,9 @@ arity-entry page t h = rw (le-ltb t fixedMax h) refl
 module _ (page : List ℕ) (f : Formed page) where
   pub all-good : (j : ℕ) → j < countOf page → Good page (f .names) j
   all-good j l = good page (f .names) j (whole page (f .names) (f .form) .good j l)
+
+  pub types-few : typesIn page ≤ typesMax
+  types-few = omega (arith, whole page (f .names) (f .form) .few)
 
   pub end-inside : offset page (countOf page) ≤ length page
   unfolding offset

@@ -1,0 +1,181 @@
+// Bindings of generic names to types, and the types that bear such names (document 01, "Types"; types.rs of the source).
+use kinds::CALLBACK;
+use kinds::GENERIC;
+use kinds::Kind;
+use names::symbol_index;
+use types::TYPES;
+use types::arity;
+use types::child_of;
+use types::kind_of;
+use types::name_of;
+ghost use mathlib.Core.Path.{_≡_};
+ghost use mathlib.Core.Bool.{true, cond};
+ghost use Prim.Native.Nat.{_≤_, _<_};
+ghost use lib.ListN.{length, set};
+ghost use Rattle.types.specs.Store.{typesMax};
+ghost use Rattle.types.specs.Types.{typesIn, Held};
+ghost use Rattle.bindings.specs.Bindings.{bindingsMax, placeIn, isBound, boundTo, withBinding, goodBinding, formed};
+ghost use Rattle.bindings.specs.Generics.{isEntered, hasGeneric, Told};
+
+// How many names are bound at most.
+pub const BINDINGS: usize = 32;
+
+// Generic names, and the types that they are bound to.
+pub struct Bindings {
+    pub count: usize,
+    pub names: [u8; BINDINGS],
+    pub types: [u16; BINDINGS],
+}
+
+// Whether a name is bound, and where: its place, or the count.
+fn place_of(bindings: Bindings, k: usize, name: u8) -> usize
+    requires { ⌜ (k ≤ bindingsMax) ⌝ }
+    ensures { λ r. ⌜ (r ≡ placeIn bindings k name) × (r ≤ k) ⌝ }
+{
+    let names = bindings.names;
+    let mut i: usize = 0;
+    while i < k {
+        if names[i] == name {
+            return i;
+        }
+        i += 1;
+    }
+    k
+}
+
+// Whether place i has a name in use, of n, which stands in no place before it, and a type in use, of those below t.
+fn is_good(bindings: Bindings, n: usize, t: usize, i: usize) -> bool
+    requires { ⌜ i < bindingsMax ⌝ }
+    ensures { λ r. ⌜ r ≡ goodBinding n t bindings i ⌝ }
+{
+    let names = bindings.names;
+    let types = bindings.types;
+    let name = names[i];
+    if place_of(bindings, i, name) < i {
+        return false;
+    }
+    if symbol_index(name) >= n {
+        return false;
+    }
+    (types[i] as usize) < t
+}
+
+// Whether bindings are in form, with n name numbers in use and the types below t.
+pub fn is_formed(bindings: Bindings, n: usize, t: usize) -> bool
+    ensures { λ r. ⌜ r ≡ formed n t bindings ⌝ }
+{
+    let count = bindings.count;
+    if BINDINGS < count {
+        return false;
+    }
+    let mut i: usize = 0;
+    while i < count {
+        if !is_good(bindings, n, t, i) {
+            return false;
+        }
+        i += 1;
+    }
+    true
+}
+
+// The type that a name is bound to, or another where it is not bound.
+pub fn bound_or(bindings: Bindings, name: u8, other: usize) -> usize
+    requires { ⌜ bindings .count ≤ bindingsMax ⌝ }
+    ensures { λ r. ⌜ r ≡ cond (isBound bindings name) (boundTo bindings name) other ⌝ }
+{
+    let types = bindings.types;
+    let i = place_of(bindings, bindings.count, name);
+    if i < bindings.count {
+        return types[i] as usize;
+    }
+    other
+}
+
+// Whether a name is bound.
+pub fn is_bound(bindings: Bindings, name: u8) -> bool
+    requires { ⌜ bindings .count ≤ bindingsMax ⌝ }
+    ensures { λ r. ⌜ r ≡ isBound bindings name ⌝ }
+{
+    place_of(bindings, bindings.count, name) < bindings.count
+}
+
+// Bindings with one more.
+pub fn with_binding(bindings: Bindings, name: u8, t: usize) -> Bindings
+    requires { ⌜ (bindings .count < bindingsMax) × (t < typesMax) ⌝ }
+    ensures { λ r. ⌜ r ≡ withBinding bindings name t ⌝ }
+{
+    let count = bindings.count;
+    let mut names = bindings.names;
+    let mut types = bindings.types;
+    names[count] = name;
+    types[count] = t as u16;
+    Bindings {
+        count: count + 1,
+        names,
+        types,
+    }
+}
+
+// Whether the children of a kind are entered.
+pub fn is_entered(k: Kind) -> bool
+    ensures { λ r. ⌜ r ≡ isEntered k ⌝ }
+{
+    kinds::is_built(k) | (k == CALLBACK)
+}
+
+// Whether a generic name stands in a type, where found says it of every lower one.
+fn generic_in(page: &[u8], offsets: &[usize], found: &[bool], t: usize) -> bool
+    requires { ⌜ Held (now page) (now offsets) ⌝ }
+    requires { ⌜ (t < typesIn (now page)) × (t ≤ length (now found)) × Told (now page) (now found) t ⌝ }
+    ensures { λ r. ⌜ r ≡ hasGeneric (now (page .entry)) t ⌝ }
+{
+    let kind = kind_of(page, offsets, t);
+    if kind == GENERIC {
+        return true;
+    }
+    if !is_entered(kind) {
+        return false;
+    }
+    let children = arity(page, offsets, t);
+    let mut i: usize = 0;
+    while i < children {
+        let child = child_of(page, offsets, t, i);
+        if found[child] {
+            return true;
+        }
+        i += 1;
+    }
+    false
+}
+
+// Writes down whether a generic name stands in a type.
+fn set_found(found: &mut [bool], t: usize, here: bool)
+    requires { ⌜ t < length (now found) ⌝ }
+    ensures { λ _. ⌜ now (found .exit) ≡ set (now (found .entry)) t here ⌝ }
+{
+    found[t] = here;
+}
+
+// Nothing found yet.
+fn none_found() -> [bool; TYPES]
+    ensures { λ r. ⌜ length r ≡ typesMax ⌝ }
+{
+    [false; TYPES]
+}
+
+// Whether a generic name stands in a type, outside every union in it (`checked::has_generic` tests the store and the number). Types
+// are looked at from the lowest number up, each once.
+pub fn has_generic(page: &[u8], offsets: &[usize], t: usize) -> bool
+    requires { ⌜ Held (now page) (now offsets) ⌝ }
+    requires { ⌜ t < typesIn (now page) ⌝ }
+    ensures { λ r. ⌜ r ≡ hasGeneric (now (page .entry)) t ⌝ }
+{
+    let mut found = none_found();
+    let mut i: usize = 0;
+    while i < t {
+        let here = generic_in(page, offsets, &found, i);
+        set_found(&mut found, i, here);
+        i += 1;
+    }
+    generic_in(page, offsets, &found, t)
+}
