@@ -5,4 +5,6 @@ pub mod Form
 pub mod Types
 pub mod Grown
 pub mod Making
+pub mod Entries
+pub mod Calls
 pub mod Fresh
