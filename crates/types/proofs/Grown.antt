@@ -253,10 +253,20 @@ module _ (page entry : List ℕ) (f : Formed page) (e : Enterable page entry f) 
   good-new : goodAt full (f .names) (countOf page) ≡ true
   unfolding goodAt
   good-new =
-      rw (next, last, full-length, le-leb (offset page (countOf page) + length entry) (length page) room,
-      parts-alike full entry (offset page (countOf page)) 0 new-there (f .names) (typesIn page), e .parts,
-      new-entry, equal-grown page full f full-grows (countOf page) entry (le-refl (countOf page)), le-leb (countOf page) (equalTo page (countOf page) entry) new,
-      depths-grown page full f full-grows (countOf page) (le-refl (countOf page)), new-depth, le-leb (depthOf page entry) depthMax flat)
+      rw (
+        next,
+        last,
+        full-length,
+        le-leb (offset page (countOf page) + length entry) (length page) room,
+        parts-alike full entry (offset page (countOf page)) 0 new-there (f .names) (typesIn page),
+        e .parts,
+        new-entry,
+        equal-grown page full f full-grows (countOf page) entry (le-refl (countOf page)),
+        le-leb (countOf page) (equalTo page (countOf page) entry) new,
+        depths-grown page full f full-grows (countOf page) (le-refl (countOf page)),
+        new-depth,
+        le-leb (depthOf page entry) depthMax flat,
+      )
       refl
 
   after : drop (offset page (countOf page) + length entry) full ≡ drop (offset page (countOf page) + length entry) page

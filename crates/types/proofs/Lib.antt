@@ -7,4 +7,6 @@ pub mod Grown
 pub mod Making
 pub mod Again
 pub mod Trees
+pub mod Entries
+pub mod Calls
 pub mod Fresh

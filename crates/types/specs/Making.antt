@@ -2,7 +2,7 @@
 use mathlib.Core.Path.{_≡_}
 use mathlib.Core.Bool.{Bool, true, _&&_, not, cond}
 use mathlib.Core.List.{List, [], _∷_}
-use Prim.Native.Nat.{ℕ, _+_, _/_, _%_, _<_, _≤_}
+use Prim.Native.Nat.{ℕ, _+_, _*_, _/_, _%_, _<_, _≤_}
 use lib.Dec.{ltb, leb}
 use lib.ListN.{length, getD}
 use Rattle.refusals.specs.Lowest.{_when_, lowest, unlessRefused}
@@ -10,8 +10,8 @@ use Rattle.refusals.specs.declared.Refusal.the-variants.{Depth, Full}
 use Rattle.refusals.specs.declared.Verdict.{Verdict}
 use Rattle.refusals.specs.declared.Verdict.the-variants.{Passed, Refused}
 use Rattle.pages.specs.Bytes.{countBytes, countOf, bytesOf, put}
-use Rattle.kinds.specs.Kinds.{fixedMax, isNamed}
-use Rattle.types.specs.Store.{entriesMax, depthMax, sizeAt, offset, depthAt, depths, partsAt, equalTo, Formed}
+use Rattle.kinds.specs.Kinds.{fixedMax, childrenMax, isNamed}
+use Rattle.types.specs.Store.{entriesMax, depthMax, headBytes, childBytes, sizeAt, offset, depthAt, depths, partsAt, equalTo, Formed}
 use Rattle.types.specs.Types.{typesIn, Measured}
 use Rattle.types.specs.declared.Made.{Made}
 
@@ -25,6 +25,10 @@ words (c ∷ cs) = c / 256 ∷ c % 256 ∷ words cs
 -- "a child-count byte (0 beside a name) and a T body": of a kind with a name that name, of another kind its children
 unfoldable pub entryOf : ℕ → List ℕ → ℕ → List ℕ
 entryOf k children name = cond (isNamed k) (0 ∷ k ∷ name ∷ []) (length children ∷ k ∷ words children)
+
+-- how many bytes an entry takes at most
+abbrev pub entryMax : ℕ
+entryMax = headBytes + childBytes * childrenMax
 
 -- an entry that can stand in a store in form: all of it, with its parts
 pub record Enterable (page entry : List ℕ) (f : Formed page) : Type 0 where

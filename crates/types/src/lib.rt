@@ -10,12 +10,15 @@ use refusals::Verdict;
 ghost use mathlib.Core.Path.{_≡_};
 ghost use mathlib.Core.Bool.{true};
 ghost use Prim.Native.Nat.{suc, _+_, _-_, _*_, _≤_, _<_};
-ghost use lib.ListN.{length, getD, set};
+ghost use lib.ListN.{length, getD, set, replicate};
 ghost use Rattle.pages.specs.Quant.{allTo};
+ghost use Rattle.pages.specs.Bytes.{put};
+ghost use Rattle.pages.specs.Pad.{pad};
 ghost use Rattle.kinds.specs.Kinds.{fixedMax, childrenMax, isNamed};
 ghost use Rattle.types.specs.Store.{entriesMax, headBytes, childBytes, childrenAt, sizeAt, offset, depthIn, larger, depthAt, isBelow, childrenBelow, partsAt, equalTo, goodAt, formed, Reached};
 ghost use Rattle.types.specs.Types.{typesIn, kindOf, arity, childOf, nameOf, Held, Measured};
-ghost use Rattle.types.specs.Making.{Ready, enterAnswer, enterPage};
+ghost use Rattle.types.specs.Making.{words, entryOf, entryMax, Ready, enterAnswer, enterPage};
+ghost use Rattle.types.specs.Calls.{emptyVerdict, emptyPage};
 
 // How many types there can be.
 pub const TYPES: usize = 4096;
@@ -43,6 +46,18 @@ const CHILD_BYTES: usize = 2;
 
 // How many bytes a name takes.
 const NAME_BYTES: usize = 1;
+
+// How many bytes an entry takes at most.
+const ENTRY_BYTES: usize = HEAD_BYTES + CHILD_BYTES * CHILDREN;
+
+// The places of an entry's bytes.
+type EntryBytes = [u8; ENTRY_BYTES];
+
+// An entry by value: its bytes from place 0 on, with zeros after them, and how many they are.
+pub struct Entry {
+    pub bytes: EntryBytes,
+    pub size: usize,
+}
 
 // The number of a type that was made, or why it was not.
 pub enum Made {
@@ -325,4 +340,65 @@ pub fn enter(page: &mut [u8], offsets: &mut [usize], depths: &mut [u8], entry: &
     set_offset(offsets, n + 1, end + entry.len());
     set_depth(depths, n, depth);
     Made::At(FIXED + n)
+}
+
+// Makes the page a store of the fixed types alone.
+pub fn empty_types(page: &mut [u8]) -> Verdict
+    ensures { λ r. ⌜ (r ≡ emptyVerdict (now (page .entry))) × (now (page .exit) ≡ emptyPage (now (page .entry))) ⌝ }
+{
+    if page.len() < COUNT_BYTES {
+        return Verdict::Refused(Refusal::Broken);
+    }
+    pages::clear(page);
+    Verdict::Passed
+}
+
+// A type's number as an index.
+fn type_index(t: u16) -> usize
+    ensures { λ r. ⌜ (r ≡ t) × (r < 65536) ⌝ }
+{
+    t as usize
+}
+
+// No byte of an entry yet.
+fn no_bytes() -> EntryBytes
+    ensures { λ r. ⌜ r ≡ replicate entryMax 0 ⌝ }
+{
+    [0; ENTRY_BYTES]
+}
+
+// Writes the numbers of children behind an entry's head.
+fn put_children(bytes: &mut [u8], children: &[u16])
+    requires { ⌜ headBytes + childBytes * length (now children) ≤ length (now bytes) ⌝ }
+    ensures { λ _. ⌜ now (bytes .exit) ≡ put (now (bytes .entry)) headBytes (words (now (children .entry))) ⌝ }
+{
+    let mut i: usize = 0;
+    while i < children.len() {
+        let word = pages::count_bytes(type_index(children[i]));
+        pages::put_bytes(bytes, HEAD_BYTES + CHILD_BYTES * i, &word);
+        i += 1;
+    }
+}
+
+// The entry of a type: of a kind with a name that name, of another kind its children.
+pub fn entry_of(kind: Kind, children: &[u16], name: u8) -> Entry
+    requires { ⌜ length (now children) ≤ childrenMax ⌝ }
+    ensures { λ r. ⌜ (r .bytes ≡ pad entryMax 0 (entryOf kind (now (children .entry)) name)) × (r .size ≡ length (entryOf kind (now (children .entry)) name)) × (r .size ≤ entryMax) ⌝ }
+{
+    let mut bytes = no_bytes();
+    if kinds::is_named(kind) {
+        let named = [0, kind, name];
+        pages::put_bytes(&mut bytes, 0, &named);
+        return Entry {
+            bytes,
+            size: HEAD_BYTES + NAME_BYTES,
+        };
+    }
+    let head = [children.len() as u8, kind];
+    pages::put_bytes(&mut bytes, 0, &head);
+    put_children(&mut bytes, children);
+    Entry {
+        bytes,
+        size: HEAD_BYTES + CHILD_BYTES * children.len(),
+    }
 }

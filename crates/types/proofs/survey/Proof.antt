@@ -129,9 +129,11 @@ returns-4 c =
     let a = c .before .before .before .before .before .before .before .before .before .before .before .before .before .args in
     let l = c .before .before .before .before .before .before .loop in
     let page = now (a .page) in
-    let e = c .zeros-from .ensures ∙ going-end page (a .n) (c .before .before .before .before .before .before .before .before .before .if1 .left) (c .before .before .before .before .before .before .before .before .count .result) (c .before .before .before .before .before .before .before .before .count .ensures .0) (c .before .before .before .before .before .before .before .if2 .left) (l .offsets) (l .depths) (l .o) (l .j) (l .inv) (c .before .before .before .before .before .loop-test .left) in
-    (e, λ h. rw (c .before .before .before .set-offset2 .ensures)
-    (going-measured page (a .n) (c .before .before .before .before .before .before .before .before .before .if1 .left) (c .before .before .before .before .before .before .before .before .count .result) (c .before .before .before .before .before .before .before .before .count .ensures .0) (c .before .before .before .before .before .before .before .if2 .left) (l .offsets) (l .depths) (l .o) (l .j) (l .inv) (c .before .before .before .before .before .loop-test .left) (sym e ∙ h)))
+    let e = c .zeros-from .ensures ∙ going-end page (a .n) (c .before .before .before .before .before .before .before .before .before .if1 .left) (c .before .before .before .before .before .before .before .before .count .result) (c .before .before .before .before .before .before .before .before .count .ensures .0) (c .before .before .before .before .before .before .before .if2 .left) (l .offsets) (l .depths) (l .o) (l .j) (l .inv) (c .before .before .before .before .before .loop-test .left) in (
+      e,
+      λ h. rw (c .before .before .before .set-offset2 .ensures)
+          (going-measured page (a .n) (c .before .before .before .before .before .before .before .before .before .if1 .left) (c .before .before .before .before .before .before .before .before .count .result) (c .before .before .before .before .before .before .before .before .count .ensures .0) (c .before .before .before .before .before .before .before .if2 .left) (l .offsets) (l .depths) (l .o) (l .j) (l .inv) (c .before .before .before .before .before .loop-test .left) (sym e ∙ h)),
+    )
 
 pub survey-spec : {M : Type 1} → statement M
 survey-spec =

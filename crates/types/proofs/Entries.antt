@@ -1,0 +1,122 @@
+-- The bytes of an entry: what they say, and how they are written. Assumes nothing.
+use mathlib.Core.Path.{_≡_, refl, sym, _∙_, ap}
+use mathlib.Core.Bool.{Bool, true, false, _&&_, _||_, not, cond}
+use mathlib.Core.List.{List, [], _∷_, _++_}
+use Prim.Native.Nat.{ℕ, zero, suc, _+_, _*_, _/_, _%_, _<_, _≤_}
+use native.Mathlib.Nat.{not-suc-le-zero, le-of-suc-le-suc, div-add-mod'}
+use native.Mathlib.Numerals.{add-one}
+use native.Mathlib.Omega.{arith}
+use lib.Dec.{ltb, leb, eqb}
+use lib.ListN.{length, getD, take, replicate}
+use lib.Seq.{take-suc, take-length, length-take-le}
+use borrow.Author.Tests.{lt-ltb, ltb-true}
+use Rattle.pages.specs.Bytes.{within, wordAt, bytesOf, put}
+use Rattle.pages.specs.Pad.{pad}
+use Rattle.pages.proofs.Quant.{and-true, all-each}
+use Rattle.pages.proofs.Put.{put-none, put-append}
+use Rattle.pages.proofs.Pad.{put-pad}
+use Rattle.kinds.specs.Kinds.{childrenMax, isNamed, isStored, fewest, most}
+use Rattle.types.specs.Store.{headBytes, childBytes, nameBytes, childrenAt, kindAt, childAt, nameAt, sizeAt, isBelow, childrenBelow, partsAt}
+use Rattle.types.specs.Making.{words, entryOf, entryMax}
+use Rattle.types.specs.Calls.{allBelow}
+
+-- ---- children's numbers, two bytes each
+
+pub words-length : (cs : List ℕ) → length (words cs) ≡ childBytes * length cs
+unfolding words
+words-length [] = refl
+words-length (c ∷ cs) = rw (words-length cs) (omega arith)
+
+words-append : (cs ds : List ℕ) → words (cs ++ ds) ≡ words cs ++ words ds
+unfolding words
+words-append [] ds = refl
+words-append (c ∷ cs) ds = rw (words-append cs ds) refl
+
+words-at : (cs : List ℕ) (i : ℕ) → i < length cs → wordAt (words cs) (childBytes * i) ≡ getD cs i 0
+unfolding words
+words-at [] i h = absurd (not-suc-le-zero h)
+words-at (c ∷ cs) zero h = div-add-mod' c 256
+words-at (c ∷ cs) (suc i) h =
+    let a : childBytes * suc i ≡ suc (suc (childBytes * i)) = omega arith in
+    let b : suc (suc (childBytes * i)) + 1 ≡ suc (suc (childBytes * i + 1)) = omega arith in
+    rw (a, b) (words-at cs i (le-of-suc-le-suc h))
+
+-- written one after another behind the head
+
+module _ (l cs : List ℕ) (room : headBytes + childBytes * length cs ≤ length l) where
+  pub words-none : l ≡ put l headBytes (words (take 0 cs))
+  unfolding words
+  words-none = sym (put-none l headBytes)
+
+  pub words-more : (i : ℕ) → i < length cs
+      → put (put l headBytes (words (take i cs))) (headBytes + childBytes * i) (bytesOf (getD cs i 0)) ≡ put l headBytes (words (take (i + 1) cs))
+  unfolding words
+  words-more i h =
+      let k : length (words (take i cs)) ≡ childBytes * i = words-length (take i cs) ∙ ap (λ (x : ℕ). childBytes * x) (length-take-le i cs (omega arith)) in
+      let e : take (i + 1) cs ≡ take i cs ++ (getD cs i 0 ∷ []) = rw add-one (take-suc cs i 0 h) in
+      let f : words (take (i + 1) cs) ≡ words (take i cs) ++ bytesOf (getD cs i 0) = ap words e ∙ words-append (take i cs) (getD cs i 0 ∷ []) in
+      rw (f, ← k) (put-append l headBytes (words (take i cs)) (bytesOf (getD cs i 0)) (omega (arith, k)))
+
+  pub words-all : (i : ℕ) → i ≡ length cs → put l headBytes (words (take i cs)) ≡ put l headBytes (words cs)
+  words-all i e = rw (e, take-length cs) refl
+
+-- ---- an entry
+
+module _ (k : ℕ) (cs : List ℕ) (m : ℕ) where
+  pub entry-kind : kindAt (entryOf k cs m) 0 ≡ k
+  unfolding entryOf
+  entry-kind = go (isNamed k)
+    where
+      go : (b : Bool) → getD (cond b (0 ∷ k ∷ m ∷ []) (length cs ∷ k ∷ words cs)) 1 0 ≡ k
+      go true = refl
+      go false = refl
+
+  module _ (h : isNamed k ≡ true) where
+    named-is : entryOf k cs m ≡ 0 ∷ k ∷ m ∷ []
+    unfolding entryOf
+    named-is = rw h
+
+    pub entry-childless : childrenAt (entryOf k cs m) 0 ≡ 0
+    entry-childless = rw named-is
+
+    pub entry-name : nameAt (entryOf k cs m) 0 ≡ m
+    entry-name = rw named-is
+
+    pub named-size : headBytes + nameBytes ≡ length (entryOf k cs m)
+    named-size = rw named-is
+
+    pub named-made : put (replicate entryMax 0) 0 (0 ∷ k ∷ m ∷ []) ≡ pad entryMax 0 (entryOf k cs m)
+    named-made = rw named-is (put-pad entryMax (0 ∷ k ∷ m ∷ []) (omega arith))
+
+  module _ (h : isNamed k ≡ false) where
+    other-is : entryOf k cs m ≡ length cs ∷ k ∷ words cs
+    unfolding entryOf
+    other-is = rw h
+
+    pub entry-children : childrenAt (entryOf k cs m) 0 ≡ length cs
+    entry-children = rw other-is
+
+    pub entry-child : (i : ℕ) → i < length cs → childAt (entryOf k cs m) 0 i ≡ getD cs i 0
+    entry-child i l =
+        let a : 0 + headBytes + childBytes * i ≡ suc (suc (childBytes * i)) = omega arith in
+        let b : suc (suc (childBytes * i)) + 1 ≡ suc (suc (childBytes * i + 1)) = omega arith in
+        rw (other-is, a, b) (words-at cs i l)
+
+    pub other-size : headBytes + childBytes * length cs ≡ length (entryOf k cs m)
+    other-size = rw other-is (omega (arith, words-length cs))
+
+    pub other-made : length cs ≤ childrenMax
+        → put (put (replicate entryMax 0) 0 (length cs ∷ k ∷ [])) headBytes (words cs) ≡ pad entryMax 0 (entryOf k cs m)
+    other-made l =
+        let w = words-length cs in
+        rw other-is
+        (put-append (replicate entryMax 0) 0 (length cs ∷ k ∷ []) (words cs) (omega (arith, w)) ∙ put-pad entryMax (length cs ∷ k ∷ words cs) (omega (arith, w)))
+
+  -- all of it
+  pub entry-whole : sizeAt (entryOf k cs m) 0 ≡ length (entryOf k cs m)
+  unfolding sizeAt
+  entry-whole = rw entry-kind (go (isNamed k) refl)
+    where
+      go : (b : Bool) → isNamed k ≡ b → headBytes + cond b nameBytes (childBytes * childrenAt (entryOf k cs m) 0) ≡ length (entryOf k cs m)
+      go true e = named-size e
+      go false e = rw (entry-children e) (other-size e)

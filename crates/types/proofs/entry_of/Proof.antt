@@ -1,0 +1,89 @@
+-- `types::entry_of` meets its contract. Assumes nothing.
+use mathlib.Core.Path.{sym, _∙_}
+use native.Mathlib.Omega.{arith}
+use denote.Ref.{now}
+use Rattle.types.proofs.Entries.{named-size, named-made, other-size, other-made}
+use borrow.Author.Needs.{needs}
+use Rattle.types.proofs.entry_of.Statement.{statement}
+use Rattle.types.proofs.entry_of.Tie as tie
+
+no-bytes-requires : tie.Need-no-bytes-requires
+no-bytes-requires c κs = search needs
+
+is-named-requires : tie.Need-is-named-requires
+is-named-requires c κs = search needs
+
+slice-aggregate-put-bytes : tie.Need-slice-aggregate-put-bytes
+slice-aggregate-put-bytes c = search needs
+
+slice-aggregate-put-bytes-2 : tie.Need-slice-aggregate-put-bytes-2
+slice-aggregate-put-bytes-2 c = search needs
+
+put-bytes-requires : tie.Need-put-bytes-requires
+put-bytes-requires c κs = search needs
+
+add-t15 : tie.Need-add-t15
+add-t15 c = search needs
+
+returns : tie.Need-returns
+returns c =
+    let a = c .before .before .before .before .before .before .before .before .args in
+    let h = sym (c .before .before .before .before .before .is-named .ensures) ∙ c .before .before .before .before .if1 .taken in (
+      c .before .put-bytes .ensures ∙ rw (c .before .before .before .before .before .before .no-bytes .ensures) (named-made (a .kind) (now (a .children)) (a .name) h),
+      named-size (a .kind) (now (a .children)) (a .name) h,
+      omega arith,
+    )
+
+cast-t17 : tie.Need-cast-t17
+cast-t17 c = search needs
+
+slice-aggregate-put-bytes-3 : tie.Need-slice-aggregate-put-bytes-3
+slice-aggregate-put-bytes-3 c = search needs
+
+slice-aggregate-put-bytes-4 : tie.Need-slice-aggregate-put-bytes-4
+slice-aggregate-put-bytes-4 c = search needs
+
+put-bytes-requires-2 : tie.Need-put-bytes-requires-2
+put-bytes-requires-2 c κs = search needs
+
+slice-aggregate-put-children : tie.Need-slice-aggregate-put-children
+slice-aggregate-put-children c = search needs
+
+put-children-requires : tie.Need-put-children-requires
+put-children-requires c κs = search needs
+
+mul-t25 : tie.Need-mul-t25
+mul-t25 c = search needs
+
+add-t26 : tie.Need-add-t26
+add-t26 c = search needs
+
+returns-2 : tie.Need-returns-2
+returns-2 c =
+    let a = c .before .before .before .before .before .before .before .before .before .before .before .args in
+    let h = sym (c .before .before .before .before .before .before .before .before .is-named .ensures) ∙ c .before .before .before .before .before .before .before .if1 .left in (
+      c .before .put-children .ensures ∙ rw (c .before .before .before .before .put-bytes2 .ensures, c .before .before .before .before .before .before .before .before .before .no-bytes .ensures) (other-made (a .kind) (now (a .children)) (a .name) h (c .before .before .before .before .before .before .before .before .before .before .before .pre)),
+      other-size (a .kind) (now (a .children)) (a .name) h,
+      omega (arith, c .before .before .before .before .before .before .before .before .before .before .before .pre),
+    )
+
+pub entry-of-spec : {M : Type 1} → statement M
+entry-of-spec =
+    tie.close
+    (tie.spec
+    no-bytes-requires
+    is-named-requires
+    slice-aggregate-put-bytes
+    slice-aggregate-put-bytes-2
+    put-bytes-requires
+    add-t15
+    returns
+    cast-t17
+    slice-aggregate-put-bytes-3
+    slice-aggregate-put-bytes-4
+    put-bytes-requires-2
+    slice-aggregate-put-children
+    put-children-requires
+    mul-t25
+    add-t26
+    returns-2)

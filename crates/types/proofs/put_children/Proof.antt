@@ -1,0 +1,86 @@
+-- `types::put_children` meets its contract. Assumes nothing.
+use mathlib.Core.Path.{_≡_, refl, _∙_}
+use Prim.Native.Nat.{_+_, _-_, _*_, _≤_}
+use native.Mathlib.Omega.{arith}
+use lib.ListN.{length, take}
+use denote.Ref.{now}
+use Rattle.pages.specs.Bytes.{put}
+use Rattle.types.specs.Store.{headBytes, childBytes}
+use Rattle.types.specs.Making.{words}
+use Rattle.types.proofs.Entries.{words-none, words-more, words-all}
+use borrow.Author.Needs.{needs}
+use Rattle.types.proofs.put_children.Statement.{statement}
+use Rattle.types.proofs.put_children.Tie as tie
+
+abbrev Inv-loop : tie.InvT-loop
+Inv-loop bytes₀ children i₀ bytes i = (i ≤ length children) × (bytes ≡ put bytes₀ headBytes (words (take i children))) × (length bytes ≡ length bytes₀)
+
+abbrev μ-loop : tie.MeasureT-loop
+μ-loop bytes₀ children i₀ bytes i = length children - i
+
+loop-holds : tie.Need-loop-holds Inv-loop μ-loop
+loop-holds c = (omega arith, words-none (now (c .before .before .args .bytes)) (now (c .before .before .args .children)) (c .before .before .pre), refl)
+
+mul-type-index : tie.Need-mul-type-index Inv-loop μ-loop
+mul-type-index c = search needs
+
+shared-slice-read-type-index : tie.Need-shared-slice-read-type-index Inv-loop μ-loop
+shared-slice-read-type-index c = search needs
+
+type-index-requires : tie.Need-type-index-requires Inv-loop μ-loop
+type-index-requires c κs = search needs
+
+count-bytes-requires : tie.Need-count-bytes-requires Inv-loop μ-loop
+count-bytes-requires c κs = search needs
+
+mul-put-bytes : tie.Need-mul-put-bytes Inv-loop μ-loop
+mul-put-bytes c = search needs
+
+add-put-bytes : tie.Need-add-put-bytes Inv-loop μ-loop
+add-put-bytes c = search needs
+
+slice-aggregate-put-bytes : tie.Need-slice-aggregate-put-bytes Inv-loop μ-loop
+slice-aggregate-put-bytes c = search needs
+
+put-bytes-requires : tie.Need-put-bytes-requires Inv-loop μ-loop
+put-bytes-requires c κs = search needs
+
+add-i : tie.Need-add-i Inv-loop μ-loop
+add-i c = search needs
+
+loop-less : tie.Need-loop-less Inv-loop μ-loop
+loop-less c = search needs
+
+loop-again : tie.Need-loop-again Inv-loop μ-loop
+loop-again c = (
+  omega arith,
+  c .before .before .put-bytes .ensures ∙ rw (c .before .before .before .before .before .before .before .before .before .loop .inv .1, c .before .before .before .before .before .count-bytes .ensures, c .before .before .before .before .before .before .type-index .ensures .0) (words-more (now (c .before .before .before .before .before .before .before .before .before .before .before .before .args .bytes)) (now (c .before .before .before .before .before .before .before .before .before .before .before .before .args .children)) (c .before .before .before .before .before .before .before .before .before .before .before .before .pre) (c .before .before .before .before .before .before .before .before .before .loop .i) (c .before .before .before .before .before .before .before .before .loop-test .taken)),
+  c .before .before .put-bytes .kept .0 ∙ c .before .before .before .before .before .before .before .before .before .loop .inv .2,
+)
+
+same-length : tie.Need-same-length Inv-loop μ-loop
+same-length c = search needs
+
+returns : tie.Need-returns Inv-loop μ-loop
+returns c = c .before .loop .inv .1 ∙ words-all (now (c .before .before .before .before .args .bytes)) (now (c .before .before .before .before .args .children)) (c .before .before .before .before .pre) (c .before .loop .i) (omega arith)
+
+pub put-children-spec : {M : Type 1} → statement M
+put-children-spec =
+    tie.close
+    (tie.spec
+    Inv-loop
+    μ-loop
+    loop-holds
+    mul-type-index
+    shared-slice-read-type-index
+    type-index-requires
+    count-bytes-requires
+    mul-put-bytes
+    add-put-bytes
+    slice-aggregate-put-bytes
+    put-bytes-requires
+    add-i
+    loop-less
+    loop-again
+    same-length
+    returns)
