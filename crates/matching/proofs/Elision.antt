@@ -38,6 +38,12 @@ cond-cong false x y z w h k = k
 abbrev pub partRule : List ℕ → (ℕ → ℕ → Bool) → ℕ → ℕ → Bool
 partRule page rule x y = nullArrayElision page x y || rule x y
 
+pub part-array : (page : List ℕ) (rule : ℕ → ℕ → Bool) (x y : ℕ) → nullArrayElision page x y ≡ true → partRule page rule x y ≡ true
+part-array page rule x y h = rw h refl
+
+pub part-map : (page : List ℕ) (rule : ℕ → ℕ → Bool) (x y : ℕ) → nullArrayElision page x y ≡ false → partRule page rule x y ≡ rule x y
+part-map page rule x y h = rw h refl
+
 -- child i of one type and child i of another: Null, or by the rule
 abbrev pub elided : List ℕ → (ℕ → ℕ → Bool) → ℕ → ℕ → ℕ → Bool
 elided page rule a b i = nullOr rule (childOf page a i) (childOf page b i)

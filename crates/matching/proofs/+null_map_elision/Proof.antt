@@ -1,5 +1,23 @@
+-- `matching::+null_map_elision` meets its contract. Assumes nothing.
+use mathlib.Core.Path.{_≡_, sym, _∙_}
+use mathlib.Core.Bool.{true, false}
+use mathlib.Core.Logic.{⊎-elim}
+use Prim.Native.Nat.{_-_, _≤_}
+use native.Mathlib.Omega.{arith}
+use denote.Ref.{now}
+use borrow.Author.Tests.{not-true, not-false}
+use Rattle.kinds.specs.Kinds.{isMap}
+use Rattle.types.specs.Types.{kindOf}
+use Rattle.pages.specs.Quant.{allTo}
+use Rattle.pages.proofs.Quant.{all-none, all-more, all-failed}
+use Rattle.matching.specs.Matching.{nullMapElision}
+use Rattle.matching.specs.Memo.{Noted, Found}
+use Rattle.matching.proofs.Memo.{in-use-small, noted-set, recalled, found-maps, maps-found}
+use Rattle.matching.proofs.Parts.{two-children}
+use Rattle.matching.proofs.Elision.{partRule, part-array, part-map, elided, map-first, map-second, map-all, elided-null, elided-rule}
+use borrow.Author.Needs.{needs}
 use Prim.Native.Nat.{ℕ, _<_}
-use borrow.Fn.Kinds.{In}
+use borrow.Fn.Kinds.{In, Out}
 use borrow.Fn.PlainCycle.{Measures, is, falls, and}
 use Rattle.matching.proofs.null_map_elision.Reads as null-map-elision
 use Rattle.matching.proofs.null_map_elision.Kinds as null-map-elision-kinds
@@ -14,7 +32,7 @@ use Rattle.matching.proofs.+null_map_elision.{statement}
 use Rattle.matching.proofs.+null_map_elision.Tie.{close}
 
 abbrev μ-null-map-elision : Measures 3 null-map-elision-kinds.ps ℕ
-μ-null-map-elision κs a = ?
+μ-null-map-elision κs a = a .1 .1 .1 .0
 
 abbrev null-map-elision-at : ℕ → In 3 null-map-elision-kinds.ps
 null-map-elision-at t =
@@ -33,456 +51,163 @@ null-map-elision-below t =
     null-map-elision.Pre
 
 abbrev null-map-elision-Inv-loop : null-map-elision-lts.InvT-loop
-null-map-elision-Inv-loop page offsets memo₀ a b i₀ memo i = ?
+null-map-elision-Inv-loop page offsets memo₀ a b i₀ memo i =
+    (i ≤ 2) × Noted (Found page) memo × (allTo i (elided page (partRule page (nullMapElision page)) a b) ≡ true)
 
 abbrev null-map-elision-μ-loop : null-map-elision-lts.MeasureT-loop
-null-map-elision-μ-loop page offsets memo₀ a b i₀ memo i = ?
+null-map-elision-μ-loop page offsets memo₀ a b i₀ memo i = 2 - i
 
--- src/lib.rt:156:23
-null-map-elision-kind-of-requires : (t : ℕ) → null-map-elision-lts.Need-kind-of-requires (
-  kind-of-reads.Asked,
-  kind-of-reads.Learnt,
-  is-map-reads.Asked,
-  is-map-reads.Learnt,
-  recalls-reads.Asked,
-  recalls-reads.Learnt,
-  child-of-reads.Asked,
-  child-of-reads.Learnt,
-  null-array-elision-reads.Asked,
-  null-array-elision-reads.Learnt,
-  null-map-elision-below t,
-  null-map-elision.Post,
-  note-reads.Asked,
-  note-reads.Learnt,
-) (null-map-elision-at t) null-map-elision.Post null-map-elision-Inv-loop null-map-elision-μ-loop
-null-map-elision-kind-of-requires t c κs = ?
+abbrev null-map-elision-claims : ℕ → null-map-elision-lts.Claims
+null-map-elision-claims t =
+    (kind-of-reads.Asked, kind-of-reads.Learnt, is-map-reads.Asked, is-map-reads.Learnt, recalls-reads.Asked, recalls-reads.Learnt, child-of-reads.Asked, child-of-reads.Learnt, null-array-elision-reads.Asked, null-array-elision-reads.Learnt, null-map-elision-below t, null-map-elision.Post, note-reads.Asked, note-reads.Learnt)
 
--- src/lib.rt:156:9
-null-map-elision-is-map-requires : (t : ℕ) → null-map-elision-lts.Need-is-map-requires (
-  kind-of-reads.Asked,
-  kind-of-reads.Learnt,
-  is-map-reads.Asked,
-  is-map-reads.Learnt,
-  recalls-reads.Asked,
-  recalls-reads.Learnt,
-  child-of-reads.Asked,
-  child-of-reads.Learnt,
-  null-array-elision-reads.Asked,
-  null-array-elision-reads.Learnt,
-  null-map-elision-below t,
-  null-map-elision.Post,
-  note-reads.Asked,
-  note-reads.Learnt,
-) (null-map-elision-at t) null-map-elision.Post null-map-elision-Inv-loop null-map-elision-μ-loop
-null-map-elision-is-map-requires t c κs = ?
+abbrev null-map-elision-need : (null-map-elision-lts.Claims → In 3 null-map-elision-kinds.ps → Out 3 null-map-elision-kinds.ps null-map-elision-kinds.r → null-map-elision-lts.InvT-loop → null-map-elision-lts.MeasureT-loop → Type 0) → ℕ → Type 0
+null-map-elision-need N t = N (null-map-elision-claims t) (null-map-elision-at t) null-map-elision.Post null-map-elision-Inv-loop null-map-elision-μ-loop
 
--- src/lib.rt:157:9
-null-map-elision-returns : (t : ℕ) → null-map-elision-lts.Need-returns (
-  kind-of-reads.Asked,
-  kind-of-reads.Learnt,
-  is-map-reads.Asked,
-  is-map-reads.Learnt,
-  recalls-reads.Asked,
-  recalls-reads.Learnt,
-  child-of-reads.Asked,
-  child-of-reads.Learnt,
-  null-array-elision-reads.Asked,
-  null-array-elision-reads.Learnt,
-  null-map-elision-below t,
-  null-map-elision.Post,
-  note-reads.Asked,
-  note-reads.Learnt,
-) (null-map-elision-at t) null-map-elision.Post null-map-elision-Inv-loop null-map-elision-μ-loop
-null-map-elision-returns t c = ?
+null-map-elision-kind-of-requires : (t : ℕ) → null-map-elision-need null-map-elision-lts.Need-kind-of-requires t
+null-map-elision-kind-of-requires t c κs = search needs
 
--- src/lib.rt:159:23
-null-map-elision-kind-of-requires-2 : (t : ℕ) → null-map-elision-lts.Need-kind-of-requires-2 (
-  kind-of-reads.Asked,
-  kind-of-reads.Learnt,
-  is-map-reads.Asked,
-  is-map-reads.Learnt,
-  recalls-reads.Asked,
-  recalls-reads.Learnt,
-  child-of-reads.Asked,
-  child-of-reads.Learnt,
-  null-array-elision-reads.Asked,
-  null-array-elision-reads.Learnt,
-  null-map-elision-below t,
-  null-map-elision.Post,
-  note-reads.Asked,
-  note-reads.Learnt,
-) (null-map-elision-at t) null-map-elision.Post null-map-elision-Inv-loop null-map-elision-μ-loop
-null-map-elision-kind-of-requires-2 t c κs = ?
+null-map-elision-is-map-requires : (t : ℕ) → null-map-elision-need null-map-elision-lts.Need-is-map-requires t
+null-map-elision-is-map-requires t c κs = search needs
 
--- src/lib.rt:159:9
-null-map-elision-is-map-requires-2 : (t : ℕ) → null-map-elision-lts.Need-is-map-requires-2 (
-  kind-of-reads.Asked,
-  kind-of-reads.Learnt,
-  is-map-reads.Asked,
-  is-map-reads.Learnt,
-  recalls-reads.Asked,
-  recalls-reads.Learnt,
-  child-of-reads.Asked,
-  child-of-reads.Learnt,
-  null-array-elision-reads.Asked,
-  null-array-elision-reads.Learnt,
-  null-map-elision-below t,
-  null-map-elision.Post,
-  note-reads.Asked,
-  note-reads.Learnt,
-) (null-map-elision-at t) null-map-elision.Post null-map-elision-Inv-loop null-map-elision-μ-loop
-null-map-elision-is-map-requires-2 t c κs = ?
+null-map-elision-returns : (t : ℕ) → null-map-elision-need null-map-elision-lts.Need-returns t
+null-map-elision-returns t c =
+    let a = c .before .before .before .before .before .before .args in
+    let p = c .before .before .before .before .before .before .pre .1 in
+    let h : isMap (kindOf (now (a .page)) (a .a)) ≡ false = rw (← c .before .before .kind-of .ensures) (sym (c .before .is-map .ensures) ∙ not-true (c .before .is-map .result) (c .if1 .taken)) in
+    (map-first (now (a .page)) (p .0 .sound) (a .a) (p .1 .0 .0) (a .b) h, p .1 .1)
 
--- src/lib.rt:160:9
-null-map-elision-returns-2 : (t : ℕ) → null-map-elision-lts.Need-returns-2 (
-  kind-of-reads.Asked,
-  kind-of-reads.Learnt,
-  is-map-reads.Asked,
-  is-map-reads.Learnt,
-  recalls-reads.Asked,
-  recalls-reads.Learnt,
-  child-of-reads.Asked,
-  child-of-reads.Learnt,
-  null-array-elision-reads.Asked,
-  null-array-elision-reads.Learnt,
-  null-map-elision-below t,
-  null-map-elision.Post,
-  note-reads.Asked,
-  note-reads.Learnt,
-) (null-map-elision-at t) null-map-elision.Post null-map-elision-Inv-loop null-map-elision-μ-loop
-null-map-elision-returns-2 t c = ?
+null-map-elision-kind-of-requires-2 : (t : ℕ) → null-map-elision-need null-map-elision-lts.Need-kind-of-requires-2 t
+null-map-elision-kind-of-requires-2 t c κs = search needs
 
--- src/lib.rt:162:8
-null-map-elision-recalls-requires : (t : ℕ) → null-map-elision-lts.Need-recalls-requires (
-  kind-of-reads.Asked,
-  kind-of-reads.Learnt,
-  is-map-reads.Asked,
-  is-map-reads.Learnt,
-  recalls-reads.Asked,
-  recalls-reads.Learnt,
-  child-of-reads.Asked,
-  child-of-reads.Learnt,
-  null-array-elision-reads.Asked,
-  null-array-elision-reads.Learnt,
-  null-map-elision-below t,
-  null-map-elision.Post,
-  note-reads.Asked,
-  note-reads.Learnt,
-) (null-map-elision-at t) null-map-elision.Post null-map-elision-Inv-loop null-map-elision-μ-loop
-null-map-elision-recalls-requires t c κs = ?
+null-map-elision-is-map-requires-2 : (t : ℕ) → null-map-elision-need null-map-elision-lts.Need-is-map-requires-2 t
+null-map-elision-is-map-requires-2 t c κs = search needs
 
--- src/lib.rt:163:9
-null-map-elision-same-length : (t : ℕ) → null-map-elision-lts.Need-same-length (
-  kind-of-reads.Asked,
-  kind-of-reads.Learnt,
-  is-map-reads.Asked,
-  is-map-reads.Learnt,
-  recalls-reads.Asked,
-  recalls-reads.Learnt,
-  child-of-reads.Asked,
-  child-of-reads.Learnt,
-  null-array-elision-reads.Asked,
-  null-array-elision-reads.Learnt,
-  null-map-elision-below t,
-  null-map-elision.Post,
-  note-reads.Asked,
-  note-reads.Learnt,
-) (null-map-elision-at t) null-map-elision.Post null-map-elision-Inv-loop null-map-elision-μ-loop
-null-map-elision-same-length t c = ?
+null-map-elision-returns-2 : (t : ℕ) → null-map-elision-need null-map-elision-lts.Need-returns-2 t
+null-map-elision-returns-2 t c =
+    let a = c .before .before .before .before .before .before .before .before .before .args in
+    let p = c .before .before .before .before .before .before .before .before .before .pre .1 in
+    let h : isMap (kindOf (now (a .page)) (a .a)) ≡ true = rw (← c .before .before .before .before .before .kind-of .ensures) (sym (c .before .before .before .before .is-map .ensures) ∙ not-false (c .before .before .before .before .is-map .result) (c .before .before .before .if1 .left)) in
+    let k : isMap (kindOf (now (a .page)) (a .b)) ≡ false = rw (← c .before .before .kind-of2 .ensures) (sym (c .before .is-map2 .ensures) ∙ not-true (c .before .is-map2 .result) (c .if2 .taken)) in
+    (map-second (now (a .page)) (p .0 .sound) (a .a) (p .1 .0 .0) (a .b) h k, p .1 .1)
 
--- src/lib.rt:163:9
-null-map-elision-returns-3 : (t : ℕ) → null-map-elision-lts.Need-returns-3 (
-  kind-of-reads.Asked,
-  kind-of-reads.Learnt,
-  is-map-reads.Asked,
-  is-map-reads.Learnt,
-  recalls-reads.Asked,
-  recalls-reads.Learnt,
-  child-of-reads.Asked,
-  child-of-reads.Learnt,
-  null-array-elision-reads.Asked,
-  null-array-elision-reads.Learnt,
-  null-map-elision-below t,
-  null-map-elision.Post,
-  note-reads.Asked,
-  note-reads.Learnt,
-) (null-map-elision-at t) null-map-elision.Post null-map-elision-Inv-loop null-map-elision-μ-loop
-null-map-elision-returns-3 t c = ?
+null-map-elision-recalls-requires : (t : ℕ) → null-map-elision-need null-map-elision-lts.Need-recalls-requires t
+null-map-elision-recalls-requires t c κs =
+    let a = c .before .before .before .before .before .before .before .before .before .before .args in
+    let p = c .before .before .before .before .before .before .before .before .before .before .pre .1 in
+    let small = in-use-small (now (a .page)) (p .0 .sound) in
+    (p .1 .1 .size, omega arith, small (a .a) (p .1 .0 .0), small (a .b) (p .1 .0 .1))
 
--- src/lib.rt:166:5
-null-map-elision-loop-holds : (t : ℕ) → null-map-elision-lts.Need-loop-holds (
-  kind-of-reads.Asked,
-  kind-of-reads.Learnt,
-  is-map-reads.Asked,
-  is-map-reads.Learnt,
-  recalls-reads.Asked,
-  recalls-reads.Learnt,
-  child-of-reads.Asked,
-  child-of-reads.Learnt,
-  null-array-elision-reads.Asked,
-  null-array-elision-reads.Learnt,
-  null-map-elision-below t,
-  null-map-elision.Post,
-  note-reads.Asked,
-  note-reads.Learnt,
-) (null-map-elision-at t) null-map-elision.Post null-map-elision-Inv-loop null-map-elision-μ-loop
-null-map-elision-loop-holds t c = ?
+null-map-elision-same-length : (t : ℕ) → null-map-elision-need null-map-elision-lts.Need-same-length t
+null-map-elision-same-length t c = search needs
 
--- src/lib.rt:167:13
-null-map-elision-child-of-requires : (t : ℕ) → null-map-elision-lts.Need-child-of-requires (
-  kind-of-reads.Asked,
-  kind-of-reads.Learnt,
-  is-map-reads.Asked,
-  is-map-reads.Learnt,
-  recalls-reads.Asked,
-  recalls-reads.Learnt,
-  child-of-reads.Asked,
-  child-of-reads.Learnt,
-  null-array-elision-reads.Asked,
-  null-array-elision-reads.Learnt,
-  null-map-elision-below t,
-  null-map-elision.Post,
-  note-reads.Asked,
-  note-reads.Learnt,
-) (null-map-elision-at t) null-map-elision.Post null-map-elision-Inv-loop null-map-elision-μ-loop
-null-map-elision-child-of-requires t c κs = ?
+null-map-elision-returns-3 : (t : ℕ) → null-map-elision-need null-map-elision-lts.Need-returns-3 t
+null-map-elision-returns-3 t c =
+    let a = c .before .before .before .before .before .before .before .before .before .before .before .before .args in
+    let p = c .before .before .before .before .before .before .before .before .before .before .before .before .pre .1 in
+    let page = now (a .page) in
+    let small = in-use-small page (p .0 .sound) in
+    let r = recalled (Found page) (now (a .memo)) (p .1 .1) 1 (a .a) (a .b) (omega arith) (small (a .a) (p .1 .0 .0)) (small (a .b) (p .1 .0 .1)) (c .before .recalls .result) (c .before .recalls .ensures) (c .if3 .taken) in
+    (maps-found page (a .a) (a .b) r, p .1 .1)
 
--- src/lib.rt:168:13
-null-map-elision-child-of-requires-2 : (t : ℕ) → null-map-elision-lts.Need-child-of-requires-2 (
-  kind-of-reads.Asked,
-  kind-of-reads.Learnt,
-  is-map-reads.Asked,
-  is-map-reads.Learnt,
-  recalls-reads.Asked,
-  recalls-reads.Learnt,
-  child-of-reads.Asked,
-  child-of-reads.Learnt,
-  null-array-elision-reads.Asked,
-  null-array-elision-reads.Learnt,
-  null-map-elision-below t,
-  null-map-elision.Post,
-  note-reads.Asked,
-  note-reads.Learnt,
-) (null-map-elision-at t) null-map-elision.Post null-map-elision-Inv-loop null-map-elision-μ-loop
-null-map-elision-child-of-requires-2 t c κs = ?
+null-map-elision-loop-holds : (t : ℕ) → null-map-elision-need null-map-elision-lts.Need-loop-holds t
+null-map-elision-loop-holds t c = (search needs, c .before .before .before .before .before .before .before .before .before .before .before .before .pre .1 .1 .1, all-none _)
 
--- src/lib.rt:170:17
-null-map-elision-null-array-elision-requires :
-    (t : ℕ) → null-map-elision-lts.Need-null-array-elision-requires (
-      kind-of-reads.Asked,
-      kind-of-reads.Learnt,
-      is-map-reads.Asked,
-      is-map-reads.Learnt,
-      recalls-reads.Asked,
-      recalls-reads.Learnt,
-      child-of-reads.Asked,
-      child-of-reads.Learnt,
-      null-array-elision-reads.Asked,
-      null-array-elision-reads.Learnt,
-      null-map-elision-below t,
-      null-map-elision.Post,
-      note-reads.Asked,
-      note-reads.Learnt,
-    )
-    (null-map-elision-at t)
-    null-map-elision.Post
-    null-map-elision-Inv-loop
-    null-map-elision-μ-loop
-null-map-elision-null-array-elision-requires t c κs = ?
+null-map-elision-child-of-requires : (t : ℕ) → null-map-elision-need null-map-elision-lts.Need-child-of-requires t
+null-map-elision-child-of-requires t c κs =
+    let a = c .before .before .before .before .before .before .before .before .before .before .before .before .before .before .args in
+    let p = c .before .before .before .before .before .before .before .before .before .before .before .before .before .before .pre .1 in
+    let h : isMap (kindOf (now (a .page)) (a .a)) ≡ true = rw (← c .before .before .before .before .before .before .before .before .before .before .kind-of .ensures) (sym (c .before .before .before .before .before .before .before .before .before .is-map .ensures) ∙ not-false (c .before .before .before .before .before .before .before .before .before .is-map .result) (c .before .before .before .before .before .before .before .before .if1 .left)) in
+    (p .0, (p .1 .0 .0, omega (arith, c .loop-test .taken, two-children (now (a .page)) (p .0 .sound) (a .a) (p .1 .0 .0) h)))
 
--- src/lib.rt:171:21
-null-map-elision-null-map-elision-requires :
-    (t : ℕ) → null-map-elision-lts.Need-null-map-elision-requires (
-      kind-of-reads.Asked,
-      kind-of-reads.Learnt,
-      is-map-reads.Asked,
-      is-map-reads.Learnt,
-      recalls-reads.Asked,
-      recalls-reads.Learnt,
-      child-of-reads.Asked,
-      child-of-reads.Learnt,
-      null-array-elision-reads.Asked,
-      null-array-elision-reads.Learnt,
-      null-map-elision-below t,
-      null-map-elision.Post,
-      note-reads.Asked,
-      note-reads.Learnt,
-    )
-    (null-map-elision-at t)
-    null-map-elision.Post
-    null-map-elision-Inv-loop
-    null-map-elision-μ-loop
-null-map-elision-null-map-elision-requires t c κs = ?
+null-map-elision-child-of-requires-2 : (t : ℕ) → null-map-elision-need null-map-elision-lts.Need-child-of-requires-2 t
+null-map-elision-child-of-requires-2 t c κs =
+    let a = c .before .before .before .before .before .before .before .before .before .before .before .before .before .before .before .args in
+    let p = c .before .before .before .before .before .before .before .before .before .before .before .before .before .before .before .pre .1 in
+    let k : isMap (kindOf (now (a .page)) (a .b)) ≡ true = rw (← c .before .before .before .before .before .before .before .before .kind-of2 .ensures) (sym (c .before .before .before .before .before .before .before .is-map2 .ensures) ∙ not-false (c .before .before .before .before .before .before .before .is-map2 .result) (c .before .before .before .before .before .before .if2 .left)) in
+    (p .0, (p .1 .0 .1, omega (arith, c .before .loop-test .taken, two-children (now (a .page)) (p .0 .sound) (a .b) (p .1 .0 .1) k)))
 
--- src/lib.rt:172:21
-null-map-elision-same-length-2 : (t : ℕ) → null-map-elision-lts.Need-same-length-2 (
-  kind-of-reads.Asked,
-  kind-of-reads.Learnt,
-  is-map-reads.Asked,
-  is-map-reads.Learnt,
-  recalls-reads.Asked,
-  recalls-reads.Learnt,
-  child-of-reads.Asked,
-  child-of-reads.Learnt,
-  null-array-elision-reads.Asked,
-  null-array-elision-reads.Learnt,
-  null-map-elision-below t,
-  null-map-elision.Post,
-  note-reads.Asked,
-  note-reads.Learnt,
-) (null-map-elision-at t) null-map-elision.Post null-map-elision-Inv-loop null-map-elision-μ-loop
-null-map-elision-same-length-2 t c = ?
+null-map-elision-null-array-elision-requires : (t : ℕ) → null-map-elision-need null-map-elision-lts.Need-null-array-elision-requires t
+null-map-elision-null-array-elision-requires t c κs =
+    let p = c .before .before .before .before .before .before .before .before .before .before .before .before .before .before .before .before .before .before .pre in
+    (p .1 .0, ((omega (arith, c .before .before .before .child-of .ensures .1, p .1 .1 .0 .0), omega (arith, c .before .before .child-of2 .ensures .1, p .1 .1 .0 .1)), c .before .before .before .before .before .loop .inv .1))
 
--- src/lib.rt:172:21
-null-map-elision-returns-4 : (t : ℕ) → null-map-elision-lts.Need-returns-4 (
-  kind-of-reads.Asked,
-  kind-of-reads.Learnt,
-  is-map-reads.Asked,
-  is-map-reads.Learnt,
-  recalls-reads.Asked,
-  recalls-reads.Learnt,
-  child-of-reads.Asked,
-  child-of-reads.Learnt,
-  null-array-elision-reads.Asked,
-  null-array-elision-reads.Learnt,
-  null-map-elision-below t,
-  null-map-elision.Post,
-  note-reads.Asked,
-  note-reads.Learnt,
-) (null-map-elision-at t) null-map-elision.Post null-map-elision-Inv-loop null-map-elision-μ-loop
-null-map-elision-returns-4 t c = ?
+null-map-elision-null-map-elision-requires : (t : ℕ) → null-map-elision-need null-map-elision-lts.Need-null-map-elision-requires t
+null-map-elision-null-map-elision-requires t c κs =
+    let p = c .before .before .before .before .before .before .before .before .before .before .before .before .before .before .before .before .before .before .before .before .before .before .before .pre in
+    let x = c .before .before .before .before .before .before .before .before .child-of .ensures .1 in
+    (omega (arith, p .0, x), (p .1 .0, ((omega (arith, x, p .1 .1 .0 .0), omega (arith, c .before .before .before .before .before .before .before .child-of2 .ensures .1, p .1 .1 .0 .1)), c .before .before .before .before .null-array-elision .ensures .1)))
 
--- src/lib.rt:176:9
-null-map-elision-add-i : (t : ℕ) → null-map-elision-lts.Need-add-i (
-  kind-of-reads.Asked,
-  kind-of-reads.Learnt,
-  is-map-reads.Asked,
-  is-map-reads.Learnt,
-  recalls-reads.Asked,
-  recalls-reads.Learnt,
-  child-of-reads.Asked,
-  child-of-reads.Learnt,
-  null-array-elision-reads.Asked,
-  null-array-elision-reads.Learnt,
-  null-map-elision-below t,
-  null-map-elision.Post,
-  note-reads.Asked,
-  note-reads.Learnt,
-) (null-map-elision-at t) null-map-elision.Post null-map-elision-Inv-loop null-map-elision-μ-loop
-null-map-elision-add-i t c = ?
+null-map-elision-same-length-2 : (t : ℕ) → null-map-elision-need null-map-elision-lts.Need-same-length-2 t
+null-map-elision-same-length-2 t c = c .before .before .before .null-map-elision .ensures .1 .size ∙ sym (c .before .before .before .before .before .before .before .before .before .before .before .before .before .before .before .before .before .before .before .before .before .before .before .before .before .before .before .pre .1 .1 .1 .size)
 
--- src/lib.rt:166:5
-null-map-elision-loop-less : (t : ℕ) → null-map-elision-lts.Need-loop-less (
-  kind-of-reads.Asked,
-  kind-of-reads.Learnt,
-  is-map-reads.Asked,
-  is-map-reads.Learnt,
-  recalls-reads.Asked,
-  recalls-reads.Learnt,
-  child-of-reads.Asked,
-  child-of-reads.Learnt,
-  null-array-elision-reads.Asked,
-  null-array-elision-reads.Learnt,
-  null-map-elision-below t,
-  null-map-elision.Post,
-  note-reads.Asked,
-  note-reads.Learnt,
-) (null-map-elision-at t) null-map-elision.Post null-map-elision-Inv-loop null-map-elision-μ-loop
-null-map-elision-loop-less t c = ?
+null-map-elision-returns-4 : (t : ℕ) → null-map-elision-need null-map-elision-lts.Need-returns-4 t
+null-map-elision-returns-4 t c =
+    let a = c .before .before .before .before .before .before .before .before .before .before .before .before .before .before .before .before .before .before .before .before .before .before .before .before .before .before .before .args in
+    let p = c .before .before .before .before .before .before .before .before .before .before .before .before .before .before .before .before .before .before .before .before .before .before .before .before .before .before .before .pre .1 in
+    let page = now (a .page) in
+    let i = c .before .before .before .before .before .before .before .before .before .before .before .before .before .before .loop .i in
+    let x = c .before .before .before .before .before .before .before .before .before .before .before .before .child-of in
+    let y = c .before .before .before .before .before .before .before .before .before .before .before .child-of2 in
+    let rule = partRule page (nullMapElision page) in
+    let h : isMap (kindOf page (a .a)) ≡ true = rw (← c .before .before .before .before .before .before .before .before .before .before .before .before .before .before .before .before .before .before .before .before .before .before .before .kind-of .ensures) (sym (c .before .before .before .before .before .before .before .before .before .before .before .before .before .before .before .before .before .before .before .before .before .before .is-map .ensures) ∙ not-false (c .before .before .before .before .before .before .before .before .before .before .before .before .before .before .before .before .before .before .before .before .before .before .is-map .result) (c .before .before .before .before .before .before .before .before .before .before .before .before .before .before .before .before .before .before .before .before .before .if1 .left)) in
+    let k : isMap (kindOf page (a .b)) ≡ true = rw (← c .before .before .before .before .before .before .before .before .before .before .before .before .before .before .before .before .before .before .before .before .kind-of2 .ensures) (sym (c .before .before .before .before .before .before .before .before .before .before .before .before .before .before .before .before .before .before .before .is-map2 .ensures) ∙ not-false (c .before .before .before .before .before .before .before .before .before .before .before .before .before .before .before .before .before .before .before .is-map2 .result) (c .before .before .before .before .before .before .before .before .before .before .before .before .before .before .before .before .before .before .if2 .left)) in
+    let s = elided-rule page rule (a .a) (a .b) i (x .result) (y .result) (x .ensures .0) (y .ensures .0) (c .before .before .before .before .before .before .before .before .before .before .if4 .taken) in
+    let m = part-map page (nullMapElision page) (x .result) (y .result) (sym (c .before .before .before .before .before .before .before .before .null-array-elision .ensures .0) ∙ not-true (c .before .before .before .before .before .before .before .before .null-array-elision .result) (c .before .before .before .before .before .if5 .taken)) in
+    let r = s ∙ m ∙ sym (c .before .before .before .null-map-elision .ensures .0) ∙ not-true (c .before .before .before .null-map-elision .result) (c .if6 .taken) in
+    (sym (all-failed (elided page rule (a .a) (a .b)) 2 i (c .before .before .before .before .before .before .before .before .before .before .before .before .before .loop-test .taken) r) ∙ map-all page (p .0 .sound) (a .a) (p .1 .0 .0) (a .b) h k, c .before .before .before .null-map-elision .ensures .1)
 
--- src/lib.rt:166:5
-null-map-elision-loop-again : (t : ℕ) → null-map-elision-lts.Need-loop-again (
-  kind-of-reads.Asked,
-  kind-of-reads.Learnt,
-  is-map-reads.Asked,
-  is-map-reads.Learnt,
-  recalls-reads.Asked,
-  recalls-reads.Learnt,
-  child-of-reads.Asked,
-  child-of-reads.Learnt,
-  null-array-elision-reads.Asked,
-  null-array-elision-reads.Learnt,
-  null-map-elision-below t,
-  null-map-elision.Post,
-  note-reads.Asked,
-  note-reads.Learnt,
-) (null-map-elision-at t) null-map-elision.Post null-map-elision-Inv-loop null-map-elision-μ-loop
-null-map-elision-loop-again t c = ?
+null-map-elision-add-i : (t : ℕ) → null-map-elision-need null-map-elision-lts.Need-add-i t
+null-map-elision-add-i t c = search needs
 
--- src/lib.rt:178:5
-null-map-elision-note-requires : (t : ℕ) → null-map-elision-lts.Need-note-requires (
-  kind-of-reads.Asked,
-  kind-of-reads.Learnt,
-  is-map-reads.Asked,
-  is-map-reads.Learnt,
-  recalls-reads.Asked,
-  recalls-reads.Learnt,
-  child-of-reads.Asked,
-  child-of-reads.Learnt,
-  null-array-elision-reads.Asked,
-  null-array-elision-reads.Learnt,
-  null-map-elision-below t,
-  null-map-elision.Post,
-  note-reads.Asked,
-  note-reads.Learnt,
-) (null-map-elision-at t) null-map-elision.Post null-map-elision-Inv-loop null-map-elision-μ-loop
-null-map-elision-note-requires t c κs = ?
+null-map-elision-loop-less : (t : ℕ) → null-map-elision-need null-map-elision-lts.Need-loop-less t
+null-map-elision-loop-less t c = search needs
 
--- src/lib.rt:149:1
-null-map-elision-same-length-3 : (t : ℕ) → null-map-elision-lts.Need-same-length-3 (
-  kind-of-reads.Asked,
-  kind-of-reads.Learnt,
-  is-map-reads.Asked,
-  is-map-reads.Learnt,
-  recalls-reads.Asked,
-  recalls-reads.Learnt,
-  child-of-reads.Asked,
-  child-of-reads.Learnt,
-  null-array-elision-reads.Asked,
-  null-array-elision-reads.Learnt,
-  null-map-elision-below t,
-  null-map-elision.Post,
-  note-reads.Asked,
-  note-reads.Learnt,
-) (null-map-elision-at t) null-map-elision.Post null-map-elision-Inv-loop null-map-elision-μ-loop
-null-map-elision-same-length-3 t c = ?
+null-map-elision-loop-again : (t : ℕ) → null-map-elision-need null-map-elision-lts.Need-loop-again t
+null-map-elision-loop-again t c =
+    let a = c .before .before .before .before .before .before .before .before .before .before .before .before .before .before .before .before .before .args in
+    let page = now (a .page) in
+    let l = c .before .before .before .before .loop in
+    let x = c .before .before .child-of in
+    let y = c .before .child-of2 in
+    let rule = partRule page (nullMapElision page) in
+    let more = all-more (elided page rule (a .a) (a .b)) (l .i) (l .inv .2) in
+    let by = elided-rule page rule (a .a) (a .b) (l .i) (x .result) (y .result) (x .ensures .0) (y .ensures .0) in
+    ⊎-elim
+    (λ o. let m = part-map page (nullMapElision page) (x .result) (y .result) (sym (o .2 .ensures .0) ∙ not-true (o .2 .result) (o .5 .taken)) in
+    (omega arith, rw (o .11) (o .7 .ensures .1), more (by (o .0 .taken) ∙ m ∙ sym (o .7 .ensures .0) ∙ not-false (o .7 .result) (o .10 .left))))
+    (⊎-elim
+    (λ o. let m = part-array page (nullMapElision page) (x .result) (y .result) (sym (o .2 .ensures .0) ∙ not-false (o .2 .result) (o .5 .left)) in
+    (omega arith, rw (o .6) (o .2 .ensures .1), more (by (o .0 .taken) ∙ m)))
+    (λ o. let s = elided-null page rule (a .a) (a .b) (l .i) (x .result) (y .result) (x .ensures .0) (y .ensures .0) (o .0 .left) in
+    (omega arith, rw (o .1) (l .inv .1), more s)))
+    (c .if4 .came)
 
--- src/lib.rt:149:1
-null-map-elision-returns-5 : (t : ℕ) → null-map-elision-lts.Need-returns-5 (
-  kind-of-reads.Asked,
-  kind-of-reads.Learnt,
-  is-map-reads.Asked,
-  is-map-reads.Learnt,
-  recalls-reads.Asked,
-  recalls-reads.Learnt,
-  child-of-reads.Asked,
-  child-of-reads.Learnt,
-  null-array-elision-reads.Asked,
-  null-array-elision-reads.Learnt,
-  null-map-elision-below t,
-  null-map-elision.Post,
-  note-reads.Asked,
-  note-reads.Learnt,
-) (null-map-elision-at t) null-map-elision.Post null-map-elision-Inv-loop null-map-elision-μ-loop
-null-map-elision-returns-5 t c = ?
+null-map-elision-note-requires : (t : ℕ) → null-map-elision-need null-map-elision-lts.Need-note-requires t
+null-map-elision-note-requires t c κs =
+    let a = c .before .before .before .before .before .before .before .before .before .before .before .before .before .before .before .args in
+    let p = c .before .before .before .before .before .before .before .before .before .before .before .before .before .before .before .pre .1 in
+    let small = in-use-small (now (a .page)) (p .0 .sound) in
+    (c .before .before .loop .inv .1 .size, omega arith, small (a .a) (p .1 .0 .0), small (a .b) (p .1 .0 .1))
+
+null-map-elision-same-length-3 : (t : ℕ) → null-map-elision-need null-map-elision-lts.Need-same-length-3 t
+null-map-elision-same-length-3 t c = search needs
+
+null-map-elision-returns-5 : (t : ℕ) → null-map-elision-need null-map-elision-lts.Need-returns-5 t
+null-map-elision-returns-5 t c =
+    let a = c .before .before .before .before .before .before .before .before .before .before .before .before .before .before .before .before .before .before .args in
+    let p = c .before .before .before .before .before .before .before .before .before .before .before .before .before .before .before .before .before .before .pre .1 in
+    let page = now (a .page) in
+    let small = in-use-small page (p .0 .sound) in
+    let h : isMap (kindOf page (a .a)) ≡ true = rw (← c .before .before .before .before .before .before .before .before .before .before .before .before .before .before .kind-of .ensures) (sym (c .before .before .before .before .before .before .before .before .before .before .before .before .before .is-map .ensures) ∙ not-false (c .before .before .before .before .before .before .before .before .before .before .before .before .before .is-map .result) (c .before .before .before .before .before .before .before .before .before .before .before .before .if1 .left)) in
+    let k : isMap (kindOf page (a .b)) ≡ true = rw (← c .before .before .before .before .before .before .before .before .before .before .before .kind-of2 .ensures) (sym (c .before .before .before .before .before .before .before .before .before .before .is-map2 .ensures) ∙ not-false (c .before .before .before .before .before .before .before .before .before .before .is-map2 .result) (c .before .before .before .before .before .before .before .before .before .if2 .left)) in
+    let i : c .before .before .before .before .before .loop .i ≡ 2 = omega arith in
+    let q : allTo 2 (elided page (partRule page (nullMapElision page)) (a .a) (a .b)) ≡ true = rw i at (c .before .before .before .before .before .loop .inv .2) in
+    let r = sym q ∙ map-all page (p .0 .sound) (a .a) (p .1 .0 .0) (a .b) h k in
+    (r, rw (c .before .before .note .ensures) (noted-set (Found page) (c .before .before .before .before .before .loop .memo) (c .before .before .before .before .before .loop .inv .1) 1 (a .a) (a .b) (omega arith) (small (a .a) (p .1 .0 .0)) (small (a .b) (p .1 .0 .1)) (found-maps page (a .a) (a .b) (sym r))))
 
 pub +null-map-elision-spec : {M : Type 1} → statement M
-+null-map-elision-spec = close μ-null-map-elision λ t. null-map-elision-lts.spec (
-  kind-of-reads.Asked,
-  kind-of-reads.Learnt,
-  is-map-reads.Asked,
-  is-map-reads.Learnt,
-  recalls-reads.Asked,
-  recalls-reads.Learnt,
-  child-of-reads.Asked,
-  child-of-reads.Learnt,
-  null-array-elision-reads.Asked,
-  null-array-elision-reads.Learnt,
-  null-map-elision-below t,
-  null-map-elision.Post,
-  note-reads.Asked,
-  note-reads.Learnt,
-)
++null-map-elision-spec = close μ-null-map-elision λ t. null-map-elision-lts.spec (null-map-elision-claims t)
     (null-map-elision-at t)
     null-map-elision.Post
     null-map-elision-Inv-loop
