@@ -1,6 +1,6 @@
 -- What a call has in mind, over any predicate on findings of a pair. Assumes nothing.
 use mathlib.Core.Path.{_≡_, refl, sym, _∙_, subst}
-use mathlib.Core.Bool.{Bool, true}
+use mathlib.Core.Bool.{Bool, true, false, cond}
 use mathlib.Core.List.{List}
 use Prim.Native.Nat.{ℕ, _+_, _*_, _%_, _<_, _≤_}
 use native.Mathlib.Decide.{ℕ-discrete}
@@ -8,7 +8,7 @@ use native.Mathlib.Omega.{arith}
 use lib.Dec.{eqb}
 use lib.ListN.{length, getD, set, replicate, length-replicate, length-set}
 use lib.Seq.{getD-set-same, getD-set-other}
-use borrow.Author.Tests.{eqb-true}
+use borrow.Author.Tests.{eqb-true, not-true}
 use Rattle.pages.proofs.Bytes.{made-at}
 use Rattle.types.specs.Store.{typesMax, Formed}
 use Rattle.types.specs.Types.{typesIn}
@@ -59,6 +59,10 @@ module _ (holds : ℕ → ℕ → ℕ → Type 0) (memo : List ℕ) (n : Noted h
 
 -- ---- the findings of matching, each as the rule that it is about says it
 
+pub any-small : (answer : Bool) → cond answer 3 2 < findings
+any-small true = omega arith
+any-small false = omega arith
+
 module _ (page : List ℕ) (a b : ℕ) where
   pub found-arrays : nullArrayElision page a b ≡ true → Found page 0 a b
   unfolding found
@@ -75,3 +79,17 @@ module _ (page : List ℕ) (a b : ℕ) where
   pub maps-found : Found page 1 a b → true ≡ nullMapElision page a b
   unfolding found
   maps-found h = sym h
+
+  -- what `any_matches` answered
+  pub found-any : (answer : Bool) → answer ≡ anyMatches page a b → Found page (cond answer 3 2) a b
+  unfolding found
+  found-any true e = sym e
+  found-any false e = rw (← e) refl
+
+  pub yes-found : Found page 3 a b → anyMatches page a b ≡ true
+  unfolding found
+  yes-found h = h
+
+  pub no-found : Found page 2 a b → anyMatches page a b ≡ false
+  unfolding found
+  no-found h = not-true (anyMatches page a b) h

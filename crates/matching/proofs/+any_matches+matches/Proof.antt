@@ -1,5 +1,23 @@
+-- `matching::+any_matches+matches` meets its contract. Assumes nothing.
+use mathlib.Core.Path.{_≡_, sym, _∙_}
+use mathlib.Core.Bool.{true, false, cond}
+use mathlib.Core.Logic.{⊎-elim}
+use Prim.Native.Nat.{_+_, _*_, _-_, _≤_}
+use native.Mathlib.Omega.{arith}
+use denote.Ref.{now}
+use borrow.Author.Tests.{not-true, not-false}
+use Rattle.kinds.specs.Kinds.{isUnion}
+use Rattle.types.specs.Types.{typesIn, kindOf}
+use Rattle.pages.specs.Quant.{anyTo, allTo}
+use Rattle.pages.proofs.Quant.{any-none, all-none, any-more, all-more}
+use Rattle.matching.specs.Matching.{knownMatches, inUse, matches as matchesDef}
+use Rattle.matching.specs.Memo.{Noted, Found}
+use Rattle.matching.specs.declared.Checked.the-variants.{Known}
+use Rattle.matching.proofs.Memo.{in-use-small, noted-set, recalled, found-any, any-small, yes-found, no-found}
+use Rattle.matching.proofs.Matching.{weight, stands, hasPartner, stands-so, partner-found, any-no, one-found, one-missed, all-met, one-alone, known-in-use, in-use-known, to-unknown, from-unknown, to-function, from-function, to-known, known-plain, known-any}
+use borrow.Author.Needs.{needs}
 use Prim.Native.Nat.{ℕ, _<_}
-use borrow.Fn.Kinds.{In}
+use borrow.Fn.Kinds.{In, Out}
 use borrow.Fn.PlainCycle.{Measures, is, falls, and}
 use Rattle.matching.proofs.any_matches.Reads as any-matches
 use Rattle.matching.proofs.any_matches.Kinds as any-matches-kinds
@@ -20,10 +38,10 @@ use Rattle.matching.proofs.+any_matches+matches.{statement}
 use Rattle.matching.proofs.+any_matches+matches.Tie.{close}
 
 abbrev μ-any-matches : Measures 3 any-matches-kinds.ps ℕ
-μ-any-matches κs a = ?
+μ-any-matches κs a = 2 * a .1 .1 .1 .1 .0
 
 abbrev μ-matches : Measures 3 matches-kinds.ps ℕ
-μ-matches κs a = ?
+μ-matches κs a = weight (a .1 .1 .1 .1 .0)
 
 abbrev any-matches-at : ℕ → In 3 any-matches-kinds.ps
 any-matches-at t =
@@ -40,1117 +58,335 @@ abbrev matches-below : ℕ → In 3 matches-kinds.ps
 matches-below t = and 3 matches-kinds.ps (falls 3 matches-kinds.ps _<_ μ-matches t) matches.Pre
 
 abbrev any-matches-Inv-loop : any-matches-lts.InvT-loop
-any-matches-Inv-loop page offsets memo₀ a b expected j₀ memo j = ?
+any-matches-Inv-loop page offsets memo₀ a b expected j₀ memo j = (j ≤ expected) × Noted (Found page) memo × (anyTo j (stands page a b) ≡ false)
 
 abbrev any-matches-μ-loop : any-matches-lts.MeasureT-loop
-any-matches-μ-loop page offsets memo₀ a b expected j₀ memo j = ?
+any-matches-μ-loop page offsets memo₀ a b expected j₀ memo j = expected - j
 
 abbrev any-matches-Inv-loop2 : any-matches-lts.InvT-loop2
-any-matches-Inv-loop2 page offsets memo₀ a b expected actual i m j₀ memo j = ?
+any-matches-Inv-loop2 page offsets memo₀ a b expected actual i m j₀ memo j =
+    (j ≤ expected) × Noted (Found page) memo × (anyTo j (stands page m b) ≡ false)
 
 abbrev any-matches-μ-loop2 : any-matches-lts.MeasureT-loop2
-any-matches-μ-loop2 page offsets memo₀ a b expected actual i m j₀ memo j = ?
+any-matches-μ-loop2 page offsets memo₀ a b expected actual i m j₀ memo j = expected - j
 
 abbrev any-matches-Inv-members : any-matches-lts.InvT-members
-any-matches-Inv-members page offsets memo₀ a b expected actual i₀ memo i = ?
+any-matches-Inv-members page offsets memo₀ a b expected actual i₀ memo i =
+    (i ≤ actual) × Noted (Found page) memo × (allTo i (hasPartner page a b expected) ≡ true)
 
 abbrev any-matches-μ-members : any-matches-lts.MeasureT-members
-any-matches-μ-members page offsets memo₀ a b expected actual i₀ memo i = ?
+any-matches-μ-members page offsets memo₀ a b expected actual i₀ memo i = actual - i
 
--- src/lib.rt:383:25
-any-matches-kind-of-requires : (t : ℕ) → any-matches-lts.Need-kind-of-requires (
-  kind-of-reads.Asked,
-  kind-of-reads.Learnt,
-  is-union-reads.Asked,
-  is-union-reads.Learnt,
-  arity-reads.Asked,
-  arity-reads.Learnt,
-  child-of-reads.Asked,
-  child-of-reads.Learnt,
-  matches-below t,
-  matches.Post,
-)
-    (any-matches-at t)
-    any-matches.Post
-    any-matches-Inv-loop
-    any-matches-μ-loop
-    any-matches-Inv-loop2
-    any-matches-μ-loop2
-    any-matches-Inv-members
-    any-matches-μ-members
-any-matches-kind-of-requires t c κs = ?
+abbrev any-matches-claims : ℕ → any-matches-lts.Claims
+any-matches-claims t =
+    (kind-of-reads.Asked, kind-of-reads.Learnt, is-union-reads.Asked, is-union-reads.Learnt, arity-reads.Asked, arity-reads.Learnt, child-of-reads.Asked, child-of-reads.Learnt, matches-below t, matches.Post)
 
--- src/lib.rt:383:9
-any-matches-is-union-requires : (t : ℕ) → any-matches-lts.Need-is-union-requires (
-  kind-of-reads.Asked,
-  kind-of-reads.Learnt,
-  is-union-reads.Asked,
-  is-union-reads.Learnt,
-  arity-reads.Asked,
-  arity-reads.Learnt,
-  child-of-reads.Asked,
-  child-of-reads.Learnt,
-  matches-below t,
-  matches.Post,
-)
-    (any-matches-at t)
-    any-matches.Post
-    any-matches-Inv-loop
-    any-matches-μ-loop
-    any-matches-Inv-loop2
-    any-matches-μ-loop2
-    any-matches-Inv-members
-    any-matches-μ-members
-any-matches-is-union-requires t c κs = ?
+abbrev any-matches-need : (any-matches-lts.Claims → In 3 any-matches-kinds.ps → Out 3 any-matches-kinds.ps any-matches-kinds.r → any-matches-lts.InvT-loop → any-matches-lts.MeasureT-loop → any-matches-lts.InvT-loop2 → any-matches-lts.MeasureT-loop2 → any-matches-lts.InvT-members → any-matches-lts.MeasureT-members → Type 0) → ℕ → Type 0
+any-matches-need N t = N (any-matches-claims t) (any-matches-at t) any-matches.Post any-matches-Inv-loop any-matches-μ-loop any-matches-Inv-loop2 any-matches-μ-loop2 any-matches-Inv-members any-matches-μ-members
 
--- src/lib.rt:384:9
-any-matches-returns : (t : ℕ) → any-matches-lts.Need-returns (
-  kind-of-reads.Asked,
-  kind-of-reads.Learnt,
-  is-union-reads.Asked,
-  is-union-reads.Learnt,
-  arity-reads.Asked,
-  arity-reads.Learnt,
-  child-of-reads.Asked,
-  child-of-reads.Learnt,
-  matches-below t,
-  matches.Post,
-)
-    (any-matches-at t)
-    any-matches.Post
-    any-matches-Inv-loop
-    any-matches-μ-loop
-    any-matches-Inv-loop2
-    any-matches-μ-loop2
-    any-matches-Inv-members
-    any-matches-μ-members
-any-matches-returns t c = ?
+b-union : (t : ℕ) (c : any-matches-need any-matches-lts.Else1 t) → let a = c .before .before .before .before .before .before .args in isUnion (kindOf (now (a .page)) (a .b)) ≡ true
+b-union t c = rw (← c .before .before .kind-of .ensures) (sym (c .before .is-union .ensures) ∙ not-false (c .before .is-union .result) (c .if1 .left))
 
--- src/lib.rt:386:9
-any-matches-arity-requires : (t : ℕ) → any-matches-lts.Need-arity-requires (
-  kind-of-reads.Asked,
-  kind-of-reads.Learnt,
-  is-union-reads.Asked,
-  is-union-reads.Learnt,
-  arity-reads.Asked,
-  arity-reads.Learnt,
-  child-of-reads.Asked,
-  child-of-reads.Learnt,
-  matches-below t,
-  matches.Post,
-)
-    (any-matches-at t)
-    any-matches.Post
-    any-matches-Inv-loop
-    any-matches-μ-loop
-    any-matches-Inv-loop2
-    any-matches-μ-loop2
-    any-matches-Inv-members
-    any-matches-μ-members
-any-matches-arity-requires t c κs = ?
+a-plain : (t : ℕ) (c : any-matches-need any-matches-lts.Then2 t) → let a = c .before .before .before .before .before .before .before .before .before .before .args in isUnion (kindOf (now (a .page)) (a .a)) ≡ false
+a-plain t c = rw (← c .before .before .kind-of2 .ensures) (sym (c .before .is-union2 .ensures) ∙ not-true (c .before .is-union2 .result) (c .if2 .taken))
 
--- src/lib.rt:387:25
-any-matches-kind-of-requires-2 : (t : ℕ) → any-matches-lts.Need-kind-of-requires-2 (
-  kind-of-reads.Asked,
-  kind-of-reads.Learnt,
-  is-union-reads.Asked,
-  is-union-reads.Learnt,
-  arity-reads.Asked,
-  arity-reads.Learnt,
-  child-of-reads.Asked,
-  child-of-reads.Learnt,
-  matches-below t,
-  matches.Post,
-)
-    (any-matches-at t)
-    any-matches.Post
-    any-matches-Inv-loop
-    any-matches-μ-loop
-    any-matches-Inv-loop2
-    any-matches-μ-loop2
-    any-matches-Inv-members
-    any-matches-μ-members
-any-matches-kind-of-requires-2 t c κs = ?
+a-union : (t : ℕ) (c : any-matches-need any-matches-lts.Else2 t) → let a = c .before .before .before .before .before .before .before .before .before .before .args in isUnion (kindOf (now (a .page)) (a .a)) ≡ true
+a-union t c = rw (← c .before .before .kind-of2 .ensures) (sym (c .before .is-union2 .ensures) ∙ not-false (c .before .is-union2 .result) (c .if2 .left))
 
--- src/lib.rt:387:9
-any-matches-is-union-requires-2 : (t : ℕ) → any-matches-lts.Need-is-union-requires-2 (
-  kind-of-reads.Asked,
-  kind-of-reads.Learnt,
-  is-union-reads.Asked,
-  is-union-reads.Learnt,
-  arity-reads.Asked,
-  arity-reads.Learnt,
-  child-of-reads.Asked,
-  child-of-reads.Learnt,
-  matches-below t,
-  matches.Post,
-)
-    (any-matches-at t)
-    any-matches.Post
-    any-matches-Inv-loop
-    any-matches-μ-loop
-    any-matches-Inv-loop2
-    any-matches-μ-loop2
-    any-matches-Inv-members
-    any-matches-μ-members
-any-matches-is-union-requires-2 t c κs = ?
+any-matches-kind-of-requires : (t : ℕ) → any-matches-need any-matches-lts.Need-kind-of-requires t
+any-matches-kind-of-requires t c κs = search needs
 
--- src/lib.rt:389:9
-any-matches-loop-holds : (t : ℕ) → any-matches-lts.Need-loop-holds (
-  kind-of-reads.Asked,
-  kind-of-reads.Learnt,
-  is-union-reads.Asked,
-  is-union-reads.Learnt,
-  arity-reads.Asked,
-  arity-reads.Learnt,
-  child-of-reads.Asked,
-  child-of-reads.Learnt,
-  matches-below t,
-  matches.Post,
-)
-    (any-matches-at t)
-    any-matches.Post
-    any-matches-Inv-loop
-    any-matches-μ-loop
-    any-matches-Inv-loop2
-    any-matches-μ-loop2
-    any-matches-Inv-members
-    any-matches-μ-members
-any-matches-loop-holds t c = ?
+any-matches-is-union-requires : (t : ℕ) → any-matches-need any-matches-lts.Need-is-union-requires t
+any-matches-is-union-requires t c κs = search needs
 
--- src/lib.rt:390:17
-any-matches-child-of-requires : (t : ℕ) → any-matches-lts.Need-child-of-requires (
-  kind-of-reads.Asked,
-  kind-of-reads.Learnt,
-  is-union-reads.Asked,
-  is-union-reads.Learnt,
-  arity-reads.Asked,
-  arity-reads.Learnt,
-  child-of-reads.Asked,
-  child-of-reads.Learnt,
-  matches-below t,
-  matches.Post,
-)
-    (any-matches-at t)
-    any-matches.Post
-    any-matches-Inv-loop
-    any-matches-μ-loop
-    any-matches-Inv-loop2
-    any-matches-μ-loop2
-    any-matches-Inv-members
-    any-matches-μ-members
-any-matches-child-of-requires t c κs = ?
+any-matches-returns : (t : ℕ) → any-matches-need any-matches-lts.Need-returns t
+any-matches-returns t c =
+    let a = c .before .before .before .before .before .before .args in
+    let u : isUnion (kindOf (now (a .page)) (a .b)) ≡ false = rw (← c .before .before .kind-of .ensures) (sym (c .before .is-union .ensures) ∙ not-true (c .before .is-union .result) (c .if1 .taken)) in
+    (any-no (now (a .page)) (a .a) (a .b) u, c .before .before .before .before .before .before .pre .1 .1 .1)
 
--- src/lib.rt:391:16
-any-matches-matches-requires : (t : ℕ) → any-matches-lts.Need-matches-requires (
-  kind-of-reads.Asked,
-  kind-of-reads.Learnt,
-  is-union-reads.Asked,
-  is-union-reads.Learnt,
-  arity-reads.Asked,
-  arity-reads.Learnt,
-  child-of-reads.Asked,
-  child-of-reads.Learnt,
-  matches-below t,
-  matches.Post,
-)
-    (any-matches-at t)
-    any-matches.Post
-    any-matches-Inv-loop
-    any-matches-μ-loop
-    any-matches-Inv-loop2
-    any-matches-μ-loop2
-    any-matches-Inv-members
-    any-matches-μ-members
-any-matches-matches-requires t c κs = ?
+any-matches-arity-requires : (t : ℕ) → any-matches-need any-matches-lts.Need-arity-requires t
+any-matches-arity-requires t c κs = search needs
 
--- src/lib.rt:392:17
-any-matches-same-length : (t : ℕ) → any-matches-lts.Need-same-length (
-  kind-of-reads.Asked,
-  kind-of-reads.Learnt,
-  is-union-reads.Asked,
-  is-union-reads.Learnt,
-  arity-reads.Asked,
-  arity-reads.Learnt,
-  child-of-reads.Asked,
-  child-of-reads.Learnt,
-  matches-below t,
-  matches.Post,
-)
-    (any-matches-at t)
-    any-matches.Post
-    any-matches-Inv-loop
-    any-matches-μ-loop
-    any-matches-Inv-loop2
-    any-matches-μ-loop2
-    any-matches-Inv-members
-    any-matches-μ-members
-any-matches-same-length t c = ?
+any-matches-kind-of-requires-2 : (t : ℕ) → any-matches-need any-matches-lts.Need-kind-of-requires-2 t
+any-matches-kind-of-requires-2 t c κs = search needs
 
--- src/lib.rt:392:17
-any-matches-returns-2 : (t : ℕ) → any-matches-lts.Need-returns-2 (
-  kind-of-reads.Asked,
-  kind-of-reads.Learnt,
-  is-union-reads.Asked,
-  is-union-reads.Learnt,
-  arity-reads.Asked,
-  arity-reads.Learnt,
-  child-of-reads.Asked,
-  child-of-reads.Learnt,
-  matches-below t,
-  matches.Post,
-)
-    (any-matches-at t)
-    any-matches.Post
-    any-matches-Inv-loop
-    any-matches-μ-loop
-    any-matches-Inv-loop2
-    any-matches-μ-loop2
-    any-matches-Inv-members
-    any-matches-μ-members
-any-matches-returns-2 t c = ?
+any-matches-is-union-requires-2 : (t : ℕ) → any-matches-need any-matches-lts.Need-is-union-requires-2 t
+any-matches-is-union-requires-2 t c κs = search needs
 
--- src/lib.rt:394:13
-any-matches-add-j : (t : ℕ) → any-matches-lts.Need-add-j (
-  kind-of-reads.Asked,
-  kind-of-reads.Learnt,
-  is-union-reads.Asked,
-  is-union-reads.Learnt,
-  arity-reads.Asked,
-  arity-reads.Learnt,
-  child-of-reads.Asked,
-  child-of-reads.Learnt,
-  matches-below t,
-  matches.Post,
-)
-    (any-matches-at t)
-    any-matches.Post
-    any-matches-Inv-loop
-    any-matches-μ-loop
-    any-matches-Inv-loop2
-    any-matches-μ-loop2
-    any-matches-Inv-members
-    any-matches-μ-members
-any-matches-add-j t c = ?
+any-matches-loop-holds : (t : ℕ) → any-matches-need any-matches-lts.Need-loop-holds t
+any-matches-loop-holds t c = (search needs, c .before .before .before .before .before .before .before .before .before .before .pre .1 .1 .1, any-none _)
 
--- src/lib.rt:389:9
-any-matches-loop-less : (t : ℕ) → any-matches-lts.Need-loop-less (
-  kind-of-reads.Asked,
-  kind-of-reads.Learnt,
-  is-union-reads.Asked,
-  is-union-reads.Learnt,
-  arity-reads.Asked,
-  arity-reads.Learnt,
-  child-of-reads.Asked,
-  child-of-reads.Learnt,
-  matches-below t,
-  matches.Post,
-)
-    (any-matches-at t)
-    any-matches.Post
-    any-matches-Inv-loop
-    any-matches-μ-loop
-    any-matches-Inv-loop2
-    any-matches-μ-loop2
-    any-matches-Inv-members
-    any-matches-μ-members
-any-matches-loop-less t c = ?
+any-matches-child-of-requires : (t : ℕ) → any-matches-need any-matches-lts.Need-child-of-requires t
+any-matches-child-of-requires t c κs = search needs
 
--- src/lib.rt:389:9
-any-matches-loop-again : (t : ℕ) → any-matches-lts.Need-loop-again (
-  kind-of-reads.Asked,
-  kind-of-reads.Learnt,
-  is-union-reads.Asked,
-  is-union-reads.Learnt,
-  arity-reads.Asked,
-  arity-reads.Learnt,
-  child-of-reads.Asked,
-  child-of-reads.Learnt,
-  matches-below t,
-  matches.Post,
-)
-    (any-matches-at t)
-    any-matches.Post
-    any-matches-Inv-loop
-    any-matches-μ-loop
-    any-matches-Inv-loop2
-    any-matches-μ-loop2
-    any-matches-Inv-members
-    any-matches-μ-members
-any-matches-loop-again t c = ?
+any-matches-matches-requires : (t : ℕ) → any-matches-need any-matches-lts.Need-matches-requires t
+any-matches-matches-requires t c κs =
+    let a = c .before .before .before .before .before .before .before .before .before .before .before .before .before .before .args in
+    let p = c .before .before .before .before .before .before .before .before .before .before .before .before .before .before .pre in
+    let e = c .before .child-of in
+    let u = in-use-known (now (a .page)) (a .a) (p .1 .1 .0 .0) in
+    let v = in-use-known (now (a .page)) (e .result) (omega (arith, e .ensures .1, p .1 .1 .0 .1)) in
+    (omega (arith, p .0, e .ensures .1), (p .1 .0, ((u, v), c .before .before .before .loop .inv .1)))
 
--- src/lib.rt:396:9
-any-matches-same-length-2 : (t : ℕ) → any-matches-lts.Need-same-length-2 (
-  kind-of-reads.Asked,
-  kind-of-reads.Learnt,
-  is-union-reads.Asked,
-  is-union-reads.Learnt,
-  arity-reads.Asked,
-  arity-reads.Learnt,
-  child-of-reads.Asked,
-  child-of-reads.Learnt,
-  matches-below t,
-  matches.Post,
-)
-    (any-matches-at t)
-    any-matches.Post
-    any-matches-Inv-loop
-    any-matches-μ-loop
-    any-matches-Inv-loop2
-    any-matches-μ-loop2
-    any-matches-Inv-members
-    any-matches-μ-members
-any-matches-same-length-2 t c = ?
+any-matches-same-length : (t : ℕ) → any-matches-need any-matches-lts.Need-same-length t
+any-matches-same-length t c = c .before .before .before .matches .ensures .1 .size ∙ sym (c .before .before .before .before .before .before .before .before .before .before .before .before .before .before .before .before .before .before .pre .1 .1 .1 .size)
 
--- src/lib.rt:396:9
-any-matches-returns-3 : (t : ℕ) → any-matches-lts.Need-returns-3 (
-  kind-of-reads.Asked,
-  kind-of-reads.Learnt,
-  is-union-reads.Asked,
-  is-union-reads.Learnt,
-  arity-reads.Asked,
-  arity-reads.Learnt,
-  child-of-reads.Asked,
-  child-of-reads.Learnt,
-  matches-below t,
-  matches.Post,
-)
-    (any-matches-at t)
-    any-matches.Post
-    any-matches-Inv-loop
-    any-matches-μ-loop
-    any-matches-Inv-loop2
-    any-matches-μ-loop2
-    any-matches-Inv-members
-    any-matches-μ-members
-any-matches-returns-3 t c = ?
+any-matches-returns-2 : (t : ℕ) → any-matches-need any-matches-lts.Need-returns-2 t
+any-matches-returns-2 t c =
+    let a = c .before .before .before .before .before .before .before .before .before .before .before .before .before .before .before .before .before .before .args in
+    let page = now (a .page) in
+    let j = c .before .before .before .before .before .before .before .loop .j in
+    let e = c .before .before .before .before .before .child-of in
+    let s = stands-so page (a .a) (a .b) j (e .result) (c .before .before .before .matches .result) true (e .ensures .0) (c .before .before .before .matches .ensures .0) (c .if3 .taken) in
+    (one-found page (a .a) (a .b) (c .before .before .before .before .before .before .before .before .before .before .before .arity .result) (c .before .before .before .before .before .before .before .before .before .before .before .arity .ensures .0) (b-union t (c .before .before .before .before .before .before .before .before .before .before .before .before)) (a-plain t (c .before .before .before .before .before .before .before .before)) j (c .before .before .before .before .before .before .loop-test .taken) s, c .before .before .before .matches .ensures .1)
 
--- src/lib.rt:398:9
-any-matches-arity-requires-2 : (t : ℕ) → any-matches-lts.Need-arity-requires-2 (
-  kind-of-reads.Asked,
-  kind-of-reads.Learnt,
-  is-union-reads.Asked,
-  is-union-reads.Learnt,
-  arity-reads.Asked,
-  arity-reads.Learnt,
-  child-of-reads.Asked,
-  child-of-reads.Learnt,
-  matches-below t,
-  matches.Post,
-)
-    (any-matches-at t)
-    any-matches.Post
-    any-matches-Inv-loop
-    any-matches-μ-loop
-    any-matches-Inv-loop2
-    any-matches-μ-loop2
-    any-matches-Inv-members
-    any-matches-μ-members
-any-matches-arity-requires-2 t c κs = ?
+any-matches-add-j : (t : ℕ) → any-matches-need any-matches-lts.Need-add-j t
+any-matches-add-j t c = search needs
 
--- src/lib.rt:400:5
-any-matches-members-holds : (t : ℕ) → any-matches-lts.Need-members-holds (
-  kind-of-reads.Asked,
-  kind-of-reads.Learnt,
-  is-union-reads.Asked,
-  is-union-reads.Learnt,
-  arity-reads.Asked,
-  arity-reads.Learnt,
-  child-of-reads.Asked,
-  child-of-reads.Learnt,
-  matches-below t,
-  matches.Post,
-)
-    (any-matches-at t)
-    any-matches.Post
-    any-matches-Inv-loop
-    any-matches-μ-loop
-    any-matches-Inv-loop2
-    any-matches-μ-loop2
-    any-matches-Inv-members
-    any-matches-μ-members
-any-matches-members-holds t c = ?
+any-matches-loop-less : (t : ℕ) → any-matches-need any-matches-lts.Need-loop-less t
+any-matches-loop-less t c = search needs
 
--- src/lib.rt:401:13
-any-matches-child-of-requires-2 : (t : ℕ) → any-matches-lts.Need-child-of-requires-2 (
-  kind-of-reads.Asked,
-  kind-of-reads.Learnt,
-  is-union-reads.Asked,
-  is-union-reads.Learnt,
-  arity-reads.Asked,
-  arity-reads.Learnt,
-  child-of-reads.Asked,
-  child-of-reads.Learnt,
-  matches-below t,
-  matches.Post,
-)
-    (any-matches-at t)
-    any-matches.Post
-    any-matches-Inv-loop
-    any-matches-μ-loop
-    any-matches-Inv-loop2
-    any-matches-μ-loop2
-    any-matches-Inv-members
-    any-matches-μ-members
-any-matches-child-of-requires-2 t c κs = ?
+any-matches-loop-again : (t : ℕ) → any-matches-need any-matches-lts.Need-loop-again t
+any-matches-loop-again t c =
+    let a = c .before .before .before .before .before .before .before .before .before .before .before .before .before .before .before .before .before .before .args in
+    let page = now (a .page) in
+    let l = c .before .before .before .before .before .before .before .loop in
+    let e = c .before .before .before .before .before .child-of in
+    let s = stands-so page (a .a) (a .b) (l .j) (e .result) (c .before .before .before .matches .result) false (e .ensures .0) (c .before .before .before .matches .ensures .0) (c .if3 .left) in
+    (search needs, c .before .before .before .matches .ensures .1, any-more (stands page (a .a) (a .b)) (l .j) (l .inv .2) s)
 
--- src/lib.rt:403:9
-any-matches-loop2-holds : (t : ℕ) → any-matches-lts.Need-loop2-holds (
-  kind-of-reads.Asked,
-  kind-of-reads.Learnt,
-  is-union-reads.Asked,
-  is-union-reads.Learnt,
-  arity-reads.Asked,
-  arity-reads.Learnt,
-  child-of-reads.Asked,
-  child-of-reads.Learnt,
-  matches-below t,
-  matches.Post,
-)
-    (any-matches-at t)
-    any-matches.Post
-    any-matches-Inv-loop
-    any-matches-μ-loop
-    any-matches-Inv-loop2
-    any-matches-μ-loop2
-    any-matches-Inv-members
-    any-matches-μ-members
-any-matches-loop2-holds t c = ?
+any-matches-same-length-2 : (t : ℕ) → any-matches-need any-matches-lts.Need-same-length-2 t
+any-matches-same-length-2 t c = c .before .loop .inv .1 .size ∙ sym (c .before .before .before .before .before .before .before .before .before .before .before .before .pre .1 .1 .1 .size)
 
--- src/lib.rt:407:17
-any-matches-child-of-requires-3 : (t : ℕ) → any-matches-lts.Need-child-of-requires-3 (
-  kind-of-reads.Asked,
-  kind-of-reads.Learnt,
-  is-union-reads.Asked,
-  is-union-reads.Learnt,
-  arity-reads.Asked,
-  arity-reads.Learnt,
-  child-of-reads.Asked,
-  child-of-reads.Learnt,
-  matches-below t,
-  matches.Post,
-)
-    (any-matches-at t)
-    any-matches.Post
-    any-matches-Inv-loop
-    any-matches-μ-loop
-    any-matches-Inv-loop2
-    any-matches-μ-loop2
-    any-matches-Inv-members
-    any-matches-μ-members
-any-matches-child-of-requires-3 t c κs = ?
+any-matches-returns-3 : (t : ℕ) → any-matches-need any-matches-lts.Need-returns-3 t
+any-matches-returns-3 t c =
+    let a = c .before .before .before .before .before .before .before .before .before .before .before .before .args in
+    let l = c .before .loop in
+    (one-missed (now (a .page)) (a .a) (a .b) (c .before .before .before .before .before .arity .result) (c .before .before .before .before .before .arity .ensures .0) (b-union t (c .before .before .before .before .before .before)) (a-plain t (c .before .before)) (l .j) (omega arith) (l .inv .2), l .inv .1)
 
--- src/lib.rt:408:16
-any-matches-matches-requires-2 : (t : ℕ) → any-matches-lts.Need-matches-requires-2 (
-  kind-of-reads.Asked,
-  kind-of-reads.Learnt,
-  is-union-reads.Asked,
-  is-union-reads.Learnt,
-  arity-reads.Asked,
-  arity-reads.Learnt,
-  child-of-reads.Asked,
-  child-of-reads.Learnt,
-  matches-below t,
-  matches.Post,
-)
-    (any-matches-at t)
-    any-matches.Post
-    any-matches-Inv-loop
-    any-matches-μ-loop
-    any-matches-Inv-loop2
-    any-matches-μ-loop2
-    any-matches-Inv-members
-    any-matches-μ-members
-any-matches-matches-requires-2 t c κs = ?
+any-matches-arity-requires-2 : (t : ℕ) → any-matches-need any-matches-lts.Need-arity-requires-2 t
+any-matches-arity-requires-2 t c κs = search needs
 
--- src/lib.rt:411:13
-any-matches-add-j-2 : (t : ℕ) → any-matches-lts.Need-add-j-2 (
-  kind-of-reads.Asked,
-  kind-of-reads.Learnt,
-  is-union-reads.Asked,
-  is-union-reads.Learnt,
-  arity-reads.Asked,
-  arity-reads.Learnt,
-  child-of-reads.Asked,
-  child-of-reads.Learnt,
-  matches-below t,
-  matches.Post,
-)
-    (any-matches-at t)
-    any-matches.Post
-    any-matches-Inv-loop
-    any-matches-μ-loop
-    any-matches-Inv-loop2
-    any-matches-μ-loop2
-    any-matches-Inv-members
-    any-matches-μ-members
-any-matches-add-j-2 t c = ?
+any-matches-members-holds : (t : ℕ) → any-matches-need any-matches-lts.Need-members-holds t
+any-matches-members-holds t c = (search needs, c .before .before .before .before .before .before .before .before .before .before .before .pre .1 .1 .1, all-none _)
 
--- src/lib.rt:403:9
-any-matches-loop2-less : (t : ℕ) → any-matches-lts.Need-loop2-less (
-  kind-of-reads.Asked,
-  kind-of-reads.Learnt,
-  is-union-reads.Asked,
-  is-union-reads.Learnt,
-  arity-reads.Asked,
-  arity-reads.Learnt,
-  child-of-reads.Asked,
-  child-of-reads.Learnt,
-  matches-below t,
-  matches.Post,
-)
-    (any-matches-at t)
-    any-matches.Post
-    any-matches-Inv-loop
-    any-matches-μ-loop
-    any-matches-Inv-loop2
-    any-matches-μ-loop2
-    any-matches-Inv-members
-    any-matches-μ-members
-any-matches-loop2-less t c = ?
+any-matches-child-of-requires-2 : (t : ℕ) → any-matches-need any-matches-lts.Need-child-of-requires-2 t
+any-matches-child-of-requires-2 t c κs = search needs
 
--- src/lib.rt:403:9
-any-matches-loop2-again : (t : ℕ) → any-matches-lts.Need-loop2-again (
-  kind-of-reads.Asked,
-  kind-of-reads.Learnt,
-  is-union-reads.Asked,
-  is-union-reads.Learnt,
-  arity-reads.Asked,
-  arity-reads.Learnt,
-  child-of-reads.Asked,
-  child-of-reads.Learnt,
-  matches-below t,
-  matches.Post,
-)
-    (any-matches-at t)
-    any-matches.Post
-    any-matches-Inv-loop
-    any-matches-μ-loop
-    any-matches-Inv-loop2
-    any-matches-μ-loop2
-    any-matches-Inv-members
-    any-matches-μ-members
-any-matches-loop2-again t c = ?
+any-matches-loop2-holds : (t : ℕ) → any-matches-need any-matches-lts.Need-loop2-holds t
+any-matches-loop2-holds t c = (search needs, c .before .before .members .inv .1, any-none _)
 
--- src/lib.rt:413:9
-any-matches-add-i : (t : ℕ) → any-matches-lts.Need-add-i (
-  kind-of-reads.Asked,
-  kind-of-reads.Learnt,
-  is-union-reads.Asked,
-  is-union-reads.Learnt,
-  arity-reads.Asked,
-  arity-reads.Learnt,
-  child-of-reads.Asked,
-  child-of-reads.Learnt,
-  matches-below t,
-  matches.Post,
-)
-    (any-matches-at t)
-    any-matches.Post
-    any-matches-Inv-loop
-    any-matches-μ-loop
-    any-matches-Inv-loop2
-    any-matches-μ-loop2
-    any-matches-Inv-members
-    any-matches-μ-members
-any-matches-add-i t c = ?
+any-matches-child-of-requires-3 : (t : ℕ) → any-matches-need any-matches-lts.Need-child-of-requires-3 t
+any-matches-child-of-requires-3 t c κs = search needs
 
--- src/lib.rt:400:5
-any-matches-members-less : (t : ℕ) → any-matches-lts.Need-members-less (
-  kind-of-reads.Asked,
-  kind-of-reads.Learnt,
-  is-union-reads.Asked,
-  is-union-reads.Learnt,
-  arity-reads.Asked,
-  arity-reads.Learnt,
-  child-of-reads.Asked,
-  child-of-reads.Learnt,
-  matches-below t,
-  matches.Post,
-)
-    (any-matches-at t)
-    any-matches.Post
-    any-matches-Inv-loop
-    any-matches-μ-loop
-    any-matches-Inv-loop2
-    any-matches-μ-loop2
-    any-matches-Inv-members
-    any-matches-μ-members
-any-matches-members-less t c = ?
+any-matches-matches-requires-2 : (t : ℕ) → any-matches-need any-matches-lts.Need-matches-requires-2 t
+any-matches-matches-requires-2 t c κs =
+    let a = c .before .before .before .before .before .before .before .before .before .before .before .before .before .before .before .before .before .before .args in
+    let p = c .before .before .before .before .before .before .before .before .before .before .before .before .before .before .before .before .before .before .pre in
+    let m = c .before .before .before .before .child-of2 in
+    let e = c .before .child-of3 in
+    let u = in-use-known (now (a .page)) (m .result) (omega (arith, m .ensures .1, p .1 .1 .0 .0)) in
+    let v = in-use-known (now (a .page)) (e .result) (omega (arith, e .ensures .1, p .1 .1 .0 .1)) in
+    (omega (arith, p .0, e .ensures .1), (p .1 .0, ((u, v), c .before .before .before .loop2 .inv .1)))
 
--- src/lib.rt:400:5
-any-matches-members-again : (t : ℕ) → any-matches-lts.Need-members-again (
-  kind-of-reads.Asked,
-  kind-of-reads.Learnt,
-  is-union-reads.Asked,
-  is-union-reads.Learnt,
-  arity-reads.Asked,
-  arity-reads.Learnt,
-  child-of-reads.Asked,
-  child-of-reads.Learnt,
-  matches-below t,
-  matches.Post,
-)
-    (any-matches-at t)
-    any-matches.Post
-    any-matches-Inv-loop
-    any-matches-μ-loop
-    any-matches-Inv-loop2
-    any-matches-μ-loop2
-    any-matches-Inv-members
-    any-matches-μ-members
-any-matches-members-again t c = ?
+any-matches-add-j-2 : (t : ℕ) → any-matches-need any-matches-lts.Need-add-j-2 t
+any-matches-add-j-2 t c = search needs
 
--- src/lib.rt:376:1
-any-matches-same-length-3 : (t : ℕ) → any-matches-lts.Need-same-length-3 (
-  kind-of-reads.Asked,
-  kind-of-reads.Learnt,
-  is-union-reads.Asked,
-  is-union-reads.Learnt,
-  arity-reads.Asked,
-  arity-reads.Learnt,
-  child-of-reads.Asked,
-  child-of-reads.Learnt,
-  matches-below t,
-  matches.Post,
-)
-    (any-matches-at t)
-    any-matches.Post
-    any-matches-Inv-loop
-    any-matches-μ-loop
-    any-matches-Inv-loop2
-    any-matches-μ-loop2
-    any-matches-Inv-members
-    any-matches-μ-members
-any-matches-same-length-3 t c = ?
+any-matches-loop2-less : (t : ℕ) → any-matches-need any-matches-lts.Need-loop2-less t
+any-matches-loop2-less t c = search needs
 
--- src/lib.rt:376:1
-any-matches-returns-4 : (t : ℕ) → any-matches-lts.Need-returns-4 (
-  kind-of-reads.Asked,
-  kind-of-reads.Learnt,
-  is-union-reads.Asked,
-  is-union-reads.Learnt,
-  arity-reads.Asked,
-  arity-reads.Learnt,
-  child-of-reads.Asked,
-  child-of-reads.Learnt,
-  matches-below t,
-  matches.Post,
-)
-    (any-matches-at t)
-    any-matches.Post
-    any-matches-Inv-loop
-    any-matches-μ-loop
-    any-matches-Inv-loop2
-    any-matches-μ-loop2
-    any-matches-Inv-members
-    any-matches-μ-members
-any-matches-returns-4 t c = ?
+any-matches-loop2-again : (t : ℕ) → any-matches-need any-matches-lts.Need-loop2-again t
+any-matches-loop2-again t c =
+    let a = c .before .before .before .before .before .before .before .before .before .before .before .before .before .before .before .before .before .before .before .before .before .before .args in
+    let page = now (a .page) in
+    let l = c .before .before .before .before .before .before .before .loop2 in
+    let m = c .before .before .before .before .before .before .before .before .child-of2 in
+    let e = c .before .before .before .before .before .child-of3 in
+    let s = stands-so page (m .result) (a .b) (l .j) (e .result) (c .before .before .before .matches2 .result) false (e .ensures .0) (c .before .before .before .matches2 .ensures .0) (c .if4 .left) in
+    (search needs, c .before .before .before .matches2 .ensures .1, any-more (stands page (m .result) (a .b)) (l .j) (l .inv .2) s)
 
--- src/lib.rt:350:9
-matches-enum-told : (t : ℕ) → matches-lts.Need-enum-told (
-  function-matches-reads.Asked,
-  function-matches-reads.Learnt,
-  known-for-function-reads.Asked,
-  known-for-function-reads.Learnt,
-  plain-matches-reads.Asked,
-  plain-matches-reads.Learnt,
-  recalls-reads.Asked,
-  recalls-reads.Learnt,
-  any-matches-below t,
-  any-matches.Post,
-  note-any-reads.Asked,
-  note-any-reads.Learnt,
-) (matches-at t) matches.Post
-matches-enum-told t c = ?
+any-matches-add-i : (t : ℕ) → any-matches-need any-matches-lts.Need-add-i t
+any-matches-add-i t c = search needs
 
--- src/lib.rt:350:9
-matches-returns : (t : ℕ) → matches-lts.Need-returns (
-  function-matches-reads.Asked,
-  function-matches-reads.Learnt,
-  known-for-function-reads.Asked,
-  known-for-function-reads.Learnt,
-  plain-matches-reads.Asked,
-  plain-matches-reads.Learnt,
-  recalls-reads.Asked,
-  recalls-reads.Learnt,
-  any-matches-below t,
-  any-matches.Post,
-  note-any-reads.Asked,
-  note-any-reads.Learnt,
-) (matches-at t) matches.Post
-matches-returns t c = ?
+any-matches-members-less : (t : ℕ) → any-matches-need any-matches-lts.Need-members-less t
+any-matches-members-less t c = search needs
 
--- src/lib.rt:352:30
-matches-enum-known-actual : (t : ℕ) → matches-lts.Need-enum-known-actual (
-  function-matches-reads.Asked,
-  function-matches-reads.Learnt,
-  known-for-function-reads.Asked,
-  known-for-function-reads.Learnt,
-  plain-matches-reads.Asked,
-  plain-matches-reads.Learnt,
-  recalls-reads.Asked,
-  recalls-reads.Learnt,
-  any-matches-below t,
-  any-matches.Post,
-  note-any-reads.Asked,
-  note-any-reads.Learnt,
-) (matches-at t) matches.Post
-matches-enum-known-actual t c = ?
+any-matches-members-again : (t : ℕ) → any-matches-need any-matches-lts.Need-members-again t
+any-matches-members-again t c =
+    let a = c .before .before .before .before .before .before .before .before .before .before .before .before .before .before .before .before .before .before .before .before .before .before .args in
+    let page = now (a .page) in
+    let l = c .before .before .before .before .before .before .before .loop2 in
+    let m = c .before .before .before .before .before .before .before .before .child-of2 in
+    let e = c .before .before .before .before .before .child-of3 in
+    let n = c .before .before .before .before .before .before .before .before .before .before .before .before .before .before .before .arity .result in
+    let s = stands-so page (m .result) (a .b) (l .j) (e .result) (c .before .before .before .matches2 .result) true (e .ensures .0) (c .before .before .before .matches2 .ensures .0) (c .if4 .taken) in
+    let h = partner-found page (a .a) (a .b) n (c .before .before .before .before .before .before .before .before .before .before .members .i) (m .result) (l .j) (m .ensures .0) (omega arith) s in
+    (search needs, c .before .before .before .matches2 .ensures .1, all-more (hasPartner page (a .a) (a .b) n) (c .before .before .before .before .before .before .before .before .before .before .members .i) (c .before .before .before .before .before .before .before .before .before .before .members .inv .2) h)
 
--- src/lib.rt:353:9
-matches-function-matches-requires : (t : ℕ) → matches-lts.Need-function-matches-requires (
-  function-matches-reads.Asked,
-  function-matches-reads.Learnt,
-  known-for-function-reads.Asked,
-  known-for-function-reads.Learnt,
-  plain-matches-reads.Asked,
-  plain-matches-reads.Learnt,
-  recalls-reads.Asked,
-  recalls-reads.Learnt,
-  any-matches-below t,
-  any-matches.Post,
-  note-any-reads.Asked,
-  note-any-reads.Learnt,
-) (matches-at t) matches.Post
-matches-function-matches-requires t c κs = ?
+any-matches-same-length-3 : (t : ℕ) → any-matches-need any-matches-lts.Need-same-length-3 t
+any-matches-same-length-3 t c =
+    let z = sym (c .before .before .before .before .before .before .before .before .before .before .before .before .before .pre .1 .1 .1 .size) in
+    ⊎-elim (λ o. rw (o .1) (c .before .members .inv .1 .size ∙ z)) (λ o. rw (o .4) (o .2 .inv .1 .size ∙ z)) (c .members-test .came)
 
--- src/lib.rt:353:9
-matches-returns-2 : (t : ℕ) → matches-lts.Need-returns-2 (
-  function-matches-reads.Asked,
-  function-matches-reads.Learnt,
-  known-for-function-reads.Asked,
-  known-for-function-reads.Learnt,
-  plain-matches-reads.Asked,
-  plain-matches-reads.Learnt,
-  recalls-reads.Asked,
-  recalls-reads.Learnt,
-  any-matches-below t,
-  any-matches.Post,
-  note-any-reads.Asked,
-  note-any-reads.Learnt,
-) (matches-at t) matches.Post
-matches-returns-2 t c = ?
+any-matches-returns-4 : (t : ℕ) → any-matches-need any-matches-lts.Need-returns-4 t
+any-matches-returns-4 t c =
+    let a = c .before .before .before .before .before .before .before .before .before .before .before .before .before .args in
+    let page = now (a .page) in
+    let m = c .before .members in
+    let ub = b-union t (c .before .before .before .before .before .before .before) in
+    let ua = a-union t (c .before .before .before) in
+    ⊎-elim
+    (λ o. (all-met page (a .a) (a .b) (c .before .before .before .before .before .before .arity .result) (c .before .before .before .before .before .before .arity .ensures .0) ub (c .before .before .arity2 .result) (c .before .before .arity2 .ensures .0) ua (m .i) (omega arith) (m .inv .2), rw (o .1) (m .inv .1)))
+    (λ o. (one-alone page (a .a) (a .b) (c .before .before .before .before .before .before .arity .result) (c .before .before .before .before .before .before .arity .ensures .0) ub (c .before .before .arity2 .result) (c .before .before .arity2 .ensures .0) ua (m .i) (o .1 .result) (o .2 .j) (o .0 .taken) (o .1 .ensures .0) (o .3 .taken) (o .2 .inv .2), rw (o .4) (o .2 .inv .1)))
+    (c .members-test .came)
 
--- src/lib.rt:355:24
-matches-enum-known-actual-2 : (t : ℕ) → matches-lts.Need-enum-known-actual-2 (
-  function-matches-reads.Asked,
-  function-matches-reads.Learnt,
-  known-for-function-reads.Asked,
-  known-for-function-reads.Learnt,
-  plain-matches-reads.Asked,
-  plain-matches-reads.Learnt,
-  recalls-reads.Asked,
-  recalls-reads.Learnt,
-  any-matches-below t,
-  any-matches.Post,
-  note-any-reads.Asked,
-  note-any-reads.Learnt,
-) (matches-at t) matches.Post
-matches-enum-known-actual-2 t c = ?
+abbrev matches-claims : ℕ → matches-lts.Claims
+matches-claims t =
+    (function-matches-reads.Asked, function-matches-reads.Learnt, known-for-function-reads.Asked, known-for-function-reads.Learnt, plain-matches-reads.Asked, plain-matches-reads.Learnt, recalls-reads.Asked, recalls-reads.Learnt, any-matches-below t, any-matches.Post, note-any-reads.Asked, note-any-reads.Learnt)
 
--- src/lib.rt:356:9
-matches-returns-3 : (t : ℕ) → matches-lts.Need-returns-3 (
-  function-matches-reads.Asked,
-  function-matches-reads.Learnt,
-  known-for-function-reads.Asked,
-  known-for-function-reads.Learnt,
-  plain-matches-reads.Asked,
-  plain-matches-reads.Learnt,
-  recalls-reads.Asked,
-  recalls-reads.Learnt,
-  any-matches-below t,
-  any-matches.Post,
-  note-any-reads.Asked,
-  note-any-reads.Learnt,
-) (matches-at t) matches.Post
-matches-returns-3 t c = ?
+abbrev matches-need : (matches-lts.Claims → In 3 matches-kinds.ps → Out 3 matches-kinds.ps matches-kinds.r → Type 0) → ℕ → Type 0
+matches-need N t = N (matches-claims t) (matches-at t) matches.Post
 
--- src/lib.rt:358:24
-matches-enum-known-expected : (t : ℕ) → matches-lts.Need-enum-known-expected (
-  function-matches-reads.Asked,
-  function-matches-reads.Learnt,
-  known-for-function-reads.Asked,
-  known-for-function-reads.Learnt,
-  plain-matches-reads.Asked,
-  plain-matches-reads.Learnt,
-  recalls-reads.Asked,
-  recalls-reads.Learnt,
-  any-matches-below t,
-  any-matches.Post,
-  note-any-reads.Asked,
-  note-any-reads.Learnt,
-) (matches-at t) matches.Post
-matches-enum-known-expected t c = ?
+both-known : (t : ℕ) (c : matches-need matches-lts.After-known-told3 t) → let g = c .before .before .before .before .before .before .before .before .before .before .before .args in
+    let a = c .before .before .before .before .actual2 .given .0 .0 in
+    let b = c .before .expected .given .0 .0 in
+    (a < typesIn (now (g .page))) × (b < typesIn (now (g .page))) × (knownMatches (now (g .page)) a b ≡ matchesDef (now (g .page)) (g .actual) (g .expected))
+both-known t c =
+    let start = c .before .before .before .before .before .before .before .before .before .before .before in
+    let page = now (start .args .page) in
+    let actual2 = c .before .before .before .before .actual2 in
+    let expected = c .before .expected in
+    let u : inUse page (Known (actual2 .given .0 .0)) ≡ true = rw (actual2 .given .1) at (start .pre .1 .1 .0 .0) in
+    let v : inUse page (Known (expected .given .0 .0)) ≡ true = rw (expected .given .1) at (start .pre .1 .1 .0 .1) in
+    (known-in-use page (actual2 .given .0 .0) u, known-in-use page (expected .given .0 .0) v, rw (actual2 .given .1, expected .given .1) (to-known page (actual2 .given .0 .0) (expected .given .0 .0)))
 
--- src/lib.rt:359:9
-matches-known-for-function-requires : (t : ℕ) → matches-lts.Need-known-for-function-requires (
-  function-matches-reads.Asked,
-  function-matches-reads.Learnt,
-  known-for-function-reads.Asked,
-  known-for-function-reads.Learnt,
-  plain-matches-reads.Asked,
-  plain-matches-reads.Learnt,
-  recalls-reads.Asked,
-  recalls-reads.Learnt,
-  any-matches-below t,
-  any-matches.Post,
-  note-any-reads.Asked,
-  note-any-reads.Learnt,
-) (matches-at t) matches.Post
-matches-known-for-function-requires t c κs = ?
+matches-enum-told : (t : ℕ) → matches-need matches-lts.Need-enum-told t
+matches-enum-told t c = search needs
 
--- src/lib.rt:359:9
-matches-returns-4 : (t : ℕ) → matches-lts.Need-returns-4 (
-  function-matches-reads.Asked,
-  function-matches-reads.Learnt,
-  known-for-function-reads.Asked,
-  known-for-function-reads.Learnt,
-  plain-matches-reads.Asked,
-  plain-matches-reads.Learnt,
-  recalls-reads.Asked,
-  recalls-reads.Learnt,
-  any-matches-below t,
-  any-matches.Post,
-  note-any-reads.Asked,
-  note-any-reads.Learnt,
-) (matches-at t) matches.Post
-matches-returns-4 t c = ?
+matches-returns : (t : ℕ) → matches-need matches-lts.Need-returns t
+matches-returns t c = (rw (c .enum-told .given .1) (to-unknown (now (c .before .before .before .before .before .args .page)) (c .before .before .before .before .before .args .actual)), c .before .before .before .before .before .pre .1 .1 .1)
 
--- src/lib.rt:361:8
-matches-plain-matches-requires : (t : ℕ) → matches-lts.Need-plain-matches-requires (
-  function-matches-reads.Asked,
-  function-matches-reads.Learnt,
-  known-for-function-reads.Asked,
-  known-for-function-reads.Learnt,
-  plain-matches-reads.Asked,
-  plain-matches-reads.Learnt,
-  recalls-reads.Asked,
-  recalls-reads.Learnt,
-  any-matches-below t,
-  any-matches.Post,
-  note-any-reads.Asked,
-  note-any-reads.Learnt,
-) (matches-at t) matches.Post
-matches-plain-matches-requires t c κs = ?
+matches-enum-known-actual : (t : ℕ) → matches-need matches-lts.Need-enum-known-actual t
+matches-enum-known-actual t c = search needs
 
--- src/lib.rt:362:9
-matches-same-length : (t : ℕ) → matches-lts.Need-same-length (
-  function-matches-reads.Asked,
-  function-matches-reads.Learnt,
-  known-for-function-reads.Asked,
-  known-for-function-reads.Learnt,
-  plain-matches-reads.Asked,
-  plain-matches-reads.Learnt,
-  recalls-reads.Asked,
-  recalls-reads.Learnt,
-  any-matches-below t,
-  any-matches.Post,
-  note-any-reads.Asked,
-  note-any-reads.Learnt,
-) (matches-at t) matches.Post
-matches-same-length t c = ?
+matches-function-matches-requires : (t : ℕ) → matches-need matches-lts.Need-function-matches-requires t
+matches-function-matches-requires t c κs = (c .before .before .before .before .before .before .before .pre .1 .0, c .before .before .before .before .before .before .before .pre .1 .1 .0 .1)
 
--- src/lib.rt:362:9
-matches-returns-5 : (t : ℕ) → matches-lts.Need-returns-5 (
-  function-matches-reads.Asked,
-  function-matches-reads.Learnt,
-  known-for-function-reads.Asked,
-  known-for-function-reads.Learnt,
-  plain-matches-reads.Asked,
-  plain-matches-reads.Learnt,
-  recalls-reads.Asked,
-  recalls-reads.Learnt,
-  any-matches-below t,
-  any-matches.Post,
-  note-any-reads.Asked,
-  note-any-reads.Learnt,
-) (matches-at t) matches.Post
-matches-returns-5 t c = ?
+matches-returns-2 : (t : ℕ) → matches-need matches-lts.Need-returns-2 t
+matches-returns-2 t c =
+    (rw (c .before .before .actual .given .1) (c .function-matches .ensures ∙ from-function (now (c .before .before .before .before .before .before .before .before .args .page)) (c .before .before .actual .given .0 .0) (c .before .before .before .before .before .before .before .before .args .expected)), c .before .before .before .before .before .before .before .before .pre .1 .1 .1)
 
--- src/lib.rt:364:8
-matches-recalls-requires : (t : ℕ) → matches-lts.Need-recalls-requires (
-  function-matches-reads.Asked,
-  function-matches-reads.Learnt,
-  known-for-function-reads.Asked,
-  known-for-function-reads.Learnt,
-  plain-matches-reads.Asked,
-  plain-matches-reads.Learnt,
-  recalls-reads.Asked,
-  recalls-reads.Learnt,
-  any-matches-below t,
-  any-matches.Post,
-  note-any-reads.Asked,
-  note-any-reads.Learnt,
-) (matches-at t) matches.Post
-matches-recalls-requires t c κs = ?
+matches-enum-known-actual-2 : (t : ℕ) → matches-need matches-lts.Need-enum-known-actual-2 t
+matches-enum-known-actual-2 t c = search needs
 
--- src/lib.rt:365:9
-matches-same-length-2 : (t : ℕ) → matches-lts.Need-same-length-2 (
-  function-matches-reads.Asked,
-  function-matches-reads.Learnt,
-  known-for-function-reads.Asked,
-  known-for-function-reads.Learnt,
-  plain-matches-reads.Asked,
-  plain-matches-reads.Learnt,
-  recalls-reads.Asked,
-  recalls-reads.Learnt,
-  any-matches-below t,
-  any-matches.Post,
-  note-any-reads.Asked,
-  note-any-reads.Learnt,
-) (matches-at t) matches.Post
-matches-same-length-2 t c = ?
+matches-returns-3 : (t : ℕ) → matches-need matches-lts.Need-returns-3 t
+matches-returns-3 t c =
+    (from-unknown (now (c .before .before .before .before .before .before .args .page)) (c .before .before .before .before .before .before .args .actual) (c .before .before .before .before .before .before .args .expected) (c .before .match2 .keys2) (c .match3 .keys2), c .before .before .before .before .before .before .pre .1 .1 .1)
 
--- src/lib.rt:365:9
-matches-returns-6 : (t : ℕ) → matches-lts.Need-returns-6 (
-  function-matches-reads.Asked,
-  function-matches-reads.Learnt,
-  known-for-function-reads.Asked,
-  known-for-function-reads.Learnt,
-  plain-matches-reads.Asked,
-  plain-matches-reads.Learnt,
-  recalls-reads.Asked,
-  recalls-reads.Learnt,
-  any-matches-below t,
-  any-matches.Post,
-  note-any-reads.Asked,
-  note-any-reads.Learnt,
-) (matches-at t) matches.Post
-matches-returns-6 t c = ?
+matches-enum-known-expected : (t : ℕ) → matches-need matches-lts.Need-enum-known-expected t
+matches-enum-known-expected t c = search needs
 
--- src/lib.rt:367:8
-matches-recalls-requires-2 : (t : ℕ) → matches-lts.Need-recalls-requires-2 (
-  function-matches-reads.Asked,
-  function-matches-reads.Learnt,
-  known-for-function-reads.Asked,
-  known-for-function-reads.Learnt,
-  plain-matches-reads.Asked,
-  plain-matches-reads.Learnt,
-  recalls-reads.Asked,
-  recalls-reads.Learnt,
-  any-matches-below t,
-  any-matches.Post,
-  note-any-reads.Asked,
-  note-any-reads.Learnt,
-) (matches-at t) matches.Post
-matches-recalls-requires-2 t c κs = ?
+matches-known-for-function-requires : (t : ℕ) → matches-need matches-lts.Need-known-for-function-requires t
+matches-known-for-function-requires t c κs =
+    let page = now (c .before .before .before .before .before .before .before .before .before .args .page) in
+    let a = c .before .before .actual2 .given .0 .0 in
+    let u : inUse page (Known a) ≡ true = rw (c .before .before .actual2 .given .1) at (c .before .before .before .before .before .before .before .before .before .pre .1 .1 .0 .0) in
+    (c .before .before .before .before .before .before .before .before .before .pre .1 .0, known-in-use page a u)
 
--- src/lib.rt:368:9
-matches-same-length-3 : (t : ℕ) → matches-lts.Need-same-length-3 (
-  function-matches-reads.Asked,
-  function-matches-reads.Learnt,
-  known-for-function-reads.Asked,
-  known-for-function-reads.Learnt,
-  plain-matches-reads.Asked,
-  plain-matches-reads.Learnt,
-  recalls-reads.Asked,
-  recalls-reads.Learnt,
-  any-matches-below t,
-  any-matches.Post,
-  note-any-reads.Asked,
-  note-any-reads.Learnt,
-) (matches-at t) matches.Post
-matches-same-length-3 t c = ?
+matches-returns-4 : (t : ℕ) → matches-need matches-lts.Need-returns-4 t
+matches-returns-4 t c =
+    (rw (c .before .before .before .actual2 .given .1) (c .known-for-function .ensures ∙ to-function (now (c .before .before .before .before .before .before .before .before .before .before .args .page)) (c .before .before .before .actual2 .given .0 .0) (c .before .before .before .before .before .before .before .before .before .before .args .expected) (c .before .before .before .before .before .before .match .keys2) (c .before .match4 .keys2)), c .before .before .before .before .before .before .before .before .before .before .pre .1 .1 .1)
 
--- src/lib.rt:368:9
-matches-returns-7 : (t : ℕ) → matches-lts.Need-returns-7 (
-  function-matches-reads.Asked,
-  function-matches-reads.Learnt,
-  known-for-function-reads.Asked,
-  known-for-function-reads.Learnt,
-  plain-matches-reads.Asked,
-  plain-matches-reads.Learnt,
-  recalls-reads.Asked,
-  recalls-reads.Learnt,
-  any-matches-below t,
-  any-matches.Post,
-  note-any-reads.Asked,
-  note-any-reads.Learnt,
-) (matches-at t) matches.Post
-matches-returns-7 t c = ?
+matches-plain-matches-requires : (t : ℕ) → matches-need matches-lts.Need-plain-matches-requires t
+matches-plain-matches-requires t c κs =
+    let k = both-known t (c .before) in
+    (c .before .before .before .before .before .before .before .before .before .before .before .before .pre .1 .0, ((k .0, k .1), c .before .before .before .before .before .before .before .before .before .before .before .before .pre .1 .1 .1))
 
--- src/lib.rt:370:9
-matches-any-matches-requires : (t : ℕ) → matches-lts.Need-any-matches-requires (
-  function-matches-reads.Asked,
-  function-matches-reads.Learnt,
-  known-for-function-reads.Asked,
-  known-for-function-reads.Learnt,
-  plain-matches-reads.Asked,
-  plain-matches-reads.Learnt,
-  recalls-reads.Asked,
-  recalls-reads.Learnt,
-  any-matches-below t,
-  any-matches.Post,
-  note-any-reads.Asked,
-  note-any-reads.Learnt,
-) (matches-at t) matches.Post
-matches-any-matches-requires t c κs = ?
+matches-same-length : (t : ℕ) → matches-need matches-lts.Need-same-length t
+matches-same-length t c = search needs
 
--- src/lib.rt:371:5
-matches-note-any-requires : (t : ℕ) → matches-lts.Need-note-any-requires (
-  function-matches-reads.Asked,
-  function-matches-reads.Learnt,
-  known-for-function-reads.Asked,
-  known-for-function-reads.Learnt,
-  plain-matches-reads.Asked,
-  plain-matches-reads.Learnt,
-  recalls-reads.Asked,
-  recalls-reads.Learnt,
-  any-matches-below t,
-  any-matches.Post,
-  note-any-reads.Asked,
-  note-any-reads.Learnt,
-) (matches-at t) matches.Post
-matches-note-any-requires t c κs = ?
+matches-returns-5 : (t : ℕ) → matches-need matches-lts.Need-returns-5 t
+matches-returns-5 t c =
+    let k = both-known t (c .before .before .before .before .before) in
+    let page = now (c .before .before .before .before .before .before .before .before .before .before .before .before .before .before .before .before .args .page) in
+    let p = known-plain page (c .before .before .before .before .before .before .before .before .before .before .before .before .before .before .before .before .pre .1 .0 .sound) (c .before .before .before .before .before .before .expected .given .0 .0) (k .1) (c .before .before .before .before .before .before .before .before .before .actual2 .given .0 .0) (sym (c .before .before .before .plain-matches .ensures .0) ∙ c .if1 .taken) in
+    (sym p ∙ k .2, c .before .before .before .plain-matches .ensures .1)
 
--- src/lib.rt:336:1
-matches-same-length-4 : (t : ℕ) → matches-lts.Need-same-length-4 (
-  function-matches-reads.Asked,
-  function-matches-reads.Learnt,
-  known-for-function-reads.Asked,
-  known-for-function-reads.Learnt,
-  plain-matches-reads.Asked,
-  plain-matches-reads.Learnt,
-  recalls-reads.Asked,
-  recalls-reads.Learnt,
-  any-matches-below t,
-  any-matches.Post,
-  note-any-reads.Asked,
-  note-any-reads.Learnt,
-) (matches-at t) matches.Post
-matches-same-length-4 t c = ?
+matches-recalls-requires : (t : ℕ) → matches-need matches-lts.Need-recalls-requires t
+matches-recalls-requires t c κs =
+    let k = both-known t (c .before .before .before .before .before .before) in
+    let small = in-use-small (now (c .before .before .before .before .before .before .before .before .before .before .before .before .before .before .before .before .before .args .page)) (c .before .before .before .before .before .before .before .before .before .before .before .before .before .before .before .before .before .pre .1 .0 .sound) in
+    (c .before .before .before .before .plain-matches .ensures .1 .size, omega arith, small (c .before .before .before .before .before .before .before .before .before .before .actual2 .given .0 .0) (k .0), small (c .before .before .before .before .before .before .before .expected .given .0 .0) (k .1))
 
--- src/lib.rt:336:1
-matches-returns-8 : (t : ℕ) → matches-lts.Need-returns-8 (
-  function-matches-reads.Asked,
-  function-matches-reads.Learnt,
-  known-for-function-reads.Asked,
-  known-for-function-reads.Learnt,
-  plain-matches-reads.Asked,
-  plain-matches-reads.Learnt,
-  recalls-reads.Asked,
-  recalls-reads.Learnt,
-  any-matches-below t,
-  any-matches.Post,
-  note-any-reads.Asked,
-  note-any-reads.Learnt,
-) (matches-at t) matches.Post
-matches-returns-8 t c = ?
+matches-same-length-2 : (t : ℕ) → matches-need matches-lts.Need-same-length-2 t
+matches-same-length-2 t c = search needs
+
+matches-returns-6 : (t : ℕ) → matches-need matches-lts.Need-returns-6 t
+matches-returns-6 t c =
+    let k = both-known t (c .before .before .before .before .before .before .before .before) in
+    let page = now (c .before .before .before .before .before .before .before .before .before .before .before .before .before .before .before .before .before .before .before .args .page) in
+    let f = c .before .before .before .before .before .before .before .before .before .before .before .before .before .before .before .before .before .before .before .pre .1 .0 .sound in
+    let a = c .before .before .before .before .before .before .before .before .before .before .before .before .actual2 .given .0 .0 in
+    let b = c .before .before .before .before .before .before .before .before .before .expected .given .0 .0 in
+    let small = in-use-small page f in
+    let m = c .before .before .before .before .before .before .plain-matches in
+    let p = known-any page f b (k .1) a (sym (m .ensures .0) ∙ c .before .before .before .if1 .left) in
+    let r = recalled (Found page) (m .last .1 .1 .0) (m .ensures .1) 3 a b (omega arith) (small a (k .0)) (small b (k .1)) (c .before .recalls .result) (c .before .recalls .ensures) (c .if2 .taken) in
+    (sym (p ∙ yes-found page a b r) ∙ k .2, m .ensures .1)
+
+matches-recalls-requires-2 : (t : ℕ) → matches-need matches-lts.Need-recalls-requires-2 t
+matches-recalls-requires-2 t c κs =
+    let k = both-known t (c .before .before .before .before .before .before .before .before .before) in
+    let small = in-use-small (now (c .before .before .before .before .before .before .before .before .before .before .before .before .before .before .before .before .before .before .before .before .args .page)) (c .before .before .before .before .before .before .before .before .before .before .before .before .before .before .before .before .before .before .before .before .pre .1 .0 .sound) in
+    (c .before .before .before .before .before .before .before .plain-matches .ensures .1 .size, omega arith, small (c .before .before .before .before .before .before .before .before .before .before .before .before .before .actual2 .given .0 .0) (k .0), small (c .before .before .before .before .before .before .before .before .before .before .expected .given .0 .0) (k .1))
+
+matches-same-length-3 : (t : ℕ) → matches-need matches-lts.Need-same-length-3 t
+matches-same-length-3 t c = search needs
+
+matches-returns-7 : (t : ℕ) → matches-need matches-lts.Need-returns-7 t
+matches-returns-7 t c =
+    let k = both-known t (c .before .before .before .before .before .before .before .before .before .before .before) in
+    let page = now (c .before .before .before .before .before .before .before .before .before .before .before .before .before .before .before .before .before .before .before .before .before .before .args .page) in
+    let f = c .before .before .before .before .before .before .before .before .before .before .before .before .before .before .before .before .before .before .before .before .before .before .pre .1 .0 .sound in
+    let a = c .before .before .before .before .before .before .before .before .before .before .before .before .before .before .before .actual2 .given .0 .0 in
+    let b = c .before .before .before .before .before .before .before .before .before .before .before .before .expected .given .0 .0 in
+    let small = in-use-small page f in
+    let m = c .before .before .before .before .before .before .before .before .before .plain-matches in
+    let p = known-any page f b (k .1) a (sym (m .ensures .0) ∙ c .before .before .before .before .before .before .if1 .left) in
+    let r = recalled (Found page) (m .last .1 .1 .0) (m .ensures .1) 2 a b (omega arith) (small a (k .0)) (small b (k .1)) (c .before .recalls2 .result) (c .before .recalls2 .ensures) (c .if3 .taken) in
+    (sym (p ∙ no-found page a b r) ∙ k .2, m .ensures .1)
+
+matches-any-matches-requires : (t : ℕ) → matches-need matches-lts.Need-any-matches-requires t
+matches-any-matches-requires t c κs =
+    let k = both-known t (c .before .before .before .before .before .before .before .before .before .before .before .before) in
+    let w : 2 * c .before .before .before .before .before .before .before .before .before .before .before .before .before .expected .given .0 .0 + 1 ≡ t = rw (c .before .before .before .before .before .before .before .before .before .before .before .before .before .expected .given .1) at (c .before .before .before .before .before .before .before .before .before .before .before .before .before .before .before .before .before .before .before .before .before .before .before .pre .0) in
+    (omega (arith, w), (c .before .before .before .before .before .before .before .before .before .before .before .before .before .before .before .before .before .before .before .before .before .before .before .pre .1 .0, ((k .0, k .1), c .before .before .before .before .before .before .before .before .before .before .plain-matches .ensures .1)))
+
+matches-note-any-requires : (t : ℕ) → matches-need matches-lts.Need-note-any-requires t
+matches-note-any-requires t c κs =
+    let k = both-known t (c .before .before .before .before .before .before .before .before .before .before .before .before .before .before .before .before) in
+    let small = in-use-small (now (c .before .before .before .before .before .before .before .before .before .before .before .before .before .before .before .before .before .before .before .before .before .before .before .before .before .before .before .args .page)) (c .before .before .before .before .before .before .before .before .before .before .before .before .before .before .before .before .before .before .before .before .before .before .before .before .before .before .before .pre .1 .0 .sound) in
+    (c .before .before .before .any-matches .ensures .1 .size, small (c .before .before .before .before .before .before .before .before .before .before .before .before .before .before .before .before .before .before .before .before .actual2 .given .0 .0) (k .0), small (c .before .before .before .before .before .before .before .before .before .before .before .before .before .before .before .before .before .expected .given .0 .0) (k .1))
+
+matches-same-length-4 : (t : ℕ) → matches-need matches-lts.Need-same-length-4 t
+matches-same-length-4 t c = search needs
+
+matches-returns-8 : (t : ℕ) → matches-need matches-lts.Need-returns-8 t
+matches-returns-8 t c =
+    let k = both-known t (c .before .before .before .before .before .before .before .before .before .before .before .before .before .before .before .before .before .before .before) in
+    let page = now (c .before .before .before .before .before .before .before .before .before .before .before .before .before .before .before .before .before .before .before .before .before .before .before .before .before .before .before .before .before .before .args .page) in
+    let f = c .before .before .before .before .before .before .before .before .before .before .before .before .before .before .before .before .before .before .before .before .before .before .before .before .before .before .before .before .before .before .pre .1 .0 .sound in
+    let a = c .before .before .before .before .before .before .before .before .before .before .before .before .before .before .before .before .before .before .before .before .before .before .before .actual2 .given .0 .0 in
+    let b = c .before .before .before .before .before .before .before .before .before .before .before .before .before .before .before .before .before .before .before .before .expected .given .0 .0 in
+    let small = in-use-small page f in
+    let m = c .before .before .before .before .before .before .any-matches in
+    let p = known-any page f b (k .1) a (sym (c .before .before .before .before .before .before .before .before .before .before .before .before .before .before .before .before .before .plain-matches .ensures .0) ∙ c .before .before .before .before .before .before .before .before .before .before .before .before .before .before .if1 .left) in
+    let n = noted-set (Found page) (m .last .1 .1 .0) (m .ensures .1) (cond (m .result) 3 2) a b (any-small (m .result)) (small a (k .0)) (small b (k .1)) (found-any page a b (m .result) (m .ensures .0)) in
+    (m .ensures .0 ∙ sym p ∙ k .2, rw (c .before .before .note-any .ensures) n)
 
 pub +any-matches+matches-spec : {M : Type 1} → statement M
-+any-matches+matches-spec = close μ-any-matches μ-matches (λ t. any-matches-lts.spec (
-  kind-of-reads.Asked,
-  kind-of-reads.Learnt,
-  is-union-reads.Asked,
-  is-union-reads.Learnt,
-  arity-reads.Asked,
-  arity-reads.Learnt,
-  child-of-reads.Asked,
-  child-of-reads.Learnt,
-  matches-below t,
-  matches.Post,
-)
++any-matches+matches-spec = close μ-any-matches μ-matches (λ t. any-matches-lts.spec (any-matches-claims t)
     (any-matches-at t)
     any-matches.Post
     any-matches-Inv-loop
@@ -1189,20 +425,7 @@ pub +any-matches+matches-spec : {M : Type 1} → statement M
     (any-matches-members-again t)
     (any-matches-same-length-3 t)
     (any-matches-returns-4 t))
-    λ t. matches-lts.spec (
-      function-matches-reads.Asked,
-      function-matches-reads.Learnt,
-      known-for-function-reads.Asked,
-      known-for-function-reads.Learnt,
-      plain-matches-reads.Asked,
-      plain-matches-reads.Learnt,
-      recalls-reads.Asked,
-      recalls-reads.Learnt,
-      any-matches-below t,
-      any-matches.Post,
-      note-any-reads.Asked,
-      note-any-reads.Learnt,
-    )
+    λ t. matches-lts.spec (matches-claims t)
     (matches-at t)
     matches.Post
     (matches-enum-told t)
