@@ -2,12 +2,12 @@
 use mathlib.Core.Path.{_≡_, refl, sym, _∙_, ap, subst}
 use mathlib.Core.Bool.{Bool, true, false, not, _&&_, _||_, cond}
 use mathlib.Core.List.{List}
-use Prim.Native.Nat.{ℕ, zero, suc, _+_, _<_, _≤_}
+use Prim.Native.Nat.{ℕ, _<_, _≤_}
 use native.Mathlib.Omega.{arith}
 use lib.Dec.{ltb, eqb, T}
 use borrow.Author.Tests.{ltb-false}
 use Rattle.pages.specs.Quant.{allTo}
-use Rattle.pages.proofs.Quant.{and-true, all-cong, all-failed}
+use Rattle.pages.proofs.Quant.{and-true, all-cong}
 use Rattle.kinds.specs.Kinds.{null, isArray, isTuple, isMap}
 use Rattle.types.specs.Store.{Formed}
 use Rattle.types.specs.Types.{typesIn, kindOf, arity, childOf}
@@ -85,7 +85,11 @@ module _ (page : List ℕ) (f : Formed page) (a : ℕ) (u : a < typesIn page) (b
     unfolding arrayElision
     array-lower =
         cond-cong (both isArray page a b) _ _ _ _
-        (λ e. elided-cong page lower rule a b 0 (lower-child 0 (omega (arith, one-child page f a u 19 20 (omega arith) (omega arith) (and-true (isArray (kindOf page a)) _ e .0))) _))
+        (λ e. elided-cong page lower rule a b 0 (lower-child 0 (omega (
+          arith,
+          one-child page f a u 19 20 (omega arith) (omega arith)
+              (and-true (isArray (kindOf page a)) _ e .0),
+        )) _))
         (ap (λ (r : Bool). both isTuple page a b && r)
         (all-cong (elided page lower a b) (elided page rule a b) (smaller (arity page a) (arity page b))
         (λ i l. elided-cong page lower rule a b i (lower-child i (omega (arith, smaller-left (arity page a) (arity page b))) _))))
@@ -127,7 +131,6 @@ module _ (page : List ℕ) (f : Formed page) (a : ℕ) (u : a < typesIn page) (b
       go true s x y t = absurd (subst T t tt)
       go false true x y t = absurd (subst T t tt)
       go false false x y t = refl
-
 
   pub map-eq : nullMapElision page a b ≡ mapElision page (nullMapElision page) a b
   unfolding nullMapElision

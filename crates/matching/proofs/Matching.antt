@@ -1,15 +1,15 @@
 -- `matches` and `any_matches`: the equation of matching, and one law for each return. Assumes nothing.
 use mathlib.Core.Path.{_≡_, refl, sym, _∙_, ap, ap₂}
-use mathlib.Core.Bool.{Bool, true, false, not, _&&_, _||_, cond}
+use mathlib.Core.Bool.{Bool, true, false, _&&_, _||_, cond}
 use mathlib.Core.List.{List}
 use mathlib.Core.Logic.{_⊎_, inl, inr}
-use Prim.Native.Nat.{ℕ, zero, suc, _+_, _*_, _<_, _≤_}
+use Prim.Native.Nat.{ℕ, _+_, _*_, _<_}
 use native.Mathlib.Omega.{arith}
 use denote.Enum.Declared.{tagOf}
-use lib.Dec.{ltb, eqb}
+use lib.Dec.{eqb}
 use borrow.Author.Tests.{ltb-true, lt-ltb, eq-eqb, ne-eqb}
 use Rattle.pages.specs.Quant.{anyTo, allTo}
-use Rattle.pages.proofs.Quant.{and-true, any-cong, all-cong, any-found, all-failed}
+use Rattle.pages.proofs.Quant.{any-cong, all-cong, any-found, all-failed}
 use Rattle.kinds.specs.Kinds.{isUnion}
 use Rattle.types.specs.Store.{Formed}
 use Rattle.types.specs.Types.{typesIn, kindOf, arity, childOf}
@@ -124,7 +124,8 @@ module _ (page : List ℕ) where
   to-unknown (Function f) = refl
 
   -- what is neither a Function nor Known is Unknown
-  pub from-unknown : (a e : Checked) → (tagOf the-type a ≡ 0) ⊎ (tagOf the-type a ≡ 1) → (tagOf the-type a ≡ 1) ⊎ (tagOf the-type a ≡ 2) → true ≡ matches page a e
+  pub from-unknown : (a e : Checked) → (tagOf the-type a ≡ 0) ⊎ (tagOf the-type a ≡ 1) → (tagOf the-type a ≡ 1) ⊎ (tagOf the-type a ≡ 2)
+      → true ≡ matches page a e
   unfolding matches
   from-unknown (Known a) e h (inl k) = absurd (omega (arith, k))
   from-unknown (Known a) e h (inr k) = absurd (omega (arith, k))
@@ -133,7 +134,8 @@ module _ (page : List ℕ) where
   from-unknown (Function f) e (inr h) k = absurd (omega (arith, h))
 
   -- what is neither Unknown nor Known is a Function
-  pub to-function : (a : ℕ) (e : Checked) → (tagOf the-type e ≡ 0) ⊎ (tagOf the-type e ≡ 2) → (tagOf the-type e ≡ 1) ⊎ (tagOf the-type e ≡ 2) → knownForFunction page a ≡ matches page (Known a) e
+  pub to-function : (a : ℕ) (e : Checked) → (tagOf the-type e ≡ 0) ⊎ (tagOf the-type e ≡ 2) → (tagOf the-type e ≡ 1) ⊎ (tagOf the-type e ≡ 2)
+      → knownForFunction page a ≡ matches page (Known a) e
   unfolding matches
   to-function a (Known b) h (inl k) = absurd (omega (arith, k))
   to-function a (Known b) h (inr k) = absurd (omega (arith, k))

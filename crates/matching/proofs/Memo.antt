@@ -1,12 +1,12 @@
 -- What a call has in mind, over any predicate on findings of a pair. Assumes nothing.
-use mathlib.Core.Path.{_≡_, refl, sym, _∙_, subst}
+use mathlib.Core.Path.{_≡_, refl, sym, _∙_}
 use mathlib.Core.Bool.{Bool, true, false, cond}
 use mathlib.Core.List.{List}
-use Prim.Native.Nat.{ℕ, _+_, _*_, _%_, _<_, _≤_}
+use Prim.Native.Nat.{ℕ, _<_}
 use native.Mathlib.Decide.{ℕ-discrete}
 use native.Mathlib.Omega.{arith}
 use lib.Dec.{eqb}
-use lib.ListN.{length, getD, set, replicate, length-replicate, length-set}
+use lib.ListN.{getD, set, replicate, length-replicate, length-set}
 use lib.Seq.{getD-set-same, getD-set-other}
 use borrow.Author.Tests.{eqb-true, not-true}
 use Rattle.pages.proofs.Bytes.{made-at}

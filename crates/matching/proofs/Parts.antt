@@ -1,6 +1,6 @@
 -- What a type's kind says of its parts. Assumes nothing.
 use mathlib.Core.Path.{_≡_, refl}
-use mathlib.Core.Bool.{Bool, true, false}
+use mathlib.Core.Bool.{true}
 use mathlib.Core.List.{List}
 use Prim.Native.Nat.{ℕ, _<_, _≤_}
 use native.Mathlib.Omega.{arith}
@@ -39,7 +39,7 @@ module _ (page : List ℕ) (f : Formed page) (t : ℕ) (u : t < typesIn page) wh
       let k = leb-true (kindOf page t) y (d .1) in
       let w = arity-within page f t u in
       let p : (1 ≤ arity page t) × (arity page t ≤ 1) =
-            rw (lt-leb 25 (kindOf page t) (omega arith), within-wider x y 19 24 (kindOf page t) l m h) at w in
+      rw (lt-leb 25 (kindOf page t) (omega arith), within-wider x y 19 24 (kindOf page t) l m h) at w in
       omega (arith, p .0, p .1)
 
   -- and a map has two

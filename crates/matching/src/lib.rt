@@ -116,7 +116,13 @@ fn are_sequences(page: &[u8], offsets: &[usize], a: usize, b: usize) -> bool
 }
 
 // Whether two arrays, or two tuples, differ only where one of them has Null; of tuples only shared elements are compared.
-pub fn null_array_elision(page: &[u8], offsets: &[usize], memo: &mut [usize], a: usize, b: usize) -> bool
+pub fn null_array_elision(
+    page: &[u8],
+    offsets: &[usize],
+    memo: &mut [usize],
+    a: usize,
+    b: usize,
+) -> bool
     requires { ⌜ Held (now page) (now offsets) ⌝ }
     requires { ⌜ (a < typesIn (now page)) × (b < typesIn (now page)) ⌝ }
     requires { ⌜ Noted (Found (now page)) (now memo) ⌝ }
@@ -146,7 +152,13 @@ pub fn null_array_elision(page: &[u8], offsets: &[usize], memo: &mut [usize], a:
 }
 
 // Whether two maps differ only where one of them has Null in its key or its value, or arrays, tuples or maps that do.
-pub fn null_map_elision(page: &[u8], offsets: &[usize], memo: &mut [usize], a: usize, b: usize) -> bool
+pub fn null_map_elision(
+    page: &[u8],
+    offsets: &[usize],
+    memo: &mut [usize],
+    a: usize,
+    b: usize,
+) -> bool
     requires { ⌜ Held (now page) (now offsets) ⌝ }
     requires { ⌜ (a < typesIn (now page)) × (b < typesIn (now page)) ⌝ }
     requires { ⌜ Noted (Found (now page)) (now memo) ⌝ }

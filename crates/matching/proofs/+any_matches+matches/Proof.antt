@@ -7,6 +7,7 @@ use native.Mathlib.Omega.{arith}
 use denote.Ref.{now}
 use borrow.Author.Tests.{not-true, not-false}
 use Rattle.kinds.specs.Kinds.{isUnion}
+use Rattle.types.specs.Store.{typesMax}
 use Rattle.types.specs.Types.{typesIn, kindOf}
 use Rattle.pages.specs.Quant.{anyTo, allTo}
 use Rattle.pages.proofs.Quant.{any-none, all-none, any-more, all-more}
@@ -78,20 +79,47 @@ abbrev any-matches-μ-members : any-matches-lts.MeasureT-members
 any-matches-μ-members page offsets memo₀ a b expected actual i₀ memo i = actual - i
 
 abbrev any-matches-claims : ℕ → any-matches-lts.Claims
-any-matches-claims t =
-    (kind-of-reads.Asked, kind-of-reads.Learnt, is-union-reads.Asked, is-union-reads.Learnt, arity-reads.Asked, arity-reads.Learnt, child-of-reads.Asked, child-of-reads.Learnt, matches-below t, matches.Post)
+any-matches-claims t = (
+  kind-of-reads.Asked,
+  kind-of-reads.Learnt,
+  is-union-reads.Asked,
+  is-union-reads.Learnt,
+  arity-reads.Asked,
+  arity-reads.Learnt,
+  child-of-reads.Asked,
+  child-of-reads.Learnt,
+  matches-below t,
+  matches.Post,
+)
 
-abbrev any-matches-need : (any-matches-lts.Claims → In 3 any-matches-kinds.ps → Out 3 any-matches-kinds.ps any-matches-kinds.r → any-matches-lts.InvT-loop → any-matches-lts.MeasureT-loop → any-matches-lts.InvT-loop2 → any-matches-lts.MeasureT-loop2 → any-matches-lts.InvT-members → any-matches-lts.MeasureT-members → Type 0) → ℕ → Type 0
-any-matches-need N t = N (any-matches-claims t) (any-matches-at t) any-matches.Post any-matches-Inv-loop any-matches-μ-loop any-matches-Inv-loop2 any-matches-μ-loop2 any-matches-Inv-members any-matches-μ-members
+-- what a need or a place of `any_matches` is at the measure t
+abbrev any-matches-need : (any-matches-lts.Claims → In 3 any-matches-kinds.ps → Out 3 any-matches-kinds.ps any-matches-kinds.r → any-matches-lts.InvT-loop
+    → any-matches-lts.MeasureT-loop → any-matches-lts.InvT-loop2 → any-matches-lts.MeasureT-loop2 → any-matches-lts.InvT-members
+    → any-matches-lts.MeasureT-members → Type 0) → ℕ → Type 0
+any-matches-need N t = N (any-matches-claims t)
+    (any-matches-at t) any-matches.Post any-matches-Inv-loop any-matches-μ-loop any-matches-Inv-loop2 any-matches-μ-loop2
+    any-matches-Inv-members any-matches-μ-members
 
-b-union : (t : ℕ) (c : any-matches-need any-matches-lts.Else1 t) → let a = c .before .before .before .before .before .before .args in isUnion (kindOf (now (a .page)) (a .b)) ≡ true
-b-union t c = rw (← c .before .before .kind-of .ensures) (sym (c .before .is-union .ensures) ∙ not-false (c .before .is-union .result) (c .if1 .left))
+-- the expected type is a union
+b-union : (t : ℕ) (c : any-matches-need any-matches-lts.Else1 t) → let a = c .before .before .before .before .before .before .args in isUnion
+    (kindOf (now (a .page)) (a .b)) ≡ true
+b-union t c =
+    let is-union = c .before .is-union in
+    rw (← c .before .before .kind-of .ensures) (sym (is-union .ensures) ∙ not-false (is-union .result) (c .if1 .left))
 
-a-plain : (t : ℕ) (c : any-matches-need any-matches-lts.Then2 t) → let a = c .before .before .before .before .before .before .before .before .before .before .args in isUnion (kindOf (now (a .page)) (a .a)) ≡ false
-a-plain t c = rw (← c .before .before .kind-of2 .ensures) (sym (c .before .is-union2 .ensures) ∙ not-true (c .before .is-union2 .result) (c .if2 .taken))
+-- the actual type is none
+a-plain : (t : ℕ) (c : any-matches-need any-matches-lts.Then2 t)
+    → let a = c .before .before .before .before .before .before .before .before .before .before .args in isUnion (kindOf (now (a .page)) (a .a)) ≡ false
+a-plain t c =
+    let is-union2 = c .before .is-union2 in
+    rw (← c .before .before .kind-of2 .ensures) (sym (is-union2 .ensures) ∙ not-true (is-union2 .result) (c .if2 .taken))
 
-a-union : (t : ℕ) (c : any-matches-need any-matches-lts.Else2 t) → let a = c .before .before .before .before .before .before .before .before .before .before .args in isUnion (kindOf (now (a .page)) (a .a)) ≡ true
-a-union t c = rw (← c .before .before .kind-of2 .ensures) (sym (c .before .is-union2 .ensures) ∙ not-false (c .before .is-union2 .result) (c .if2 .left))
+-- and it is one
+a-union : (t : ℕ) (c : any-matches-need any-matches-lts.Else2 t)
+    → let a = c .before .before .before .before .before .before .before .before .before .before .args in isUnion (kindOf (now (a .page)) (a .a)) ≡ true
+a-union t c =
+    let is-union2 = c .before .is-union2 in
+    rw (← c .before .before .kind-of2 .ensures) (sym (is-union2 .ensures) ∙ not-false (is-union2 .result) (c .if2 .left))
 
 any-matches-kind-of-requires : (t : ℕ) → any-matches-need any-matches-lts.Need-kind-of-requires t
 any-matches-kind-of-requires t c κs = search needs
@@ -101,9 +129,12 @@ any-matches-is-union-requires t c κs = search needs
 
 any-matches-returns : (t : ℕ) → any-matches-need any-matches-lts.Need-returns t
 any-matches-returns t c =
-    let a = c .before .before .before .before .before .before .args in
-    let u : isUnion (kindOf (now (a .page)) (a .b)) ≡ false = rw (← c .before .before .kind-of .ensures) (sym (c .before .is-union .ensures) ∙ not-true (c .before .is-union .result) (c .if1 .taken)) in
-    (any-no (now (a .page)) (a .a) (a .b) u, c .before .before .before .before .before .before .pre .1 .1 .1)
+    let start = c .before .before .before .before .before .before in
+    let is-union = c .before .is-union in
+    let a = start .args in
+    let u : isUnion (kindOf (now (a .page)) (a .b)) ≡ false = rw (← c .before .before .kind-of .ensures)
+    (sym (is-union .ensures) ∙ not-true (is-union .result) (c .if1 .taken)) in
+    (any-no (now (a .page)) (a .a) (a .b) u, start .pre .1 .1 .1)
 
 any-matches-arity-requires : (t : ℕ) → any-matches-need any-matches-lts.Need-arity-requires t
 any-matches-arity-requires t c κs = search needs
@@ -115,31 +146,45 @@ any-matches-is-union-requires-2 : (t : ℕ) → any-matches-need any-matches-lts
 any-matches-is-union-requires-2 t c κs = search needs
 
 any-matches-loop-holds : (t : ℕ) → any-matches-need any-matches-lts.Need-loop-holds t
-any-matches-loop-holds t c = (search needs, c .before .before .before .before .before .before .before .before .before .before .pre .1 .1 .1, any-none _)
+any-matches-loop-holds t c =
+    let start = c .before .before .before .before .before .before .before .before .before .before in
+    (search needs, start .pre .1 .1 .1, any-none _)
 
 any-matches-child-of-requires : (t : ℕ) → any-matches-need any-matches-lts.Need-child-of-requires t
 any-matches-child-of-requires t c κs = search needs
 
 any-matches-matches-requires : (t : ℕ) → any-matches-need any-matches-lts.Need-matches-requires t
 any-matches-matches-requires t c κs =
-    let a = c .before .before .before .before .before .before .before .before .before .before .before .before .before .before .args in
-    let p = c .before .before .before .before .before .before .before .before .before .before .before .before .before .before .pre in
+    let start = c .before .before .before .before .before .before .before .before .before .before .before .before .before .before in
+    let loop = c .before .before .before .loop in
+    let a = start .args in
+    let p = start .pre in
     let e = c .before .child-of in
     let u = in-use-known (now (a .page)) (a .a) (p .1 .1 .0 .0) in
     let v = in-use-known (now (a .page)) (e .result) (omega (arith, e .ensures .1, p .1 .1 .0 .1)) in
-    (omega (arith, p .0, e .ensures .1), (p .1 .0, ((u, v), c .before .before .before .loop .inv .1)))
+    (omega (arith, p .0, e .ensures .1), (p .1 .0, ((u, v), loop .inv .1)))
 
 any-matches-same-length : (t : ℕ) → any-matches-need any-matches-lts.Need-same-length t
-any-matches-same-length t c = c .before .before .before .matches .ensures .1 .size ∙ sym (c .before .before .before .before .before .before .before .before .before .before .before .before .before .before .before .before .before .before .pre .1 .1 .1 .size)
+any-matches-same-length t c =
+    let start = c .before .before .before .before .before .before .before .before .before .before .before .before .before .before .before .before .before .before in
+    let matches = c .before .before .before .matches in
+    matches .ensures .1 .size ∙ sym (start .pre .1 .1 .1 .size)
 
 any-matches-returns-2 : (t : ℕ) → any-matches-need any-matches-lts.Need-returns-2 t
 any-matches-returns-2 t c =
-    let a = c .before .before .before .before .before .before .before .before .before .before .before .before .before .before .before .before .before .before .args in
+    let start = c .before .before .before .before .before .before .before .before .before .before .before .before .before .before .before .before .before .before in
+    let arity = c .before .before .before .before .before .before .before .before .before .before .before .arity in
+    let loop = c .before .before .before .before .before .before .before .loop in
+    let loop-test = c .before .before .before .before .before .before .loop-test in
+    let matches = c .before .before .before .matches in
+    let a = start .args in
+    let ub = b-union t (c .before .before .before .before .before .before .before .before .before .before .before .before) in
+    let ua = a-plain t (c .before .before .before .before .before .before .before .before) in
     let page = now (a .page) in
-    let j = c .before .before .before .before .before .before .before .loop .j in
+    let j = loop .j in
     let e = c .before .before .before .before .before .child-of in
-    let s = stands-so page (a .a) (a .b) j (e .result) (c .before .before .before .matches .result) true (e .ensures .0) (c .before .before .before .matches .ensures .0) (c .if3 .taken) in
-    (one-found page (a .a) (a .b) (c .before .before .before .before .before .before .before .before .before .before .before .arity .result) (c .before .before .before .before .before .before .before .before .before .before .before .arity .ensures .0) (b-union t (c .before .before .before .before .before .before .before .before .before .before .before .before)) (a-plain t (c .before .before .before .before .before .before .before .before)) j (c .before .before .before .before .before .before .loop-test .taken) s, c .before .before .before .matches .ensures .1)
+    let s = stands-so page (a .a) (a .b) j (e .result) (matches .result) true (e .ensures .0) (matches .ensures .0) (c .if3 .taken) in
+    (one-found page (a .a) (a .b) (arity .result) (arity .ensures .0) ub ua j (loop-test .taken) s, matches .ensures .1)
 
 any-matches-add-j : (t : ℕ) → any-matches-need any-matches-lts.Need-add-j t
 any-matches-add-j t c = search needs
@@ -149,46 +194,59 @@ any-matches-loop-less t c = search needs
 
 any-matches-loop-again : (t : ℕ) → any-matches-need any-matches-lts.Need-loop-again t
 any-matches-loop-again t c =
-    let a = c .before .before .before .before .before .before .before .before .before .before .before .before .before .before .before .before .before .before .args in
+    let start = c .before .before .before .before .before .before .before .before .before .before .before .before .before .before .before .before .before .before in
+    let matches = c .before .before .before .matches in
+    let a = start .args in
     let page = now (a .page) in
     let l = c .before .before .before .before .before .before .before .loop in
     let e = c .before .before .before .before .before .child-of in
-    let s = stands-so page (a .a) (a .b) (l .j) (e .result) (c .before .before .before .matches .result) false (e .ensures .0) (c .before .before .before .matches .ensures .0) (c .if3 .left) in
-    (search needs, c .before .before .before .matches .ensures .1, any-more (stands page (a .a) (a .b)) (l .j) (l .inv .2) s)
+    let s = stands-so page (a .a) (a .b) (l .j) (e .result) (matches .result) false (e .ensures .0) (matches .ensures .0) (c .if3 .left) in
+    (search needs, matches .ensures .1, any-more (stands page (a .a) (a .b)) (l .j) (l .inv .2) s)
 
 any-matches-same-length-2 : (t : ℕ) → any-matches-need any-matches-lts.Need-same-length-2 t
-any-matches-same-length-2 t c = c .before .loop .inv .1 .size ∙ sym (c .before .before .before .before .before .before .before .before .before .before .before .before .pre .1 .1 .1 .size)
+any-matches-same-length-2 t c =
+    let start = c .before .before .before .before .before .before .before .before .before .before .before .before in
+    c .before .loop .inv .1 .size ∙ sym (start .pre .1 .1 .1 .size)
 
 any-matches-returns-3 : (t : ℕ) → any-matches-need any-matches-lts.Need-returns-3 t
 any-matches-returns-3 t c =
-    let a = c .before .before .before .before .before .before .before .before .before .before .before .before .args in
+    let start = c .before .before .before .before .before .before .before .before .before .before .before .before in
+    let arity = c .before .before .before .before .before .arity in
+    let a = start .args in
+    let ub = b-union t (c .before .before .before .before .before .before) in
+    let ua = a-plain t (c .before .before) in
     let l = c .before .loop in
-    (one-missed (now (a .page)) (a .a) (a .b) (c .before .before .before .before .before .arity .result) (c .before .before .before .before .before .arity .ensures .0) (b-union t (c .before .before .before .before .before .before)) (a-plain t (c .before .before)) (l .j) (omega arith) (l .inv .2), l .inv .1)
+    (one-missed (now (a .page)) (a .a) (a .b) (arity .result) (arity .ensures .0) ub ua (l .j) (omega arith) (l .inv .2), l .inv .1)
 
 any-matches-arity-requires-2 : (t : ℕ) → any-matches-need any-matches-lts.Need-arity-requires-2 t
 any-matches-arity-requires-2 t c κs = search needs
 
 any-matches-members-holds : (t : ℕ) → any-matches-need any-matches-lts.Need-members-holds t
-any-matches-members-holds t c = (search needs, c .before .before .before .before .before .before .before .before .before .before .before .pre .1 .1 .1, all-none _)
+any-matches-members-holds t c =
+    let start = c .before .before .before .before .before .before .before .before .before .before .before in
+    (search needs, start .pre .1 .1 .1, all-none _)
 
 any-matches-child-of-requires-2 : (t : ℕ) → any-matches-need any-matches-lts.Need-child-of-requires-2 t
 any-matches-child-of-requires-2 t c κs = search needs
 
 any-matches-loop2-holds : (t : ℕ) → any-matches-need any-matches-lts.Need-loop2-holds t
-any-matches-loop2-holds t c = (search needs, c .before .before .members .inv .1, any-none _)
+any-matches-loop2-holds t c =
+    (search needs, c .before .before .members .inv .1, any-none _)
 
 any-matches-child-of-requires-3 : (t : ℕ) → any-matches-need any-matches-lts.Need-child-of-requires-3 t
 any-matches-child-of-requires-3 t c κs = search needs
 
 any-matches-matches-requires-2 : (t : ℕ) → any-matches-need any-matches-lts.Need-matches-requires-2 t
 any-matches-matches-requires-2 t c κs =
-    let a = c .before .before .before .before .before .before .before .before .before .before .before .before .before .before .before .before .before .before .args in
-    let p = c .before .before .before .before .before .before .before .before .before .before .before .before .before .before .before .before .before .before .pre in
+    let start = c .before .before .before .before .before .before .before .before .before .before .before .before .before .before .before .before .before .before in
+    let loop2 = c .before .before .before .loop2 in
+    let a = start .args in
+    let p = start .pre in
     let m = c .before .before .before .before .child-of2 in
     let e = c .before .child-of3 in
     let u = in-use-known (now (a .page)) (m .result) (omega (arith, m .ensures .1, p .1 .1 .0 .0)) in
     let v = in-use-known (now (a .page)) (e .result) (omega (arith, e .ensures .1, p .1 .1 .0 .1)) in
-    (omega (arith, p .0, e .ensures .1), (p .1 .0, ((u, v), c .before .before .before .loop2 .inv .1)))
+    (omega (arith, p .0, e .ensures .1), (p .1 .0, ((u, v), loop2 .inv .1)))
 
 any-matches-add-j-2 : (t : ℕ) → any-matches-need any-matches-lts.Need-add-j-2 t
 any-matches-add-j-2 t c = search needs
@@ -198,13 +256,16 @@ any-matches-loop2-less t c = search needs
 
 any-matches-loop2-again : (t : ℕ) → any-matches-need any-matches-lts.Need-loop2-again t
 any-matches-loop2-again t c =
-    let a = c .before .before .before .before .before .before .before .before .before .before .before .before .before .before .before .before .before .before .before .before .before .before .args in
+    let start = c .before .before .before .before .before .before .before .before .before .before .before .before .before .before .before .before .before
+    .before .before .before .before .before in
+    let matches2 = c .before .before .before .matches2 in
+    let a = start .args in
     let page = now (a .page) in
     let l = c .before .before .before .before .before .before .before .loop2 in
     let m = c .before .before .before .before .before .before .before .before .child-of2 in
     let e = c .before .before .before .before .before .child-of3 in
-    let s = stands-so page (m .result) (a .b) (l .j) (e .result) (c .before .before .before .matches2 .result) false (e .ensures .0) (c .before .before .before .matches2 .ensures .0) (c .if4 .left) in
-    (search needs, c .before .before .before .matches2 .ensures .1, any-more (stands page (m .result) (a .b)) (l .j) (l .inv .2) s)
+    let s = stands-so page (m .result) (a .b) (l .j) (e .result) (matches2 .result) false (e .ensures .0) (matches2 .ensures .0) (c .if4 .left) in
+    (search needs, matches2 .ensures .1, any-more (stands page (m .result) (a .b)) (l .j) (l .inv .2) s)
 
 any-matches-add-i : (t : ℕ) → any-matches-need any-matches-lts.Need-add-i t
 any-matches-add-i t c = search needs
@@ -214,176 +275,258 @@ any-matches-members-less t c = search needs
 
 any-matches-members-again : (t : ℕ) → any-matches-need any-matches-lts.Need-members-again t
 any-matches-members-again t c =
-    let a = c .before .before .before .before .before .before .before .before .before .before .before .before .before .before .before .before .before .before .before .before .before .before .args in
+    let start = c .before .before .before .before .before .before .before .before .before .before .before .before .before .before .before .before .before
+    .before .before .before .before .before in
+    let arity = c .before .before .before .before .before .before .before .before .before .before .before .before .before .before .before .arity in
+    let members = c .before .before .before .before .before .before .before .before .before .before .members in
+    let members-test = c .before .before .before .before .before .before .before .before .before .members-test in
+    let matches2 = c .before .before .before .matches2 in
+    let a = start .args in
     let page = now (a .page) in
     let l = c .before .before .before .before .before .before .before .loop2 in
     let m = c .before .before .before .before .before .before .before .before .child-of2 in
     let e = c .before .before .before .before .before .child-of3 in
-    let n = c .before .before .before .before .before .before .before .before .before .before .before .before .before .before .before .arity .result in
-    let s = stands-so page (m .result) (a .b) (l .j) (e .result) (c .before .before .before .matches2 .result) true (e .ensures .0) (c .before .before .before .matches2 .ensures .0) (c .if4 .taken) in
-    let h = partner-found page (a .a) (a .b) n (c .before .before .before .before .before .before .before .before .before .before .members .i) (m .result) (l .j) (m .ensures .0) (omega arith) s in
-    (search needs, c .before .before .before .matches2 .ensures .1, all-more (hasPartner page (a .a) (a .b) n) (c .before .before .before .before .before .before .before .before .before .before .members .i) (c .before .before .before .before .before .before .before .before .before .before .members .inv .2) h)
+    let n = arity .result in
+    let s = stands-so page (m .result) (a .b) (l .j) (e .result) (matches2 .result) true (e .ensures .0) (matches2 .ensures .0) (c .if4 .taken) in
+    let h = partner-found page (a .a) (a .b) n (members .i) (m .result) (l .j) (m .ensures .0) (omega arith) s in
+    (omega (arith, members-test .taken), matches2 .ensures .1, all-more (hasPartner page (a .a) (a .b) n) (members .i) (members .inv .2) h)
 
 any-matches-same-length-3 : (t : ℕ) → any-matches-need any-matches-lts.Need-same-length-3 t
 any-matches-same-length-3 t c =
-    let z = sym (c .before .before .before .before .before .before .before .before .before .before .before .before .before .pre .1 .1 .1 .size) in
+    let start = c .before .before .before .before .before .before .before .before .before .before .before .before .before in
+    let z = sym (start .pre .1 .1 .1 .size) in
     ⊎-elim (λ o. rw (o .1) (c .before .members .inv .1 .size ∙ z)) (λ o. rw (o .4) (o .2 .inv .1 .size ∙ z)) (c .members-test .came)
 
 any-matches-returns-4 : (t : ℕ) → any-matches-need any-matches-lts.Need-returns-4 t
 any-matches-returns-4 t c =
-    let a = c .before .before .before .before .before .before .before .before .before .before .before .before .before .args in
+    let start = c .before .before .before .before .before .before .before .before .before .before .before .before .before in
+    let arity = c .before .before .before .before .before .before .arity in
+    let arity2 = c .before .before .arity2 in
+    let a = start .args in
     let page = now (a .page) in
     let m = c .before .members in
     let ub = b-union t (c .before .before .before .before .before .before .before) in
     let ua = a-union t (c .before .before .before) in
     ⊎-elim
-    (λ o. (all-met page (a .a) (a .b) (c .before .before .before .before .before .before .arity .result) (c .before .before .before .before .before .before .arity .ensures .0) ub (c .before .before .arity2 .result) (c .before .before .arity2 .ensures .0) ua (m .i) (omega arith) (m .inv .2), rw (o .1) (m .inv .1)))
-    (λ o. (one-alone page (a .a) (a .b) (c .before .before .before .before .before .before .arity .result) (c .before .before .before .before .before .before .arity .ensures .0) ub (c .before .before .arity2 .result) (c .before .before .arity2 .ensures .0) ua (m .i) (o .1 .result) (o .2 .j) (o .0 .taken) (o .1 .ensures .0) (o .3 .taken) (o .2 .inv .2), rw (o .4) (o .2 .inv .1)))
+    (λ o. (
+      all-met page (a .a) (a .b) (arity .result) (arity .ensures .0) ub (arity2 .result) (arity2 .ensures .0) ua (m .i) (omega arith) (m .inv .2),
+      rw
+          (o .1) (m .inv .1),
+    ))
+    (λ o. (
+      one-alone page (a .a) (a .b) (arity .result) (arity .ensures .0) ub (arity2 .result) (arity2 .ensures .0) ua (m .i) (o .1 .result) (o .2 .j)
+          (o .0 .taken) (o .1 .ensures .0) (o .3 .taken) (o .2 .inv .2),
+      rw (o .4) (o .2 .inv .1),
+    ))
     (c .members-test .came)
 
 abbrev matches-claims : ℕ → matches-lts.Claims
-matches-claims t =
-    (function-matches-reads.Asked, function-matches-reads.Learnt, known-for-function-reads.Asked, known-for-function-reads.Learnt, plain-matches-reads.Asked, plain-matches-reads.Learnt, recalls-reads.Asked, recalls-reads.Learnt, any-matches-below t, any-matches.Post, note-any-reads.Asked, note-any-reads.Learnt)
+matches-claims t = (
+  function-matches-reads.Asked,
+  function-matches-reads.Learnt,
+  known-for-function-reads.Asked,
+  known-for-function-reads.Learnt,
+  plain-matches-reads.Asked,
+  plain-matches-reads.Learnt,
+  recalls-reads.Asked,
+  recalls-reads.Learnt,
+  any-matches-below t,
+  any-matches.Post,
+  note-any-reads.Asked,
+  note-any-reads.Learnt,
+)
 
+-- what a need or a place of `matches` is at the measure t
 abbrev matches-need : (matches-lts.Claims → In 3 matches-kinds.ps → Out 3 matches-kinds.ps matches-kinds.r → Type 0) → ℕ → Type 0
 matches-need N t = N (matches-claims t) (matches-at t) matches.Post
 
-both-known : (t : ℕ) (c : matches-need matches-lts.After-known-told3 t) → let g = c .before .before .before .before .before .before .before .before .before .before .before .args in
+-- where both are Known: the numbers are in use and small, and the answer is that for them
+both-known : (t : ℕ) (c : matches-need matches-lts.After-known-told3 t)
+    → let g = c .before .before .before .before .before .before .before .before .before .before .before .args in
     let a = c .before .before .before .before .actual2 .given .0 .0 in
     let b = c .before .expected .given .0 .0 in
-    (a < typesIn (now (g .page))) × (b < typesIn (now (g .page))) × (knownMatches (now (g .page)) a b ≡ matchesDef (now (g .page)) (g .actual) (g .expected))
+    (a < typesIn (now (g .page))) × (b < typesIn (now (g .page))) × (a < typesMax) × (b < typesMax)
+    × (knownMatches (now (g .page)) a b ≡ matchesDef (now (g .page)) (g .actual) (g .expected))
 both-known t c =
+    let actual2 = c .before .before .before .before .actual2 in
     let start = c .before .before .before .before .before .before .before .before .before .before .before in
     let page = now (start .args .page) in
-    let actual2 = c .before .before .before .before .actual2 in
-    let expected = c .before .expected in
-    let u : inUse page (Known (actual2 .given .0 .0)) ≡ true = rw (actual2 .given .1) at (start .pre .1 .1 .0 .0) in
-    let v : inUse page (Known (expected .given .0 .0)) ≡ true = rw (expected .given .1) at (start .pre .1 .1 .0 .1) in
-    (known-in-use page (actual2 .given .0 .0) u, known-in-use page (expected .given .0 .0) v, rw (actual2 .given .1, expected .given .1) (to-known page (actual2 .given .0 .0) (expected .given .0 .0)))
+    let f = start .pre .1 .0 .sound in
+    let actual = actual2 .given in
+    let expected = c .before .expected .given in
+    let a = actual .0 .0 in
+    let b = expected .0 .0 in
+    let u : inUse page (Known a) ≡ true = rw (actual .1) at (start .pre .1 .1 .0 .0) in
+    let v : inUse page (Known b) ≡ true = rw (expected .1) at (start .pre .1 .1 .0 .1) in
+    let ua = known-in-use page a u in
+    let ub = known-in-use page b v in
+    (ua, ub, in-use-small page f a ua, in-use-small page f b ub, rw (actual .1, expected .1) (to-known page a b))
 
 matches-enum-told : (t : ℕ) → matches-need matches-lts.Need-enum-told t
 matches-enum-told t c = search needs
 
 matches-returns : (t : ℕ) → matches-need matches-lts.Need-returns t
-matches-returns t c = (rw (c .enum-told .given .1) (to-unknown (now (c .before .before .before .before .before .args .page)) (c .before .before .before .before .before .args .actual)), c .before .before .before .before .before .pre .1 .1 .1)
+matches-returns t c =
+    let start = c .before .before .before .before .before in
+    (rw (c .enum-told .given .1) (to-unknown (now (start .args .page)) (start .args .actual)), start .pre .1 .1 .1)
 
 matches-enum-known-actual : (t : ℕ) → matches-need matches-lts.Need-enum-known-actual t
 matches-enum-known-actual t c = search needs
 
 matches-function-matches-requires : (t : ℕ) → matches-need matches-lts.Need-function-matches-requires t
-matches-function-matches-requires t c κs = (c .before .before .before .before .before .before .before .pre .1 .0, c .before .before .before .before .before .before .before .pre .1 .1 .0 .1)
+matches-function-matches-requires t c κs =
+    let start = c .before .before .before .before .before .before .before in
+    (start .pre .1 .0, start .pre .1 .1 .0 .1)
 
 matches-returns-2 : (t : ℕ) → matches-need matches-lts.Need-returns-2 t
 matches-returns-2 t c =
-    (rw (c .before .before .actual .given .1) (c .function-matches .ensures ∙ from-function (now (c .before .before .before .before .before .before .before .before .args .page)) (c .before .before .actual .given .0 .0) (c .before .before .before .before .before .before .before .before .args .expected)), c .before .before .before .before .before .before .before .before .pre .1 .1 .1)
+    let start = c .before .before .before .before .before .before .before .before in
+    let actual = c .before .before .actual in (
+      rw (actual .given .1) (c .function-matches .ensures ∙ from-function (now (start .args .page)) (actual .given .0 .0)
+          (start .args .expected)),
+      start .pre .1 .1 .1,
+    )
 
 matches-enum-known-actual-2 : (t : ℕ) → matches-need matches-lts.Need-enum-known-actual-2 t
 matches-enum-known-actual-2 t c = search needs
 
 matches-returns-3 : (t : ℕ) → matches-need matches-lts.Need-returns-3 t
 matches-returns-3 t c =
-    (from-unknown (now (c .before .before .before .before .before .before .args .page)) (c .before .before .before .before .before .before .args .actual) (c .before .before .before .before .before .before .args .expected) (c .before .match2 .keys2) (c .match3 .keys2), c .before .before .before .before .before .before .pre .1 .1 .1)
+    let start = c .before .before .before .before .before .before in
+    (from-unknown (now (start .args .page)) (start .args .actual) (start .args .expected) (c .before .match2 .keys2) (c .match3 .keys2), start .pre .1 .1 .1)
 
 matches-enum-known-expected : (t : ℕ) → matches-need matches-lts.Need-enum-known-expected t
 matches-enum-known-expected t c = search needs
 
 matches-known-for-function-requires : (t : ℕ) → matches-need matches-lts.Need-known-for-function-requires t
 matches-known-for-function-requires t c κs =
-    let page = now (c .before .before .before .before .before .before .before .before .before .args .page) in
-    let a = c .before .before .actual2 .given .0 .0 in
-    let u : inUse page (Known a) ≡ true = rw (c .before .before .actual2 .given .1) at (c .before .before .before .before .before .before .before .before .before .pre .1 .1 .0 .0) in
-    (c .before .before .before .before .before .before .before .before .before .pre .1 .0, known-in-use page a u)
+    let start = c .before .before .before .before .before .before .before .before .before in
+    let actual2 = c .before .before .actual2 in
+    let page = now (start .args .page) in
+    let a = actual2 .given .0 .0 in
+    let u : inUse page (Known a) ≡ true = rw (actual2 .given .1) at (start .pre .1 .1 .0 .0) in
+    (start .pre .1 .0, known-in-use page a u)
 
 matches-returns-4 : (t : ℕ) → matches-need matches-lts.Need-returns-4 t
 matches-returns-4 t c =
-    (rw (c .before .before .before .actual2 .given .1) (c .known-for-function .ensures ∙ to-function (now (c .before .before .before .before .before .before .before .before .before .before .args .page)) (c .before .before .before .actual2 .given .0 .0) (c .before .before .before .before .before .before .before .before .before .before .args .expected) (c .before .before .before .before .before .before .match .keys2) (c .before .match4 .keys2)), c .before .before .before .before .before .before .before .before .before .before .pre .1 .1 .1)
+    let start = c .before .before .before .before .before .before .before .before .before .before in
+    let match = c .before .before .before .before .before .before .match in
+    let actual2 = c .before .before .before .actual2 in (
+      rw (actual2 .given .1) (c .known-for-function .ensures ∙ to-function (now (start .args .page)) (actual2 .given .0 .0) (start .args .expected)
+          (match .keys2) (c .before .match4 .keys2)),
+      start .pre .1 .1 .1,
+    )
 
 matches-plain-matches-requires : (t : ℕ) → matches-need matches-lts.Need-plain-matches-requires t
 matches-plain-matches-requires t c κs =
-    let k = both-known t (c .before) in
-    (c .before .before .before .before .before .before .before .before .before .before .before .before .pre .1 .0, ((k .0, k .1), c .before .before .before .before .before .before .before .before .before .before .before .before .pre .1 .1 .1))
+    let known = c .before in
+    let start = known .before .before .before .before .before .before .before .before .before .before .before in
+    let k = both-known t known in
+    (start .pre .1 .0, ((k .0, k .1), start .pre .1 .1 .1))
 
 matches-same-length : (t : ℕ) → matches-need matches-lts.Need-same-length t
 matches-same-length t c = search needs
 
 matches-returns-5 : (t : ℕ) → matches-need matches-lts.Need-returns-5 t
 matches-returns-5 t c =
-    let k = both-known t (c .before .before .before .before .before) in
-    let page = now (c .before .before .before .before .before .before .before .before .before .before .before .before .before .before .before .before .args .page) in
-    let p = known-plain page (c .before .before .before .before .before .before .before .before .before .before .before .before .before .before .before .before .pre .1 .0 .sound) (c .before .before .before .before .before .before .expected .given .0 .0) (k .1) (c .before .before .before .before .before .before .before .before .before .actual2 .given .0 .0) (sym (c .before .before .before .plain-matches .ensures .0) ∙ c .if1 .taken) in
-    (sym p ∙ k .2, c .before .before .before .plain-matches .ensures .1)
+    let plain-matches = c .before .before .before .plain-matches in
+    let known = c .before .before .before .before .before in
+    let start = known .before .before .before .before .before .before .before .before .before .before .before in
+    let k = both-known t known in
+    let page = now (start .args .page) in
+    let p = known-plain page (start .pre .1 .0 .sound) (known .before .expected .given .0 .0) (k .1)
+    (known .before .before .before .before .actual2 .given .0 .0) (sym (plain-matches .ensures .0) ∙ c .if1 .taken) in
+    (sym p ∙ k .4, plain-matches .ensures .1)
 
 matches-recalls-requires : (t : ℕ) → matches-need matches-lts.Need-recalls-requires t
 matches-recalls-requires t c κs =
-    let k = both-known t (c .before .before .before .before .before .before) in
-    let small = in-use-small (now (c .before .before .before .before .before .before .before .before .before .before .before .before .before .before .before .before .before .args .page)) (c .before .before .before .before .before .before .before .before .before .before .before .before .before .before .before .before .before .pre .1 .0 .sound) in
-    (c .before .before .before .before .plain-matches .ensures .1 .size, omega arith, small (c .before .before .before .before .before .before .before .before .before .before .actual2 .given .0 .0) (k .0), small (c .before .before .before .before .before .before .before .expected .given .0 .0) (k .1))
+    let plain-matches = c .before .before .before .before .plain-matches in
+    let known = c .before .before .before .before .before .before in
+    let k = both-known t known in
+    (plain-matches .ensures .1 .size, omega arith, k .2, k .3)
 
 matches-same-length-2 : (t : ℕ) → matches-need matches-lts.Need-same-length-2 t
 matches-same-length-2 t c = search needs
 
 matches-returns-6 : (t : ℕ) → matches-need matches-lts.Need-returns-6 t
 matches-returns-6 t c =
-    let k = both-known t (c .before .before .before .before .before .before .before .before) in
-    let page = now (c .before .before .before .before .before .before .before .before .before .before .before .before .before .before .before .before .before .before .before .args .page) in
-    let f = c .before .before .before .before .before .before .before .before .before .before .before .before .before .before .before .before .before .before .before .pre .1 .0 .sound in
-    let a = c .before .before .before .before .before .before .before .before .before .before .before .before .actual2 .given .0 .0 in
-    let b = c .before .before .before .before .before .before .before .before .before .expected .given .0 .0 in
-    let small = in-use-small page f in
+    let if1 = c .before .before .before .if1 in
+    let recalls = c .before .recalls in
+    let known = c .before .before .before .before .before .before .before .before in
+    let start = known .before .before .before .before .before .before .before .before .before .before .before in
+    let k = both-known t known in
+    let page = now (start .args .page) in
+    let f = start .pre .1 .0 .sound in
+    let a = known .before .before .before .before .actual2 .given .0 .0 in
+    let b = known .before .expected .given .0 .0 in
     let m = c .before .before .before .before .before .before .plain-matches in
-    let p = known-any page f b (k .1) a (sym (m .ensures .0) ∙ c .before .before .before .if1 .left) in
-    let r = recalled (Found page) (m .last .1 .1 .0) (m .ensures .1) 3 a b (omega arith) (small a (k .0)) (small b (k .1)) (c .before .recalls .result) (c .before .recalls .ensures) (c .if2 .taken) in
-    (sym (p ∙ yes-found page a b r) ∙ k .2, m .ensures .1)
+    let p = known-any page f b (k .1) a (sym (m .ensures .0) ∙ if1 .left) in
+    let r = recalled (Found page) (m .last .1 .1 .0) (m .ensures .1) 3 a b (omega arith) (k .2) (k .3) (recalls .result) (recalls .ensures) (c .if2 .taken) in
+    (sym (p ∙ yes-found page a b r) ∙ k .4, m .ensures .1)
 
 matches-recalls-requires-2 : (t : ℕ) → matches-need matches-lts.Need-recalls-requires-2 t
 matches-recalls-requires-2 t c κs =
-    let k = both-known t (c .before .before .before .before .before .before .before .before .before) in
-    let small = in-use-small (now (c .before .before .before .before .before .before .before .before .before .before .before .before .before .before .before .before .before .before .before .before .args .page)) (c .before .before .before .before .before .before .before .before .before .before .before .before .before .before .before .before .before .before .before .before .pre .1 .0 .sound) in
-    (c .before .before .before .before .before .before .before .plain-matches .ensures .1 .size, omega arith, small (c .before .before .before .before .before .before .before .before .before .before .before .before .before .actual2 .given .0 .0) (k .0), small (c .before .before .before .before .before .before .before .before .before .before .expected .given .0 .0) (k .1))
+    let plain-matches = c .before .before .before .before .before .before .before .plain-matches in
+    let known = c .before .before .before .before .before .before .before .before .before in
+    let k = both-known t known in
+    (plain-matches .ensures .1 .size, omega arith, k .2, k .3)
 
 matches-same-length-3 : (t : ℕ) → matches-need matches-lts.Need-same-length-3 t
 matches-same-length-3 t c = search needs
 
 matches-returns-7 : (t : ℕ) → matches-need matches-lts.Need-returns-7 t
 matches-returns-7 t c =
-    let k = both-known t (c .before .before .before .before .before .before .before .before .before .before .before) in
-    let page = now (c .before .before .before .before .before .before .before .before .before .before .before .before .before .before .before .before .before .before .before .before .before .before .args .page) in
-    let f = c .before .before .before .before .before .before .before .before .before .before .before .before .before .before .before .before .before .before .before .before .before .before .pre .1 .0 .sound in
-    let a = c .before .before .before .before .before .before .before .before .before .before .before .before .before .before .before .actual2 .given .0 .0 in
-    let b = c .before .before .before .before .before .before .before .before .before .before .before .before .expected .given .0 .0 in
-    let small = in-use-small page f in
+    let if1 = c .before .before .before .before .before .before .if1 in
+    let recalls2 = c .before .recalls2 in
+    let known = c .before .before .before .before .before .before .before .before .before .before .before in
+    let start = known .before .before .before .before .before .before .before .before .before .before .before in
+    let k = both-known t known in
+    let page = now (start .args .page) in
+    let f = start .pre .1 .0 .sound in
+    let a = known .before .before .before .before .actual2 .given .0 .0 in
+    let b = known .before .expected .given .0 .0 in
     let m = c .before .before .before .before .before .before .before .before .before .plain-matches in
-    let p = known-any page f b (k .1) a (sym (m .ensures .0) ∙ c .before .before .before .before .before .before .if1 .left) in
-    let r = recalled (Found page) (m .last .1 .1 .0) (m .ensures .1) 2 a b (omega arith) (small a (k .0)) (small b (k .1)) (c .before .recalls2 .result) (c .before .recalls2 .ensures) (c .if3 .taken) in
-    (sym (p ∙ no-found page a b r) ∙ k .2, m .ensures .1)
+    let p = known-any page f b (k .1) a (sym (m .ensures .0) ∙ if1 .left) in
+    let r = recalled (Found page) (m .last .1 .1 .0) (m .ensures .1) 2 a b (omega arith) (k .2) (k .3) (recalls2 .result) (recalls2 .ensures) (c .if3 .taken) in
+    (sym (p ∙ no-found page a b r) ∙ k .4, m .ensures .1)
 
 matches-any-matches-requires : (t : ℕ) → matches-need matches-lts.Need-any-matches-requires t
 matches-any-matches-requires t c κs =
-    let k = both-known t (c .before .before .before .before .before .before .before .before .before .before .before .before) in
-    let w : 2 * c .before .before .before .before .before .before .before .before .before .before .before .before .before .expected .given .0 .0 + 1 ≡ t = rw (c .before .before .before .before .before .before .before .before .before .before .before .before .before .expected .given .1) at (c .before .before .before .before .before .before .before .before .before .before .before .before .before .before .before .before .before .before .before .before .before .before .before .pre .0) in
-    (omega (arith, w), (c .before .before .before .before .before .before .before .before .before .before .before .before .before .before .before .before .before .before .before .before .before .before .before .pre .1 .0, ((k .0, k .1), c .before .before .before .before .before .before .before .before .before .before .plain-matches .ensures .1)))
+    let plain-matches = c .before .before .before .before .before .before .before .before .before .before .plain-matches in
+    let known = c .before .before .before .before .before .before .before .before .before .before .before .before in
+    let start = known .before .before .before .before .before .before .before .before .before .before .before in
+    let k = both-known t known in
+    let w : 2 * known .before .expected .given .0 .0 + 1 ≡ t = rw (known .before .expected .given .1) at (start .pre .0) in
+    (omega (arith, w), (start .pre .1 .0, ((k .0, k .1), plain-matches .ensures .1)))
 
 matches-note-any-requires : (t : ℕ) → matches-need matches-lts.Need-note-any-requires t
 matches-note-any-requires t c κs =
-    let k = both-known t (c .before .before .before .before .before .before .before .before .before .before .before .before .before .before .before .before) in
-    let small = in-use-small (now (c .before .before .before .before .before .before .before .before .before .before .before .before .before .before .before .before .before .before .before .before .before .before .before .before .before .before .before .args .page)) (c .before .before .before .before .before .before .before .before .before .before .before .before .before .before .before .before .before .before .before .before .before .before .before .before .before .before .before .pre .1 .0 .sound) in
-    (c .before .before .before .any-matches .ensures .1 .size, small (c .before .before .before .before .before .before .before .before .before .before .before .before .before .before .before .before .before .before .before .before .actual2 .given .0 .0) (k .0), small (c .before .before .before .before .before .before .before .before .before .before .before .before .before .before .before .before .before .expected .given .0 .0) (k .1))
+    let any-matches = c .before .before .before .any-matches in
+    let known = c .before .before .before .before .before .before .before .before .before .before .before .before .before .before .before .before in
+    let k = both-known t known in
+    (any-matches .ensures .1 .size, k .2, k .3)
 
 matches-same-length-4 : (t : ℕ) → matches-need matches-lts.Need-same-length-4 t
 matches-same-length-4 t c = search needs
 
 matches-returns-8 : (t : ℕ) → matches-need matches-lts.Need-returns-8 t
 matches-returns-8 t c =
-    let k = both-known t (c .before .before .before .before .before .before .before .before .before .before .before .before .before .before .before .before .before .before .before) in
-    let page = now (c .before .before .before .before .before .before .before .before .before .before .before .before .before .before .before .before .before .before .before .before .before .before .before .before .before .before .before .before .before .before .args .page) in
-    let f = c .before .before .before .before .before .before .before .before .before .before .before .before .before .before .before .before .before .before .before .before .before .before .before .before .before .before .before .before .before .before .pre .1 .0 .sound in
-    let a = c .before .before .before .before .before .before .before .before .before .before .before .before .before .before .before .before .before .before .before .before .before .before .before .actual2 .given .0 .0 in
-    let b = c .before .before .before .before .before .before .before .before .before .before .before .before .before .before .before .before .before .before .before .before .expected .given .0 .0 in
-    let small = in-use-small page f in
+    let plain-matches = c .before .before .before .before .before .before .before .before .before .before .before .before .before .before .before .before
+    .before .plain-matches in
+    let if1 = c .before .before .before .before .before .before .before .before .before .before .before .before .before .before .if1 in
+    let known = c .before .before .before .before .before .before .before .before .before .before .before .before .before .before .before .before .before
+    .before .before in
+    let start = known .before .before .before .before .before .before .before .before .before .before .before in
+    let k = both-known t known in
+    let page = now (start .args .page) in
+    let f = start .pre .1 .0 .sound in
+    let a = known .before .before .before .before .actual2 .given .0 .0 in
+    let b = known .before .expected .given .0 .0 in
     let m = c .before .before .before .before .before .before .any-matches in
-    let p = known-any page f b (k .1) a (sym (c .before .before .before .before .before .before .before .before .before .before .before .before .before .before .before .before .before .plain-matches .ensures .0) ∙ c .before .before .before .before .before .before .before .before .before .before .before .before .before .before .if1 .left) in
-    let n = noted-set (Found page) (m .last .1 .1 .0) (m .ensures .1) (cond (m .result) 3 2) a b (any-small (m .result)) (small a (k .0)) (small b (k .1)) (found-any page a b (m .result) (m .ensures .0)) in
-    (m .ensures .0 ∙ sym p ∙ k .2, rw (c .before .before .note-any .ensures) n)
+    let p = known-any page f b (k .1) a (sym (plain-matches .ensures .0) ∙ if1 .left) in
+    let n = noted-set (Found page) (m .last .1 .1 .0) (m .ensures .1) (cond (m .result) 3 2) a b (any-small (m .result)) (k .2) (k .3)
+    (found-any page a b (m .result) (m .ensures .0)) in
+    (m .ensures .0 ∙ sym p ∙ k .4, rw (c .before .before .note-any .ensures) n)
 
 pub +any-matches+matches-spec : {M : Type 1} → statement M
 +any-matches+matches-spec = close μ-any-matches μ-matches (λ t. any-matches-lts.spec (any-matches-claims t)

@@ -58,11 +58,40 @@ abbrev null-map-elision-μ-loop : null-map-elision-lts.MeasureT-loop
 null-map-elision-μ-loop page offsets memo₀ a b i₀ memo i = 2 - i
 
 abbrev null-map-elision-claims : ℕ → null-map-elision-lts.Claims
-null-map-elision-claims t =
-    (kind-of-reads.Asked, kind-of-reads.Learnt, is-map-reads.Asked, is-map-reads.Learnt, recalls-reads.Asked, recalls-reads.Learnt, child-of-reads.Asked, child-of-reads.Learnt, null-array-elision-reads.Asked, null-array-elision-reads.Learnt, null-map-elision-below t, null-map-elision.Post, note-reads.Asked, note-reads.Learnt)
+null-map-elision-claims t = (
+  kind-of-reads.Asked,
+  kind-of-reads.Learnt,
+  is-map-reads.Asked,
+  is-map-reads.Learnt,
+  recalls-reads.Asked,
+  recalls-reads.Learnt,
+  child-of-reads.Asked,
+  child-of-reads.Learnt,
+  null-array-elision-reads.Asked,
+  null-array-elision-reads.Learnt,
+  null-map-elision-below t,
+  null-map-elision.Post,
+  note-reads.Asked,
+  note-reads.Learnt,
+)
 
-abbrev null-map-elision-need : (null-map-elision-lts.Claims → In 3 null-map-elision-kinds.ps → Out 3 null-map-elision-kinds.ps null-map-elision-kinds.r → null-map-elision-lts.InvT-loop → null-map-elision-lts.MeasureT-loop → Type 0) → ℕ → Type 0
+-- what a need or a place of `null_map_elision` is at the measure t
+abbrev null-map-elision-need : (null-map-elision-lts.Claims → In 3 null-map-elision-kinds.ps → Out 3 null-map-elision-kinds.ps null-map-elision-kinds.r
+    → null-map-elision-lts.InvT-loop → null-map-elision-lts.MeasureT-loop → Type 0) → ℕ → Type 0
 null-map-elision-need N t = N (null-map-elision-claims t) (null-map-elision-at t) null-map-elision.Post null-map-elision-Inv-loop null-map-elision-μ-loop
+
+-- both are maps
+both-maps : (t : ℕ) (c : null-map-elision-need null-map-elision-lts.Else2 t)
+    → let a = c .before .before .before .before .before .before .before .before .before .args in
+    (isMap (kindOf (now (a .page)) (a .a)) ≡ true) × (isMap (kindOf (now (a .page)) (a .b)) ≡ true)
+both-maps t c =
+    let kind-of = c .before .before .before .before .before .kind-of in
+    let is-map = c .before .before .before .before .is-map in
+    let if1 = c .before .before .before .if1 in
+    let is-map2 = c .before .is-map2 in (
+      rw (← kind-of .ensures) (sym (is-map .ensures) ∙ not-false (is-map .result) (if1 .left)),
+      rw (← c .before .before .kind-of2 .ensures) (sym (is-map2 .ensures) ∙ not-false (is-map2 .result) (c .if2 .left)),
+    )
 
 null-map-elision-kind-of-requires : (t : ℕ) → null-map-elision-need null-map-elision-lts.Need-kind-of-requires t
 null-map-elision-kind-of-requires t c κs = search needs
@@ -72,9 +101,12 @@ null-map-elision-is-map-requires t c κs = search needs
 
 null-map-elision-returns : (t : ℕ) → null-map-elision-need null-map-elision-lts.Need-returns t
 null-map-elision-returns t c =
-    let a = c .before .before .before .before .before .before .args in
-    let p = c .before .before .before .before .before .before .pre .1 in
-    let h : isMap (kindOf (now (a .page)) (a .a)) ≡ false = rw (← c .before .before .kind-of .ensures) (sym (c .before .is-map .ensures) ∙ not-true (c .before .is-map .result) (c .if1 .taken)) in
+    let start = c .before .before .before .before .before .before in
+    let is-map = c .before .is-map in
+    let a = start .args in
+    let p = start .pre .1 in
+    let h : isMap (kindOf (now (a .page)) (a .a)) ≡ false = rw (← c .before .before .kind-of .ensures)
+    (sym (is-map .ensures) ∙ not-true (is-map .result) (c .if1 .taken)) in
     (map-first (now (a .page)) (p .0 .sound) (a .a) (p .1 .0 .0) (a .b) h, p .1 .1)
 
 null-map-elision-kind-of-requires-2 : (t : ℕ) → null-map-elision-need null-map-elision-lts.Need-kind-of-requires-2 t
@@ -85,16 +117,23 @@ null-map-elision-is-map-requires-2 t c κs = search needs
 
 null-map-elision-returns-2 : (t : ℕ) → null-map-elision-need null-map-elision-lts.Need-returns-2 t
 null-map-elision-returns-2 t c =
-    let a = c .before .before .before .before .before .before .before .before .before .args in
-    let p = c .before .before .before .before .before .before .before .before .before .pre .1 in
-    let h : isMap (kindOf (now (a .page)) (a .a)) ≡ true = rw (← c .before .before .before .before .before .kind-of .ensures) (sym (c .before .before .before .before .is-map .ensures) ∙ not-false (c .before .before .before .before .is-map .result) (c .before .before .before .if1 .left)) in
-    let k : isMap (kindOf (now (a .page)) (a .b)) ≡ false = rw (← c .before .before .kind-of2 .ensures) (sym (c .before .is-map2 .ensures) ∙ not-true (c .before .is-map2 .result) (c .if2 .taken)) in
+    let start = c .before .before .before .before .before .before .before .before .before in
+    let kind-of = c .before .before .before .before .before .kind-of in
+    let is-map = c .before .before .before .before .is-map in
+    let if1 = c .before .before .before .if1 in
+    let is-map2 = c .before .is-map2 in
+    let a = start .args in
+    let p = start .pre .1 in
+    let h : isMap (kindOf (now (a .page)) (a .a)) ≡ true = rw (← kind-of .ensures) (sym (is-map .ensures) ∙ not-false (is-map .result) (if1 .left)) in
+    let k : isMap (kindOf (now (a .page)) (a .b)) ≡ false = rw (← c .before .before .kind-of2 .ensures)
+    (sym (is-map2 .ensures) ∙ not-true (is-map2 .result) (c .if2 .taken)) in
     (map-second (now (a .page)) (p .0 .sound) (a .a) (p .1 .0 .0) (a .b) h k, p .1 .1)
 
 null-map-elision-recalls-requires : (t : ℕ) → null-map-elision-need null-map-elision-lts.Need-recalls-requires t
 null-map-elision-recalls-requires t c κs =
-    let a = c .before .before .before .before .before .before .before .before .before .before .args in
-    let p = c .before .before .before .before .before .before .before .before .before .before .pre .1 in
+    let start = c .before .before .before .before .before .before .before .before .before .before in
+    let a = start .args in
+    let p = start .pre .1 in
     let small = in-use-small (now (a .page)) (p .0 .sound) in
     (p .1 .1 .size, omega arith, small (a .a) (p .1 .0 .0), small (a .b) (p .1 .0 .1))
 
@@ -103,59 +142,102 @@ null-map-elision-same-length t c = search needs
 
 null-map-elision-returns-3 : (t : ℕ) → null-map-elision-need null-map-elision-lts.Need-returns-3 t
 null-map-elision-returns-3 t c =
-    let a = c .before .before .before .before .before .before .before .before .before .before .before .before .args in
-    let p = c .before .before .before .before .before .before .before .before .before .before .before .before .pre .1 in
+    let start = c .before .before .before .before .before .before .before .before .before .before .before .before in
+    let recalls = c .before .recalls in
+    let a = start .args in
+    let p = start .pre .1 in
     let page = now (a .page) in
     let small = in-use-small page (p .0 .sound) in
-    let r = recalled (Found page) (now (a .memo)) (p .1 .1) 1 (a .a) (a .b) (omega arith) (small (a .a) (p .1 .0 .0)) (small (a .b) (p .1 .0 .1)) (c .before .recalls .result) (c .before .recalls .ensures) (c .if3 .taken) in
+    let r = recalled (Found page) (now (a .memo)) (p .1 .1) 1 (a .a) (a .b) (omega arith) (small (a .a) (p .1 .0 .0)) (small (a .b) (p .1 .0 .1))
+    (recalls .result) (recalls .ensures) (c .if3 .taken) in
     (maps-found page (a .a) (a .b) r, p .1 .1)
 
 null-map-elision-loop-holds : (t : ℕ) → null-map-elision-need null-map-elision-lts.Need-loop-holds t
-null-map-elision-loop-holds t c = (search needs, c .before .before .before .before .before .before .before .before .before .before .before .before .pre .1 .1 .1, all-none _)
+null-map-elision-loop-holds t c =
+    let start = c .before .before .before .before .before .before .before .before .before .before .before .before in
+    (search needs, start .pre .1 .1 .1, all-none _)
 
 null-map-elision-child-of-requires : (t : ℕ) → null-map-elision-need null-map-elision-lts.Need-child-of-requires t
 null-map-elision-child-of-requires t c κs =
-    let a = c .before .before .before .before .before .before .before .before .before .before .before .before .before .before .args in
-    let p = c .before .before .before .before .before .before .before .before .before .before .before .before .before .before .pre .1 in
-    let h : isMap (kindOf (now (a .page)) (a .a)) ≡ true = rw (← c .before .before .before .before .before .before .before .before .before .before .kind-of .ensures) (sym (c .before .before .before .before .before .before .before .before .before .is-map .ensures) ∙ not-false (c .before .before .before .before .before .before .before .before .before .is-map .result) (c .before .before .before .before .before .before .before .before .if1 .left)) in
-    (p .0, (p .1 .0 .0, omega (arith, c .loop-test .taken, two-children (now (a .page)) (p .0 .sound) (a .a) (p .1 .0 .0) h)))
+    let start = c .before .before .before .before .before .before .before .before .before .before .before .before .before .before in
+    let before = c .before .before .before .before .before in
+    let a = start .args in
+    let p = start .pre .1 in
+    let w = two-children (now (a .page)) (p .0 .sound) (a .a) (p .1 .0 .0) (both-maps t (before) .0) in
+    (p .0, (p .1 .0 .0, omega (arith, c .loop-test .taken, w)))
 
 null-map-elision-child-of-requires-2 : (t : ℕ) → null-map-elision-need null-map-elision-lts.Need-child-of-requires-2 t
 null-map-elision-child-of-requires-2 t c κs =
-    let a = c .before .before .before .before .before .before .before .before .before .before .before .before .before .before .before .args in
-    let p = c .before .before .before .before .before .before .before .before .before .before .before .before .before .before .before .pre .1 in
-    let k : isMap (kindOf (now (a .page)) (a .b)) ≡ true = rw (← c .before .before .before .before .before .before .before .before .kind-of2 .ensures) (sym (c .before .before .before .before .before .before .before .is-map2 .ensures) ∙ not-false (c .before .before .before .before .before .before .before .is-map2 .result) (c .before .before .before .before .before .before .if2 .left)) in
-    (p .0, (p .1 .0 .1, omega (arith, c .before .loop-test .taken, two-children (now (a .page)) (p .0 .sound) (a .b) (p .1 .0 .1) k)))
+    let start = c .before .before .before .before .before .before .before .before .before .before .before .before .before .before .before in
+    let before = c .before .before .before .before .before .before in
+    let a = start .args in
+    let p = start .pre .1 in
+    let w = two-children (now (a .page)) (p .0 .sound) (a .b) (p .1 .0 .1) (both-maps t (before) .1) in
+    (p .0, (p .1 .0 .1, omega (arith, c .before .loop-test .taken, w)))
 
 null-map-elision-null-array-elision-requires : (t : ℕ) → null-map-elision-need null-map-elision-lts.Need-null-array-elision-requires t
 null-map-elision-null-array-elision-requires t c κs =
-    let p = c .before .before .before .before .before .before .before .before .before .before .before .before .before .before .before .before .before .before .pre in
-    (p .1 .0, ((omega (arith, c .before .before .before .child-of .ensures .1, p .1 .1 .0 .0), omega (arith, c .before .before .child-of2 .ensures .1, p .1 .1 .0 .1)), c .before .before .before .before .before .loop .inv .1))
+    let start = c .before .before .before .before .before .before .before .before .before .before .before .before .before .before .before .before .before .before in
+    let loop = c .before .before .before .before .before .loop in
+    let child-of = c .before .before .before .child-of in
+    let p = start .pre in
+    (p .1 .0, ((omega (arith, child-of .ensures .1, p .1 .1 .0 .0), omega (arith, c .before .before .child-of2 .ensures .1, p .1 .1 .0 .1)), loop .inv .1))
 
 null-map-elision-null-map-elision-requires : (t : ℕ) → null-map-elision-need null-map-elision-lts.Need-null-map-elision-requires t
 null-map-elision-null-map-elision-requires t c κs =
-    let p = c .before .before .before .before .before .before .before .before .before .before .before .before .before .before .before .before .before .before .before .before .before .before .before .pre in
-    let x = c .before .before .before .before .before .before .before .before .child-of .ensures .1 in
-    (omega (arith, p .0, x), (p .1 .0, ((omega (arith, x, p .1 .1 .0 .0), omega (arith, c .before .before .before .before .before .before .before .child-of2 .ensures .1, p .1 .1 .0 .1)), c .before .before .before .before .null-array-elision .ensures .1)))
+    let start = c .before .before .before .before .before .before .before .before .before .before .before .before .before .before .before .before .before
+    .before .before .before .before .before .before in
+    let child-of = c .before .before .before .before .before .before .before .before .child-of in
+    let child-of2 = c .before .before .before .before .before .before .before .child-of2 in
+    let null-array-elision = c .before .before .before .before .null-array-elision in
+    let p = start .pre in
+    let x = child-of .ensures .1 in (
+      omega (arith, p .0, x),
+      (
+        p .1 .0,
+        (
+          (
+            omega (arith, x, p .1 .1 .0 .0),
+            omega
+                (arith, child-of2 .ensures .1, p .1 .1 .0 .1),
+          ),
+          null-array-elision .ensures .1,
+        ),
+      ),
+    )
 
 null-map-elision-same-length-2 : (t : ℕ) → null-map-elision-need null-map-elision-lts.Need-same-length-2 t
-null-map-elision-same-length-2 t c = c .before .before .before .null-map-elision .ensures .1 .size ∙ sym (c .before .before .before .before .before .before .before .before .before .before .before .before .before .before .before .before .before .before .before .before .before .before .before .before .before .before .before .pre .1 .1 .1 .size)
+null-map-elision-same-length-2 t c =
+    let start = c .before .before .before .before .before .before .before .before .before .before .before .before .before .before .before .before .before
+    .before .before .before .before .before .before .before .before .before .before in
+    let null-map-elision = c .before .before .before .null-map-elision in
+    null-map-elision .ensures .1 .size ∙ sym (start .pre .1 .1 .1 .size)
 
 null-map-elision-returns-4 : (t : ℕ) → null-map-elision-need null-map-elision-lts.Need-returns-4 t
 null-map-elision-returns-4 t c =
-    let a = c .before .before .before .before .before .before .before .before .before .before .before .before .before .before .before .before .before .before .before .before .before .before .before .before .before .before .before .args in
-    let p = c .before .before .before .before .before .before .before .before .before .before .before .before .before .before .before .before .before .before .before .before .before .before .before .before .before .before .before .pre .1 in
+    let start = c .before .before .before .before .before .before .before .before .before .before .before .before .before .before .before .before .before
+    .before .before .before .before .before .before .before .before .before .before in
+    let before = c .before .before .before .before .before .before .before .before .before .before .before .before .before .before .before .before .before .before in
+    let loop = c .before .before .before .before .before .before .before .before .before .before .before .before .before .before .loop in
+    let loop-test = c .before .before .before .before .before .before .before .before .before .before .before .before .before .loop-test in
+    let if4 = c .before .before .before .before .before .before .before .before .before .before .if4 in
+    let null-array-elision = c .before .before .before .before .before .before .before .before .null-array-elision in
+    let if5 = c .before .before .before .before .before .if5 in
+    let null-map-elision = c .before .before .before .null-map-elision in
+    let a = start .args in
+    let p = start .pre .1 in
     let page = now (a .page) in
-    let i = c .before .before .before .before .before .before .before .before .before .before .before .before .before .before .loop .i in
+    let i = loop .i in
     let x = c .before .before .before .before .before .before .before .before .before .before .before .before .child-of in
     let y = c .before .before .before .before .before .before .before .before .before .before .before .child-of2 in
     let rule = partRule page (nullMapElision page) in
-    let h : isMap (kindOf page (a .a)) ≡ true = rw (← c .before .before .before .before .before .before .before .before .before .before .before .before .before .before .before .before .before .before .before .before .before .before .before .kind-of .ensures) (sym (c .before .before .before .before .before .before .before .before .before .before .before .before .before .before .before .before .before .before .before .before .before .before .is-map .ensures) ∙ not-false (c .before .before .before .before .before .before .before .before .before .before .before .before .before .before .before .before .before .before .before .before .before .before .is-map .result) (c .before .before .before .before .before .before .before .before .before .before .before .before .before .before .before .before .before .before .before .before .before .if1 .left)) in
-    let k : isMap (kindOf page (a .b)) ≡ true = rw (← c .before .before .before .before .before .before .before .before .before .before .before .before .before .before .before .before .before .before .before .before .kind-of2 .ensures) (sym (c .before .before .before .before .before .before .before .before .before .before .before .before .before .before .before .before .before .before .before .is-map2 .ensures) ∙ not-false (c .before .before .before .before .before .before .before .before .before .before .before .before .before .before .before .before .before .before .before .is-map2 .result) (c .before .before .before .before .before .before .before .before .before .before .before .before .before .before .before .before .before .before .if2 .left)) in
-    let s = elided-rule page rule (a .a) (a .b) i (x .result) (y .result) (x .ensures .0) (y .ensures .0) (c .before .before .before .before .before .before .before .before .before .before .if4 .taken) in
-    let m = part-map page (nullMapElision page) (x .result) (y .result) (sym (c .before .before .before .before .before .before .before .before .null-array-elision .ensures .0) ∙ not-true (c .before .before .before .before .before .before .before .before .null-array-elision .result) (c .before .before .before .before .before .if5 .taken)) in
-    let r = s ∙ m ∙ sym (c .before .before .before .null-map-elision .ensures .0) ∙ not-true (c .before .before .before .null-map-elision .result) (c .if6 .taken) in
-    (sym (all-failed (elided page rule (a .a) (a .b)) 2 i (c .before .before .before .before .before .before .before .before .before .before .before .before .before .loop-test .taken) r) ∙ map-all page (p .0 .sound) (a .a) (p .1 .0 .0) (a .b) h k, c .before .before .before .null-map-elision .ensures .1)
+    let h = both-maps t (before) in
+    let s = elided-rule page rule (a .a) (a .b) i (x .result) (y .result) (x .ensures .0) (y .ensures .0) (if4 .taken) in
+    let k = sym (null-array-elision .ensures .0) ∙ not-true (null-array-elision .result) (if5 .taken) in
+    let m = part-map page (nullMapElision page) (x .result) (y .result) k in
+    let r = s ∙ m ∙ sym (null-map-elision .ensures .0) ∙ not-true (null-map-elision .result) (c .if6 .taken) in
+    let f = all-failed (elided page rule (a .a) (a .b)) 2 i (loop-test .taken) r in
+    (sym f ∙ map-all page (p .0 .sound) (a .a) (p .1 .0 .0) (a .b) (h .0) (h .1), null-map-elision .ensures .1)
 
 null-map-elision-add-i : (t : ℕ) → null-map-elision-need null-map-elision-lts.Need-add-i t
 null-map-elision-add-i t c = search needs
@@ -165,7 +247,8 @@ null-map-elision-loop-less t c = search needs
 
 null-map-elision-loop-again : (t : ℕ) → null-map-elision-need null-map-elision-lts.Need-loop-again t
 null-map-elision-loop-again t c =
-    let a = c .before .before .before .before .before .before .before .before .before .before .before .before .before .before .before .before .before .args in
+    let start = c .before .before .before .before .before .before .before .before .before .before .before .before .before .before .before .before .before in
+    let a = start .args in
     let page = now (a .page) in
     let l = c .before .before .before .before .loop in
     let x = c .before .before .child-of in
@@ -185,8 +268,9 @@ null-map-elision-loop-again t c =
 
 null-map-elision-note-requires : (t : ℕ) → null-map-elision-need null-map-elision-lts.Need-note-requires t
 null-map-elision-note-requires t c κs =
-    let a = c .before .before .before .before .before .before .before .before .before .before .before .before .before .before .before .args in
-    let p = c .before .before .before .before .before .before .before .before .before .before .before .before .before .before .before .pre .1 in
+    let start = c .before .before .before .before .before .before .before .before .before .before .before .before .before .before .before in
+    let a = start .args in
+    let p = start .pre .1 in
     let small = in-use-small (now (a .page)) (p .0 .sound) in
     (c .before .before .loop .inv .1 .size, omega arith, small (a .a) (p .1 .0 .0), small (a .b) (p .1 .0 .1))
 
@@ -195,16 +279,20 @@ null-map-elision-same-length-3 t c = search needs
 
 null-map-elision-returns-5 : (t : ℕ) → null-map-elision-need null-map-elision-lts.Need-returns-5 t
 null-map-elision-returns-5 t c =
-    let a = c .before .before .before .before .before .before .before .before .before .before .before .before .before .before .before .before .before .before .args in
-    let p = c .before .before .before .before .before .before .before .before .before .before .before .before .before .before .before .before .before .before .pre .1 in
+    let start = c .before .before .before .before .before .before .before .before .before .before .before .before .before .before .before .before .before .before in
+    let before = c .before .before .before .before .before .before .before .before .before in
+    let a = start .args in
+    let p = start .pre .1 in
     let page = now (a .page) in
     let small = in-use-small page (p .0 .sound) in
-    let h : isMap (kindOf page (a .a)) ≡ true = rw (← c .before .before .before .before .before .before .before .before .before .before .before .before .before .before .kind-of .ensures) (sym (c .before .before .before .before .before .before .before .before .before .before .before .before .before .is-map .ensures) ∙ not-false (c .before .before .before .before .before .before .before .before .before .before .before .before .before .is-map .result) (c .before .before .before .before .before .before .before .before .before .before .before .before .if1 .left)) in
-    let k : isMap (kindOf page (a .b)) ≡ true = rw (← c .before .before .before .before .before .before .before .before .before .before .before .kind-of2 .ensures) (sym (c .before .before .before .before .before .before .before .before .before .before .is-map2 .ensures) ∙ not-false (c .before .before .before .before .before .before .before .before .before .before .is-map2 .result) (c .before .before .before .before .before .before .before .before .before .if2 .left)) in
-    let i : c .before .before .before .before .before .loop .i ≡ 2 = omega arith in
-    let q : allTo 2 (elided page (partRule page (nullMapElision page)) (a .a) (a .b)) ≡ true = rw i at (c .before .before .before .before .before .loop .inv .2) in
-    let r = sym q ∙ map-all page (p .0 .sound) (a .a) (p .1 .0 .0) (a .b) h k in
-    (r, rw (c .before .before .note .ensures) (noted-set (Found page) (c .before .before .before .before .before .loop .memo) (c .before .before .before .before .before .loop .inv .1) 1 (a .a) (a .b) (omega arith) (small (a .a) (p .1 .0 .0)) (small (a .b) (p .1 .0 .1)) (found-maps page (a .a) (a .b) (sym r))))
+    let l = c .before .before .before .before .before .loop in
+    let h = both-maps t (before) in
+    let i : l .i ≡ 2 = omega arith in
+    let q : allTo 2 (elided page (partRule page (nullMapElision page)) (a .a) (a .b)) ≡ true = rw i at (l .inv .2) in
+    let r = sym q ∙ map-all page (p .0 .sound) (a .a) (p .1 .0 .0) (a .b) (h .0) (h .1) in
+    let n = noted-set (Found page) (l .memo) (l .inv .1) 1 (a .a) (a .b) (omega arith) (small (a .a) (p .1 .0 .0)) (small (a .b) (p .1 .0 .1))
+    (found-maps page (a .a) (a .b) (sym r)) in
+    (r, rw (c .before .before .note .ensures) n)
 
 pub +null-map-elision-spec : {M : Type 1} → statement M
 +null-map-elision-spec = close μ-null-map-elision λ t. null-map-elision-lts.spec (null-map-elision-claims t)

@@ -22,7 +22,11 @@ is-tuple-requires-2 : tie.Need-is-tuple-requires-2
 is-tuple-requires-2 c κs = search needs
 
 returns : tie.Need-returns
-returns c = rw (c .before .before .before .is-array .ensures, c .before .before .is-array2 .ensures, c .before .is-tuple .ensures, c .is-tuple2 .ensures, c .before .before .before .before .before .kind-of .ensures, c .before .before .before .before .kind-of2 .ensures)
+returns c =
+    let kind-of = c .before .before .before .before .before .kind-of in
+    let kind-of2 = c .before .before .before .before .kind-of2 in
+    let is-array = c .before .before .before .is-array in
+    rw (is-array .ensures, c .before .before .is-array2 .ensures, c .before .is-tuple .ensures, c .is-tuple2 .ensures, kind-of .ensures, kind-of2 .ensures)
 
 pub are-sequences-spec : {M : Type 1} → statement M
 are-sequences-spec =

@@ -13,7 +13,8 @@ const-matches-requires : tie.Need-const-matches-requires
 const-matches-requires c κs = search needs
 
 returns : tie.Need-returns
-returns c = rw (c .const-matches .ensures, c .before .before .kind-of .ensures, c .before .kind-of2 .ensures)
+returns c =
+    rw (c .const-matches .ensures, c .before .before .kind-of .ensures, c .before .kind-of2 .ensures)
 
 pub const-matches-spec : {M : Type 1} → statement M
 const-matches-spec =

@@ -1,5 +1,5 @@
 -- `matching::function_matches` meets its contract. Assumes nothing.
-use mathlib.Core.Path.{_≡_, sym, _∙_}
+use mathlib.Core.Path.{_≡_}
 use mathlib.Core.Bool.{true}
 use denote.Ref.{now}
 use Rattle.matching.specs.Matching.{functionMatches, inUse}
@@ -17,10 +17,12 @@ enum-known-expected c = search needs
 
 kind-of-requires : tie.Need-kind-of-requires
 kind-of-requires c κs =
-    let page = now (c .before .before .before .before .before .args .page) in
-    let b = c .before .expected .given .0 .0 in
-    let u : inUse page (Known b) ≡ true = rw (c .before .expected .given .1) at (c .before .before .before .before .before .pre .1) in
-    (c .before .before .before .before .before .pre .0, known-in-use page b u)
+    let start = c .before .before .before .before .before in
+    let expected = c .before .expected in
+    let page = now (start .args .page) in
+    let b = expected .given .0 .0 in
+    let u : inUse page (Known b) ≡ true = rw (expected .given .1) at (start .pre .1) in
+    (start .pre .0, known-in-use page b u)
 
 enum-known-expected-2 : tie.Need-enum-known-expected-2
 enum-known-expected-2 c = search needs
@@ -31,7 +33,8 @@ returns c = rw (c .enum-told .given .1)
 
 returns-2 : tie.Need-returns-2
 unfolding functionMatches
-returns-2 c = rw (c .before .before .expected .given .1, c .kind-of .ensures)
+returns-2 c =
+    rw (c .before .before .expected .given .1, c .kind-of .ensures)
 
 returns-3 : tie.Need-returns-3
 unfolding functionMatches

@@ -18,7 +18,9 @@ kind-of-requires-2 c κs = search needs
 
 returns-2 : tie.Need-returns-2
 unfolding wild
-returns-2 c = rw (ne-eqb (c .before .before .before .before .before .args .a) null (c .before .before .if1 .left), c .before .kind-of .ensures, c .kind-of2 .ensures)
+returns-2 c =
+    let start = c .before .before .before .before .before in
+    rw (ne-eqb (start .args .a) null (c .before .before .if1 .left), c .before .kind-of .ensures, c .kind-of2 .ensures)
 
 pub is-wild-spec : {M : Type 1} → statement M
 is-wild-spec = tie.close (tie.spec returns kind-of-requires kind-of-requires-2 returns-2)

@@ -13,13 +13,17 @@ same-length : tie.Need-same-length
 same-length c = search needs
 
 returns : tie.Need-returns
-returns c = rw (c .before .before .before .before .if1 .taken) (c .before .before .note .ensures)
+returns c =
+    let if1 = c .before .before .before .before .if1 in
+    rw (if1 .taken) (c .before .before .note .ensures)
 
 same-length-2 : tie.Need-same-length-2
 same-length-2 c = search needs
 
 returns-2 : tie.Need-returns-2
-returns-2 c = rw (c .before .before .before .before .if1 .left) (c .before .before .note2 .ensures)
+returns-2 c =
+    let if1 = c .before .before .before .before .if1 in
+    rw (if1 .left) (c .before .before .note2 .ensures)
 
 pub note-any-spec : {M : Type 1} → statement M
 note-any-spec =

@@ -16,7 +16,8 @@ code-of-requires : tie.Need-code-of-requires
 code-of-requires c κs = search needs
 
 returns : tie.Need-returns
-returns c = rw (c .before .before .slot-of .ensures .0, c .code-of .ensures)
+returns c =
+    rw (c .before .before .slot-of .ensures .0, c .code-of .ensures)
 
 pub recalls-spec : {M : Type 1} → statement M
 recalls-spec =

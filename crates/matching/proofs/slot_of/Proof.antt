@@ -1,7 +1,6 @@
 -- `matching::slot_of` meets its contract. Assumes nothing.
 use native.Mathlib.Omega.{arith}
 use Rattle.matching.specs.Memo.{slot}
-use Rattle.matching.proofs.Memo.{slot-inside}
 use mathlib.Core.Path.{refl}
 use borrow.Author.Needs.{needs}
 use Rattle.matching.proofs.slot_of.Statement.{statement}

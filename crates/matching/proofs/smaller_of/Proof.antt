@@ -2,7 +2,6 @@
 use native.Mathlib.Omega.{arith}
 use borrow.Author.Tests.{lt-ltb, le-ltb}
 use Rattle.matching.specs.Matching.{smaller}
-use borrow.Author.Needs.{needs}
 use Rattle.matching.proofs.smaller_of.Statement.{statement}
 use Rattle.matching.proofs.smaller_of.Tie as tie
 
