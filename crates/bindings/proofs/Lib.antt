@@ -1,3 +1,5 @@
 -- Laws that the proofs of this crate, and of the crates above it, cite.
 pub mod Bound
 pub mod Generics
+pub mod Substitution
+pub mod Rebuilding

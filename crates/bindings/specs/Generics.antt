@@ -4,15 +4,16 @@ use mathlib.Core.Bool.{Bool, false, _&&_, _||_, cond}
 use mathlib.Core.List.{List, [], _∷_, _++_}
 use Prim.Native.Nat.{ℕ, zero, suc, _<_}
 use lib.Dec.{eqb}
-use lib.ListN.{getD}
+use lib.ListN.{length, getD}
 use Rattle.refusals.specs.declared.Refusal.{Refusal}
 use Rattle.pages.specs.Quant.{anyTo}
 use Rattle.kinds.specs.Kinds.{callback, generic, isBuilt}
-use Rattle.types.specs.Types.{kindOf, arity, childOf, nameOf}
+use Rattle.types.specs.Store.{typesMax, Formed}
+use Rattle.types.specs.Types.{typesIn, kindOf, arity, childOf, nameOf, Measured}
 use Rattle.types.specs.Recur.{cov}
-use Rattle.types.specs.Making.{entryOf, enterAnswer, enterPage}
+use Rattle.types.specs.Making.{entryOf, enterAnswer, enterPage, Grows}
 use Rattle.types.specs.declared.Made.{Made}
-use Rattle.bindings.specs.Bindings.{isBound, boundTo}
+use Rattle.bindings.specs.Bindings.{isBound, boundTo, Usable}
 use Rattle.bindings.specs.declared.Bindings.{Bindings}
 
 -- the kinds whose children both functions enter: arrays, sets, results, maps, tuples and callbacks, and no union
@@ -76,3 +77,16 @@ substituteRule b t rule page =
 
 unfoldable pub substitute : Bindings → ℕ → List ℕ → Outcome
 substitute b = cov {R = List ℕ → Outcome} (λ page. outcome (Made.At 0) page) (λ t rule. substituteRule b t rule)
+
+-- what a list of numbers says of the types substituted so far: under t one more than what it came to, for this store and every
+-- store that grows out of it
+pub record Remembered (b : Bindings) (page done : List ℕ) : Type 0 where
+  pub size : length done ≡ typesMax
+  pub right : (t r : ℕ) → getD done t 0 ≡ suc r → (q : List ℕ) → Grows page q → Formed q → substitute b t q ≡ outcome (Made.At r) q
+
+-- a type that is to be substituted, in a store with its tables
+pub record Working (b : Bindings) (page offsets ds done : List ℕ) (t : ℕ) : Type 0 where
+  pub measured : Measured page offsets ds
+  pub used : t < typesIn page
+  pub usable : Usable b (typesIn page)
+  pub remembered : Remembered b page done

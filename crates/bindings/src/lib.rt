@@ -1,21 +1,24 @@
 // Bindings of generic names to types, and the types that bear such names (document 01, "Types"; types.rs of the source).
 use kinds::CALLBACK;
+use kinds::CHILDREN;
 use kinds::GENERIC;
 use kinds::Kind;
 use names::symbol_index;
+use types::Made;
 use types::TYPES;
 use types::arity;
 use types::child_of;
+use types::enter_type;
 use types::kind_of;
 use types::name_of;
 ghost use mathlib.Core.Path.{_≡_};
 ghost use mathlib.Core.Bool.{true, cond};
-ghost use Prim.Native.Nat.{_≤_, _<_};
-ghost use lib.ListN.{length, set};
+ghost use Prim.Native.Nat.{_+_, _≤_, _<_};
+ghost use lib.ListN.{length, getD, set, replicate};
 ghost use Rattle.types.specs.Store.{typesMax};
-ghost use Rattle.types.specs.Types.{typesIn, Held};
+ghost use Rattle.types.specs.Types.{typesIn, kindOf, Held, Measured};
 ghost use Rattle.bindings.specs.Bindings.{bindingsMax, placeIn, isBound, boundTo, withBinding, goodBinding, formed};
-ghost use Rattle.bindings.specs.Generics.{isEntered, hasGeneric, Told};
+ghost use Rattle.bindings.specs.Generics.{isEntered, hasGeneric, Told, substitute, Remembered, Working};
 
 // How many names are bound at most.
 pub const BINDINGS: usize = 32;
@@ -178,4 +181,90 @@ pub fn has_generic(page: &[u8], offsets: &[usize], t: usize) -> bool
         i += 1;
     }
     generic_in(page, offsets, &found, t)
+}
+
+// Nothing substituted yet.
+pub fn none_done() -> [usize; TYPES]
+    ensures { λ r. ⌜ r ≡ replicate typesMax 0 ⌝ }
+{
+    [0; TYPES]
+}
+
+// What a type was substituted by, and one more; 0 where it was not yet.
+fn done_at(done: &[usize], t: usize) -> usize
+    requires { ⌜ (length (now done) ≡ typesMax) × (t < typesMax) ⌝ }
+    ensures { λ r. ⌜ r ≡ getD (now (done .entry)) t 0 ⌝ }
+{
+    done[t]
+}
+
+// Writes down what a type was substituted by.
+fn set_done(done: &mut [usize], t: usize, r: usize)
+    requires { ⌜ (length (now done) ≡ typesMax) × (t < typesMax) × (r < typesMax) ⌝ }
+    ensures { λ _. ⌜ now (done .exit) ≡ set (now (done .entry)) t (r + 1) ⌝ }
+{
+    done[t] = r + 1;
+}
+
+// A type with its generic names replaced (`checked::substitute` tests store, number and bindings, and restores the store on a
+// refusal). Each type is substituted once.
+pub fn substitute(
+    page: &mut [u8],
+    offsets: &mut [usize],
+    depths: &mut [u8],
+    done: &mut [usize],
+    bindings: Bindings,
+    t: usize,
+) -> Made
+    requires { ⌜ Working bindings (now page) (now offsets) (now depths) (now done) t ⌝ }
+    ensures { λ r. ⌜ (r ≡ substitute bindings t (now (page .entry)) .made) × (now (page .exit) ≡ substitute bindings t (now (page .entry)) .store) ⌝ }
+    ensures { λ _. ⌜ Measured (now (page .exit)) (now (offsets .exit)) (now (depths .exit)) × Remembered bindings (now (page .exit)) (now (done .exit)) ⌝ }
+{
+    let kind = kind_of(page, offsets, t);
+    if kind == GENERIC {
+        let name = name_of(page, offsets, t);
+        return Made::At(bound_or(bindings, name, t));
+    }
+    if !is_entered(kind) {
+        return Made::At(t);
+    }
+    let known = done_at(done, t);
+    if known != 0 {
+        return Made::At(known - 1);
+    }
+    let made = rebuild(page, offsets, depths, done, bindings, t);
+    if let Made::At(r) = made {
+        set_done(done, t, r);
+    }
+    made
+}
+
+// A type of a kind that is entered, made anew over its children, left to right.
+fn rebuild(
+    page: &mut [u8],
+    offsets: &mut [usize],
+    depths: &mut [u8],
+    done: &mut [usize],
+    bindings: Bindings,
+    t: usize,
+) -> Made
+    requires { ⌜ Working bindings (now page) (now offsets) (now depths) (now done) t ⌝ }
+    requires { ⌜ isEntered (kindOf (now page) t) ≡ true ⌝ }
+    ensures { λ r. ⌜ (r ≡ substitute bindings t (now (page .entry)) .made) × (now (page .exit) ≡ substitute bindings t (now (page .entry)) .store) ⌝ }
+    ensures { λ _. ⌜ Measured (now (page .exit)) (now (offsets .exit)) (now (depths .exit)) × Remembered bindings (now (page .exit)) (now (done .exit)) ⌝ }
+{
+    let kind = kind_of(page, offsets, t);
+    let n = arity(page, offsets, t);
+    let mut kids = [0u16; CHILDREN];
+    let mut i: usize = 0;
+    while i < n {
+        let child = child_of(page, offsets, t, i);
+        let made = substitute(page, offsets, depths, done, bindings, child);
+        let Made::At(r) = made else {
+            return made;
+        };
+        kids[i] = r as u16;
+        i += 1;
+    }
+    enter_type(page, offsets, depths, kind, &kids[0..n], 0)
 }

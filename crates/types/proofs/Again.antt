@@ -32,7 +32,7 @@ number-of : Made → ℕ
 number-of (Made.At t) = t
 number-of (Made.Refused r) = 0
 
-at-inj : (t u : ℕ) → Made.At t ≡ Made.At u → t ≡ u
+pub at-inj : (t u : ℕ) → Made.At t ≡ Made.At u → t ≡ u
 unfolding number-of
 at-inj t u e = ap number-of e
 

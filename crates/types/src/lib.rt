@@ -402,3 +402,22 @@ pub fn entry_of(kind: Kind, children: &[u16], name: u8) -> Entry
         size: HEAD_BYTES + CHILD_BYTES * children.len(),
     }
 }
+
+// Enters a type of this kind in such a store.
+pub fn enter_type(
+    page: &mut [u8],
+    offsets: &mut [usize],
+    depths: &mut [u8],
+    kind: Kind,
+    children: &[u16],
+    name: u8,
+) -> Made
+    requires { ⌜ length (now children) ≤ childrenMax ⌝ }
+    requires { ⌜ Ready (now page) (now offsets) (now depths) (entryOf kind (now children) name) ⌝ }
+    ensures { λ r. ⌜ (r ≡ enterAnswer (now (page .entry)) (entryOf kind (now (children .entry)) name)) × (now (page .exit) ≡ enterPage (now (page .entry)) (entryOf kind (now (children .entry)) name)) × (Measured (now (page .exit)) (now (offsets .exit)) (now (depths .exit))) ⌝ }
+{
+    let entry = entry_of(kind, children, name);
+    let bytes = entry.bytes;
+    let size = entry.size;
+    enter(page, offsets, depths, &bytes[0..size])
+}

@@ -1,5 +1,18 @@
+-- `bindings::+rebuild+substitute` meets its contract. Assumes nothing.
+use mathlib.Core.Path.{_≡_, refl, sym, _∙_, ap}
+use Prim.Native.Nat.{_+_, _*_, _-_, _≤_}
+use native.Mathlib.Nat.{sub-zero}
+use native.Mathlib.Omega.{arith}
+use lib.ListN.{length, set, length-set}
+use denote.Ref.{now}
+use borrow.Author.Tests.{not-true, not-false, eq-eqb}
+use Rattle.kinds.specs.Kinds.{generic}
+use Rattle.types.specs.Types.{kindOf}
+use Rattle.bindings.proofs.Substitution.{generic-named}
+use Rattle.bindings.proofs.Rebuilding.{low, done-generic, done-closed, done-before, done-low, done-noted, Kidding, kids-size, kids-start, few-places, child-asks, child-low, child-works, child-number, kids-next, kids-stop, parent-ready, parent-done}
+use borrow.Author.Needs.{needs}
 use Prim.Native.Nat.{ℕ, _<_}
-use borrow.Fn.Kinds.{In}
+use borrow.Fn.Kinds.{In, Out}
 use borrow.Fn.PlainCycle.{Measures, is, falls, and}
 use Rattle.bindings.proofs.rebuild.Reads as rebuild
 use Rattle.bindings.proofs.rebuild.Kinds as rebuild-kinds
@@ -20,10 +33,10 @@ use Rattle.bindings.proofs.+rebuild+substitute.{statement}
 use Rattle.bindings.proofs.+rebuild+substitute.Tie.{close}
 
 abbrev μ-rebuild : Measures 4 rebuild-kinds.ps ℕ
-μ-rebuild κs a = ?
+μ-rebuild κs a = 2 * a .1 .1 .1 .1 .1 .0
 
 abbrev μ-substitute : Measures 4 substitute-kinds.ps ℕ
-μ-substitute κs a = ?
+μ-substitute κs a = 2 * a .1 .1 .1 .1 .1 .0 + 1
 
 abbrev rebuild-at : ℕ → In 4 rebuild-kinds.ps
 rebuild-at t = and 4 rebuild-kinds.ps (is 4 rebuild-kinds.ps μ-rebuild t) rebuild.Pre
@@ -41,13 +54,11 @@ substitute-below t =
 
 abbrev rebuild-Inv-loop : rebuild-lts.InvT-loop
 rebuild-Inv-loop page₀ offsets₀ depths₀ done₀ bindings t kind n kids₀ i₀ page offsets depths done kids i =
-    ?
+    Kidding bindings page₀ t n i kids page offsets depths done
 
 abbrev rebuild-μ-loop : rebuild-lts.MeasureT-loop
-rebuild-μ-loop page₀ offsets₀ depths₀ done₀ bindings t kind n kids₀ i₀ page offsets depths done kids i =
-    ?
+rebuild-μ-loop page₀ offsets₀ depths₀ done₀ bindings t kind n kids₀ i₀ page offsets depths done kids i = n - i
 
--- src/lib.rt:256:9
 rebuild-kind-of-requires : (t : ℕ) → rebuild-lts.Need-kind-of-requires (
   kind-of-reads.Asked,
   kind-of-reads.Learnt,
@@ -60,9 +71,10 @@ rebuild-kind-of-requires : (t : ℕ) → rebuild-lts.Need-kind-of-requires (
   enter-type-reads.Asked,
   enter-type-reads.Learnt,
 ) (rebuild-at t) rebuild.Post rebuild-Inv-loop rebuild-μ-loop
-rebuild-kind-of-requires t c κs = ?
+rebuild-kind-of-requires t c κs =
+    let w = c .before .before .before .before .before .before .pre .1 .0 in
+    (w .measured .held, w .used)
 
--- src/lib.rt:257:9
 rebuild-arity-requires : (t : ℕ) → rebuild-lts.Need-arity-requires (
   kind-of-reads.Asked,
   kind-of-reads.Learnt,
@@ -75,9 +87,10 @@ rebuild-arity-requires : (t : ℕ) → rebuild-lts.Need-arity-requires (
   enter-type-reads.Asked,
   enter-type-reads.Learnt,
 ) (rebuild-at t) rebuild.Post rebuild-Inv-loop rebuild-μ-loop
-rebuild-arity-requires t c κs = ?
+rebuild-arity-requires t c κs =
+    let w = c .before .before .before .before .before .before .before .before .before .pre .1 .0 in
+    (w .measured .held, w .used)
 
--- src/lib.rt:260:5
 rebuild-loop-holds : (t : ℕ) → rebuild-lts.Need-loop-holds (
   kind-of-reads.Asked,
   kind-of-reads.Learnt,
@@ -90,9 +103,10 @@ rebuild-loop-holds : (t : ℕ) → rebuild-lts.Need-loop-holds (
   enter-type-reads.Asked,
   enter-type-reads.Learnt,
 ) (rebuild-at t) rebuild.Post rebuild-Inv-loop rebuild-μ-loop
-rebuild-loop-holds t c = ?
+rebuild-loop-holds t c =
+    let a = c .before .before .before .before .before .before .before .before .before .before .args in
+    kids-start (a .bindings) (now (a .page)) _ _ _ (a .t) (c .before .before .before .before .before .before .before .before .before .before .pre .1 .0) (c .arity .result) (c .arity .ensures .0) _ (search needs)
 
--- src/lib.rt:261:13
 rebuild-child-of-requires : (t : ℕ) → rebuild-lts.Need-child-of-requires (
   kind-of-reads.Asked,
   kind-of-reads.Learnt,
@@ -105,9 +119,11 @@ rebuild-child-of-requires : (t : ℕ) → rebuild-lts.Need-child-of-requires (
   enter-type-reads.Asked,
   enter-type-reads.Learnt,
 ) (rebuild-at t) rebuild.Post rebuild-Inv-loop rebuild-μ-loop
-rebuild-child-of-requires t c κs = ?
+rebuild-child-of-requires t c κs =
+    let a = c .before .before .before .before .before .before .before .before .before .before .before .before .before .before .args in
+    let l = c .before .before .before .loop in
+    child-asks (a .bindings) (now (a .page)) _ _ _ (a .t) (c .before .before .before .before .before .before .before .before .before .before .before .before .before .before .pre .1 .0) (c .before .before .before .before .arity .result) (c .before .before .before .before .arity .ensures .0) (l .i) (l .kids) (l .page) (l .offsets) (l .depths) (l .done) (l .inv) (c .before .before .loop-test .taken)
 
--- src/lib.rt:262:13
 rebuild-substitute-requires : (t : ℕ) → rebuild-lts.Need-substitute-requires (
   kind-of-reads.Asked,
   kind-of-reads.Learnt,
@@ -120,9 +136,13 @@ rebuild-substitute-requires : (t : ℕ) → rebuild-lts.Need-substitute-requires
   enter-type-reads.Asked,
   enter-type-reads.Learnt,
 ) (rebuild-at t) rebuild.Post rebuild-Inv-loop rebuild-μ-loop
-rebuild-substitute-requires t c κs = ?
+rebuild-substitute-requires t c κs =
+    let a = c .before .before .before .before .before .before .before .before .before .before .before .before .before .before .before .before .before .before .before .args in
+    let l = c .before .before .before .before .before .before .before .before .loop in
+    let c-low = child-low (a .bindings) (now (a .page)) _ _ _ (a .t) (c .before .before .before .before .before .before .before .before .before .before .before .before .before .before .before .before .before .before .before .pre .1 .0) (c .before .before .before .before .before .before .before .before .before .arity .result) (c .before .before .before .before .before .before .before .before .before .arity .ensures .0) (l .i) (l .kids) (l .page) (l .offsets) (l .depths) (l .done) (l .inv) (c .before .before .before .before .before .before .before .loop-test .taken) (c .before .before .before .before .child-of .result) (c .before .before .before .before .child-of .ensures .0) in
+    (omega (arith, c-low, c .before .before .before .before .before .before .before .before .before .before .before .before .before .before .before .before .before .before .before .pre .0),
+    child-works (a .bindings) (now (a .page)) _ _ _ (a .t) (c .before .before .before .before .before .before .before .before .before .before .before .before .before .before .before .before .before .before .before .pre .1 .0) (c .before .before .before .before .before .before .before .before .before .arity .result) (c .before .before .before .before .before .before .before .before .before .arity .ensures .0) (l .i) (l .kids) (l .page) (l .offsets) (l .depths) (l .done) (l .inv) (c .before .before .before .before .before .before .before .loop-test .taken) (c .before .before .before .before .child-of .result) (c .before .before .before .before .child-of .ensures .0))
 
--- src/lib.rt:263:22
 rebuild-enum-known-made : (t : ℕ) → rebuild-lts.Need-enum-known-made (
   kind-of-reads.Asked,
   kind-of-reads.Learnt,
@@ -135,9 +155,8 @@ rebuild-enum-known-made : (t : ℕ) → rebuild-lts.Need-enum-known-made (
   enter-type-reads.Asked,
   enter-type-reads.Learnt,
 ) (rebuild-at t) rebuild.Post rebuild-Inv-loop rebuild-μ-loop
-rebuild-enum-known-made t c = ?
+rebuild-enum-known-made t c = search needs
 
--- src/lib.rt:264:13
 rebuild-enum-told : (t : ℕ) → rebuild-lts.Need-enum-told (
   kind-of-reads.Asked,
   kind-of-reads.Learnt,
@@ -150,9 +169,8 @@ rebuild-enum-told : (t : ℕ) → rebuild-lts.Need-enum-told (
   enter-type-reads.Asked,
   enter-type-reads.Learnt,
 ) (rebuild-at t) rebuild.Post rebuild-Inv-loop rebuild-μ-loop
-rebuild-enum-told t c = ?
+rebuild-enum-told t c = search needs
 
--- src/lib.rt:264:13
 rebuild-same-length : (t : ℕ) → rebuild-lts.Need-same-length (
   kind-of-reads.Asked,
   kind-of-reads.Learnt,
@@ -165,9 +183,12 @@ rebuild-same-length : (t : ℕ) → rebuild-lts.Need-same-length (
   enter-type-reads.Asked,
   enter-type-reads.Learnt,
 ) (rebuild-at t) rebuild.Post rebuild-Inv-loop rebuild-μ-loop
-rebuild-same-length t c = ?
+rebuild-same-length t c =
+    let a = c .before .before .before .before .before .before .before .before .before .before .before .before .before .before .before .before .before .before .before .before .before .before .before .before .before .before .before .before .before .before .args in
+    let l = c .before .before .before .before .before .before .before .before .before .before .before .before .before .before .before .before .before .before .before .loop in
+    let z = kids-size (a .bindings) (now (a .page)) _ _ _ (a .t) (c .before .before .before .before .before .before .before .before .before .before .before .before .before .before .before .before .before .before .before .before .before .before .before .before .before .before .before .before .before .before .pre .1 .0) (c .before .before .before .before .before .before .before .before .before .before .before .before .before .before .before .before .before .before .before .before .arity .result) (c .before .before .before .before .before .before .before .before .before .before .before .before .before .before .before .before .before .before .before .before .arity .ensures .0) (l .i) (l .kids) (l .page) (l .offsets) (l .depths) (l .done) (l .inv) in
+    search (needs, z)
 
--- src/lib.rt:264:13
 rebuild-same-length-2 : (t : ℕ) → rebuild-lts.Need-same-length-2 (
   kind-of-reads.Asked,
   kind-of-reads.Learnt,
@@ -180,9 +201,8 @@ rebuild-same-length-2 : (t : ℕ) → rebuild-lts.Need-same-length-2 (
   enter-type-reads.Asked,
   enter-type-reads.Learnt,
 ) (rebuild-at t) rebuild.Post rebuild-Inv-loop rebuild-μ-loop
-rebuild-same-length-2 t c = ?
+rebuild-same-length-2 t c = search (needs, c .before .before .before .before .before .before .before .before .before .before .before .before .before .before .before .before .before .before .before .loop .inv .measured .held .size, c .before .before .before .before .before .before .before .before .before .before .before .before .before .before .before .before .before .before .before .before .before .before .before .before .before .before .before .before .before .before .pre .1 .0 .measured .held .size)
 
--- src/lib.rt:264:13
 rebuild-same-length-3 : (t : ℕ) → rebuild-lts.Need-same-length-3 (
   kind-of-reads.Asked,
   kind-of-reads.Learnt,
@@ -195,9 +215,8 @@ rebuild-same-length-3 : (t : ℕ) → rebuild-lts.Need-same-length-3 (
   enter-type-reads.Asked,
   enter-type-reads.Learnt,
 ) (rebuild-at t) rebuild.Post rebuild-Inv-loop rebuild-μ-loop
-rebuild-same-length-3 t c = ?
+rebuild-same-length-3 t c = search (needs, c .before .before .before .before .before .before .before .before .before .before .before .before .before .before .before .before .before .before .before .loop .inv .measured .size, c .before .before .before .before .before .before .before .before .before .before .before .before .before .before .before .before .before .before .before .before .before .before .before .before .before .before .before .before .before .before .pre .1 .0 .measured .size)
 
--- src/lib.rt:264:13
 rebuild-same-length-4 : (t : ℕ) → rebuild-lts.Need-same-length-4 (
   kind-of-reads.Asked,
   kind-of-reads.Learnt,
@@ -210,9 +229,8 @@ rebuild-same-length-4 : (t : ℕ) → rebuild-lts.Need-same-length-4 (
   enter-type-reads.Asked,
   enter-type-reads.Learnt,
 ) (rebuild-at t) rebuild.Post rebuild-Inv-loop rebuild-μ-loop
-rebuild-same-length-4 t c = ?
+rebuild-same-length-4 t c = search (needs, c .before .before .before .before .before .before .before .before .before .before .before .before .before .before .before .before .before .before .before .loop .inv .remembered .size, c .before .before .before .before .before .before .before .before .before .before .before .before .before .before .before .before .before .before .before .before .before .before .before .before .before .before .before .before .before .before .pre .1 .0 .remembered .size)
 
--- src/lib.rt:264:13
 rebuild-returns : (t : ℕ) → rebuild-lts.Need-returns (
   kind-of-reads.Asked,
   kind-of-reads.Learnt,
@@ -225,9 +243,12 @@ rebuild-returns : (t : ℕ) → rebuild-lts.Need-returns (
   enter-type-reads.Asked,
   enter-type-reads.Learnt,
 ) (rebuild-at t) rebuild.Post rebuild-Inv-loop rebuild-μ-loop
-rebuild-returns t c = ?
+rebuild-returns t c =
+    let a = c .before .before .before .before .before .before .before .before .before .before .before .before .before .before .before .before .before .before .before .before .before .before .before .before .before .before .before .before .before .before .args in
+    let l = c .before .before .before .before .before .before .before .before .before .before .before .before .before .before .before .before .before .before .before .loop in
+    kids-stop (a .bindings) (now (a .page)) _ _ _ (a .t) (c .before .before .before .before .before .before .before .before .before .before .before .before .before .before .before .before .before .before .before .before .before .before .before .before .before .before .before .before .before .before .pre .1 .0) (c .before .before .before .before .before .before .before .before .before .before .before .before .before .before .before .before .before .before .before .before .arity .result) (c .before .before .before .before .before .before .before .before .before .before .before .before .before .before .before .before .before .before .before .before .arity .ensures .0) (l .i) (l .kids) (l .page) (l .offsets) (l .depths) (l .done) (l .inv) (c .before .before .before .before .before .before .before .before .before .before .before .before .before .before .before .before .before .before .loop-test .taken)
+    (c .before .before .before .before .before .before .before .before .before .before .before .before .before .before .before .child-of .result) (c .before .before .before .before .before .before .before .before .before .before .before .before .before .before .before .child-of .ensures .0) (c .before .before .before .before .before .before .before .before .before .before .substitute .result) _ _ _ _ (c .before .before .before .before .before .before .before .before .before .before .substitute .ensures) (c .before .before .before .before .before .before .before .before .before .before .before .before .before .before .before .before .before .before .before .before .before .before .before .before .before .before .before .before .before .before .pre .1 .1) _ (c .enum-told .given .1)
 
--- src/lib.rt:266:19
 rebuild-cast-kids : (t : ℕ) → rebuild-lts.Need-cast-kids (
   kind-of-reads.Asked,
   kind-of-reads.Learnt,
@@ -240,9 +261,13 @@ rebuild-cast-kids : (t : ℕ) → rebuild-lts.Need-cast-kids (
   enter-type-reads.Asked,
   enter-type-reads.Learnt,
 ) (rebuild-at t) rebuild.Post rebuild-Inv-loop rebuild-μ-loop
-rebuild-cast-kids t c = ?
+rebuild-cast-kids t c =
+    let a = c .before .before .before .before .before .before .before .before .before .before .before .before .before .before .before .before .before .before .before .before .before .before .before .before .before .before .before .before .before .before .before .args in
+    let l = c .before .before .before .before .before .before .before .before .before .before .before .before .before .before .before .before .before .before .before .before .loop in
+    let z = child-number (a .bindings) (now (a .page)) _ _ _ (a .t) (c .before .before .before .before .before .before .before .before .before .before .before .before .before .before .before .before .before .before .before .before .before .before .before .before .before .before .before .before .before .before .before .pre .1 .0) (c .before .before .before .before .before .before .before .before .before .before .before .before .before .before .before .before .before .before .before .before .before .arity .result) (c .before .before .before .before .before .before .before .before .before .before .before .before .before .before .before .before .before .before .before .before .before .arity .ensures .0) (l .i) (l .kids) (l .page) (l .offsets) (l .depths) (l .done) (l .inv) (c .before .before .before .before .before .before .before .before .before .before .before .before .before .before .before .before .before .before .before .loop-test .taken)
+    (c .before .before .before .before .before .before .before .before .before .before .before .before .before .before .before .before .child-of .result) (c .before .before .before .before .before .before .before .before .before .before .before .before .before .before .before .before .child-of .ensures .0) (c .before .before .before .before .before .before .before .before .before .before .before .substitute .result) _ _ _ _ (c .before .before .before .before .before .before .before .before .before .before .before .substitute .ensures) _ (c .before .made .given .1) in
+    search (needs, z)
 
--- src/lib.rt:266:9
 rebuild-mul-kids : (t : ℕ) → rebuild-lts.Need-mul-kids (
   kind-of-reads.Asked,
   kind-of-reads.Learnt,
@@ -255,9 +280,8 @@ rebuild-mul-kids : (t : ℕ) → rebuild-lts.Need-mul-kids (
   enter-type-reads.Asked,
   enter-type-reads.Learnt,
 ) (rebuild-at t) rebuild.Post rebuild-Inv-loop rebuild-μ-loop
-rebuild-mul-kids t c = ?
+rebuild-mul-kids t c = search needs
 
--- src/lib.rt:266:9
 rebuild-array-write-kids : (t : ℕ) → rebuild-lts.Need-array-write-kids (
   kind-of-reads.Asked,
   kind-of-reads.Learnt,
@@ -270,9 +294,8 @@ rebuild-array-write-kids : (t : ℕ) → rebuild-lts.Need-array-write-kids (
   enter-type-reads.Asked,
   enter-type-reads.Learnt,
 ) (rebuild-at t) rebuild.Post rebuild-Inv-loop rebuild-μ-loop
-rebuild-array-write-kids t c = ?
+rebuild-array-write-kids t c = search needs
 
--- src/lib.rt:267:9
 rebuild-add-i : (t : ℕ) → rebuild-lts.Need-add-i (
   kind-of-reads.Asked,
   kind-of-reads.Learnt,
@@ -285,9 +308,8 @@ rebuild-add-i : (t : ℕ) → rebuild-lts.Need-add-i (
   enter-type-reads.Asked,
   enter-type-reads.Learnt,
 ) (rebuild-at t) rebuild.Post rebuild-Inv-loop rebuild-μ-loop
-rebuild-add-i t c = ?
+rebuild-add-i t c = search needs
 
--- src/lib.rt:260:5
 rebuild-loop-less : (t : ℕ) → rebuild-lts.Need-loop-less (
   kind-of-reads.Asked,
   kind-of-reads.Learnt,
@@ -300,9 +322,8 @@ rebuild-loop-less : (t : ℕ) → rebuild-lts.Need-loop-less (
   enter-type-reads.Asked,
   enter-type-reads.Learnt,
 ) (rebuild-at t) rebuild.Post rebuild-Inv-loop rebuild-μ-loop
-rebuild-loop-less t c = ?
+rebuild-loop-less t c = search needs
 
--- src/lib.rt:260:5
 rebuild-loop-again : (t : ℕ) → rebuild-lts.Need-loop-again (
   kind-of-reads.Asked,
   kind-of-reads.Learnt,
@@ -315,9 +336,12 @@ rebuild-loop-again : (t : ℕ) → rebuild-lts.Need-loop-again (
   enter-type-reads.Asked,
   enter-type-reads.Learnt,
 ) (rebuild-at t) rebuild.Post rebuild-Inv-loop rebuild-μ-loop
-rebuild-loop-again t c = ?
+rebuild-loop-again t c =
+    let a = c .before .before .before .before .before .before .before .before .before .before .before .before .before .before .before .before .before .before .before .before .before .before .before .before .before .before .before .before .before .before .before .args in
+    let l = c .before .before .before .before .before .before .before .before .before .before .before .before .before .before .before .before .before .before .before .before .loop in
+    kids-next (a .bindings) (now (a .page)) _ _ _ (a .t) (c .before .before .before .before .before .before .before .before .before .before .before .before .before .before .before .before .before .before .before .before .before .before .before .before .before .before .before .before .before .before .before .pre .1 .0) (c .before .before .before .before .before .before .before .before .before .before .before .before .before .before .before .before .before .before .before .before .before .arity .result) (c .before .before .before .before .before .before .before .before .before .before .before .before .before .before .before .before .before .before .before .before .before .arity .ensures .0) (l .i) (l .kids) (l .page) (l .offsets) (l .depths) (l .done) (l .inv) (c .before .before .before .before .before .before .before .before .before .before .before .before .before .before .before .before .before .before .before .loop-test .taken)
+    (c .before .before .before .before .before .before .before .before .before .before .before .before .before .before .before .before .child-of .result) (c .before .before .before .before .before .before .before .before .before .before .before .before .before .before .before .before .child-of .ensures .0) (c .before .before .before .before .before .before .before .before .before .before .before .substitute .result) _ _ _ _ (c .before .before .before .before .before .before .before .before .before .before .before .substitute .ensures) _ (c .before .made .given .1)
 
--- src/lib.rt:269:45
 rebuild-sub-enter-type : (t : ℕ) → rebuild-lts.Need-sub-enter-type (
   kind-of-reads.Asked,
   kind-of-reads.Learnt,
@@ -330,9 +354,8 @@ rebuild-sub-enter-type : (t : ℕ) → rebuild-lts.Need-sub-enter-type (
   enter-type-reads.Asked,
   enter-type-reads.Learnt,
 ) (rebuild-at t) rebuild.Post rebuild-Inv-loop rebuild-μ-loop
-rebuild-sub-enter-type t c = ?
+rebuild-sub-enter-type t c = search needs
 
--- src/lib.rt:269:45
 rebuild-part-enter-type-start : (t : ℕ) → rebuild-lts.Need-part-enter-type-start (
   kind-of-reads.Asked,
   kind-of-reads.Learnt,
@@ -345,9 +368,8 @@ rebuild-part-enter-type-start : (t : ℕ) → rebuild-lts.Need-part-enter-type-s
   enter-type-reads.Asked,
   enter-type-reads.Learnt,
 ) (rebuild-at t) rebuild.Post rebuild-Inv-loop rebuild-μ-loop
-rebuild-part-enter-type-start t c = ?
+rebuild-part-enter-type-start t c = search needs
 
--- src/lib.rt:269:45
 rebuild-part-enter-type-end : (t : ℕ) → rebuild-lts.Need-part-enter-type-end (
   kind-of-reads.Asked,
   kind-of-reads.Learnt,
@@ -360,9 +382,8 @@ rebuild-part-enter-type-end : (t : ℕ) → rebuild-lts.Need-part-enter-type-end
   enter-type-reads.Asked,
   enter-type-reads.Learnt,
 ) (rebuild-at t) rebuild.Post rebuild-Inv-loop rebuild-μ-loop
-rebuild-part-enter-type-end t c = ?
+rebuild-part-enter-type-end t c = search needs
 
--- src/lib.rt:269:5
 rebuild-enter-type-requires : (t : ℕ) → rebuild-lts.Need-enter-type-requires (
   kind-of-reads.Asked,
   kind-of-reads.Learnt,
@@ -375,9 +396,13 @@ rebuild-enter-type-requires : (t : ℕ) → rebuild-lts.Need-enter-type-requires
   enter-type-reads.Asked,
   enter-type-reads.Learnt,
 ) (rebuild-at t) rebuild.Post rebuild-Inv-loop rebuild-μ-loop
-rebuild-enter-type-requires t c κs = ?
+rebuild-enter-type-requires t c κs =
+    let a = c .before .before .before .before .before .before .before .before .before .before .before .before .before .before .before .before .before .args in
+    let l = c .before .before .before .before .before .before .loop in
+    (rw (sub-zero (c .before .before .before .before .before .before .before .arity .result)) (few-places (a .bindings) (now (a .page)) _ _ _ (a .t) (c .before .before .before .before .before .before .before .before .before .before .before .before .before .before .before .before .before .pre .1 .0) (c .before .before .before .before .before .before .before .arity .result) (c .before .before .before .before .before .before .before .arity .ensures .0) (l .i) (l .kids) (l .page) (l .offsets) (l .depths) (l .done) (l .inv)),
+    rw (sub-zero (c .before .before .before .before .before .before .before .arity .result)) (parent-ready (a .bindings) (now (a .page)) _ _ _ (a .t) (c .before .before .before .before .before .before .before .before .before .before .before .before .before .before .before .before .before .pre .1 .0) (c .before .before .before .before .before .before .before .arity .result) (c .before .before .before .before .before .before .before .arity .ensures .0) (l .i) (l .kids) (l .page) (l .offsets) (l .depths) (l .done) (l .inv) (c .before .before .before .before .before .loop-test .left)
+    (c .before .before .before .before .before .before .before .before .before .before .before .before .before .before .before .before .before .pre .1 .1) (c .before .before .before .before .before .before .before .before .before .before .kind-of .result) (c .before .before .before .before .before .before .before .before .before .before .kind-of .ensures)))
 
--- src/lib.rt:243:1
 rebuild-same-length-5 : (t : ℕ) → rebuild-lts.Need-same-length-5 (
   kind-of-reads.Asked,
   kind-of-reads.Learnt,
@@ -390,9 +415,12 @@ rebuild-same-length-5 : (t : ℕ) → rebuild-lts.Need-same-length-5 (
   enter-type-reads.Asked,
   enter-type-reads.Learnt,
 ) (rebuild-at t) rebuild.Post rebuild-Inv-loop rebuild-μ-loop
-rebuild-same-length-5 t c = ?
+rebuild-same-length-5 t c =
+    let a = c .before .before .before .before .before .before .before .before .before .before .before .before .before .before .before .before .before .before .before .before .before .before .before .before .args in
+    let l = c .before .before .before .before .before .before .before .before .before .before .before .before .before .loop in
+    let z = kids-size (a .bindings) (now (a .page)) _ _ _ (a .t) (c .before .before .before .before .before .before .before .before .before .before .before .before .before .before .before .before .before .before .before .before .before .before .before .before .pre .1 .0) (c .before .before .before .before .before .before .before .before .before .before .before .before .before .before .arity .result) (c .before .before .before .before .before .before .before .before .before .before .before .before .before .before .arity .ensures .0) (l .i) (l .kids) (l .page) (l .offsets) (l .depths) (l .done) (l .inv) in
+    search (needs, z)
 
--- src/lib.rt:243:1
 rebuild-same-length-6 : (t : ℕ) → rebuild-lts.Need-same-length-6 (
   kind-of-reads.Asked,
   kind-of-reads.Learnt,
@@ -405,9 +433,8 @@ rebuild-same-length-6 : (t : ℕ) → rebuild-lts.Need-same-length-6 (
   enter-type-reads.Asked,
   enter-type-reads.Learnt,
 ) (rebuild-at t) rebuild.Post rebuild-Inv-loop rebuild-μ-loop
-rebuild-same-length-6 t c = ?
+rebuild-same-length-6 t c = search (needs, c .before .before .before .before .before .before .before .before .before .before .before .before .before .loop .inv .measured .held .size, c .before .before .before .before .before .before .before .before .before .before .before .before .before .before .before .before .before .before .before .before .before .before .before .before .pre .1 .0 .measured .held .size)
 
--- src/lib.rt:243:1
 rebuild-same-length-7 : (t : ℕ) → rebuild-lts.Need-same-length-7 (
   kind-of-reads.Asked,
   kind-of-reads.Learnt,
@@ -420,9 +447,8 @@ rebuild-same-length-7 : (t : ℕ) → rebuild-lts.Need-same-length-7 (
   enter-type-reads.Asked,
   enter-type-reads.Learnt,
 ) (rebuild-at t) rebuild.Post rebuild-Inv-loop rebuild-μ-loop
-rebuild-same-length-7 t c = ?
+rebuild-same-length-7 t c = search (needs, c .before .before .before .before .before .before .before .before .before .before .before .before .before .loop .inv .measured .size, c .before .before .before .before .before .before .before .before .before .before .before .before .before .before .before .before .before .before .before .before .before .before .before .before .pre .1 .0 .measured .size)
 
--- src/lib.rt:243:1
 rebuild-same-length-8 : (t : ℕ) → rebuild-lts.Need-same-length-8 (
   kind-of-reads.Asked,
   kind-of-reads.Learnt,
@@ -435,9 +461,8 @@ rebuild-same-length-8 : (t : ℕ) → rebuild-lts.Need-same-length-8 (
   enter-type-reads.Asked,
   enter-type-reads.Learnt,
 ) (rebuild-at t) rebuild.Post rebuild-Inv-loop rebuild-μ-loop
-rebuild-same-length-8 t c = ?
+rebuild-same-length-8 t c = search (needs, c .before .before .before .before .before .before .before .before .before .before .before .before .before .loop .inv .remembered .size, c .before .before .before .before .before .before .before .before .before .before .before .before .before .before .before .before .before .before .before .before .before .before .before .before .pre .1 .0 .remembered .size)
 
--- src/lib.rt:243:1
 rebuild-returns-2 : (t : ℕ) → rebuild-lts.Need-returns-2 (
   kind-of-reads.Asked,
   kind-of-reads.Learnt,
@@ -450,9 +475,13 @@ rebuild-returns-2 : (t : ℕ) → rebuild-lts.Need-returns-2 (
   enter-type-reads.Asked,
   enter-type-reads.Learnt,
 ) (rebuild-at t) rebuild.Post rebuild-Inv-loop rebuild-μ-loop
-rebuild-returns-2 t c = ?
+rebuild-returns-2 t c =
+    let a = c .before .before .before .before .before .before .before .before .before .before .before .before .before .before .before .before .before .before .before .before .before .before .before .before .args in
+    let l = c .before .before .before .before .before .before .before .before .before .before .before .before .before .loop in
+    let e = rw (sub-zero (c .before .before .before .before .before .before .before .before .before .before .before .before .before .before .arity .result)) at (c .before .before .before .before .before .before .enter-type .ensures) in
+    parent-done (a .bindings) (now (a .page)) _ _ _ (a .t) (c .before .before .before .before .before .before .before .before .before .before .before .before .before .before .before .before .before .before .before .before .before .before .before .before .pre .1 .0) (c .before .before .before .before .before .before .before .before .before .before .before .before .before .before .arity .result) (c .before .before .before .before .before .before .before .before .before .before .before .before .before .before .arity .ensures .0) (l .i) (l .kids) (l .page) (l .offsets) (l .depths) (l .done) (l .inv) (c .before .before .before .before .before .before .before .before .before .before .before .before .loop-test .left)
+    (c .before .before .before .before .before .before .before .before .before .before .before .before .before .before .before .before .before .before .before .before .before .before .before .before .pre .1 .1) (c .before .before .before .before .before .before .before .before .before .before .before .before .before .before .before .before .before .kind-of .result) (c .before .before .before .before .before .before .before .before .before .before .before .before .before .before .before .before .before .kind-of .ensures) (c .before .before .before .before .before .before .enter-type .result) _ _ _ (e .0) (e .1) (e .2)
 
--- src/lib.rt:223:9
 substitute-kind-of-requires : (t : ℕ) → substitute-lts.Need-kind-of-requires (
   kind-of-reads.Asked,
   kind-of-reads.Learnt,
@@ -469,9 +498,10 @@ substitute-kind-of-requires : (t : ℕ) → substitute-lts.Need-kind-of-requires
   set-done-reads.Asked,
   set-done-reads.Learnt,
 ) (substitute-at t) substitute.Post
-substitute-kind-of-requires t c κs = ?
+substitute-kind-of-requires t c κs =
+    let w = c .before .before .before .before .before .before .pre .1 in
+    (w .measured .held, w .used)
 
--- src/lib.rt:225:13
 substitute-name-of-requires : (t : ℕ) → substitute-lts.Need-name-of-requires (
   kind-of-reads.Asked,
   kind-of-reads.Learnt,
@@ -488,9 +518,10 @@ substitute-name-of-requires : (t : ℕ) → substitute-lts.Need-name-of-requires
   set-done-reads.Asked,
   set-done-reads.Learnt,
 ) (substitute-at t) substitute.Post
-substitute-name-of-requires t c κs = ?
+substitute-name-of-requires t c κs =
+    let w = c .before .before .before .before .before .before .before .before .before .before .pre .1 in
+    (w .measured .held, (w .used, generic-named (kindOf (now (c .before .before .before .before .before .before .before .before .before .before .args .page)) (c .before .before .before .before .before .before .before .before .before .before .args .t)) (eq-eqb (kindOf (now (c .before .before .before .before .before .before .before .before .before .before .args .page)) (c .before .before .before .before .before .before .before .before .before .before .args .t)) generic (sym (c .before .before .before .kind-of .ensures) ∙ c .before .before .if1 .taken))))
 
--- src/lib.rt:226:25
 substitute-bound-or-requires : (t : ℕ) → substitute-lts.Need-bound-or-requires (
   kind-of-reads.Asked,
   kind-of-reads.Learnt,
@@ -507,9 +538,8 @@ substitute-bound-or-requires : (t : ℕ) → substitute-lts.Need-bound-or-requir
   set-done-reads.Asked,
   set-done-reads.Learnt,
 ) (substitute-at t) substitute.Post
-substitute-bound-or-requires t c κs = ?
+substitute-bound-or-requires t c κs = c .before .before .before .before .before .before .before .before .before .before .before .pre .1 .usable .few
 
--- src/lib.rt:226:9
 substitute-same-length : (t : ℕ) → substitute-lts.Need-same-length (
   kind-of-reads.Asked,
   kind-of-reads.Learnt,
@@ -526,9 +556,8 @@ substitute-same-length : (t : ℕ) → substitute-lts.Need-same-length (
   set-done-reads.Asked,
   set-done-reads.Learnt,
 ) (substitute-at t) substitute.Post
-substitute-same-length t c = ?
+substitute-same-length t c = search needs
 
--- src/lib.rt:226:9
 substitute-same-length-2 : (t : ℕ) → substitute-lts.Need-same-length-2 (
   kind-of-reads.Asked,
   kind-of-reads.Learnt,
@@ -545,9 +574,8 @@ substitute-same-length-2 : (t : ℕ) → substitute-lts.Need-same-length-2 (
   set-done-reads.Asked,
   set-done-reads.Learnt,
 ) (substitute-at t) substitute.Post
-substitute-same-length-2 t c = ?
+substitute-same-length-2 t c = search needs
 
--- src/lib.rt:226:9
 substitute-returns : (t : ℕ) → substitute-lts.Need-returns (
   kind-of-reads.Asked,
   kind-of-reads.Learnt,
@@ -564,9 +592,10 @@ substitute-returns : (t : ℕ) → substitute-lts.Need-returns (
   set-done-reads.Asked,
   set-done-reads.Learnt,
 ) (substitute-at t) substitute.Post
-substitute-returns t c = ?
+substitute-returns t c =
+    let a = c .before .before .before .before .before .before .before .before .before .before .before .before .args in
+    done-generic (a .bindings) (now (a .page)) _ _ _ (a .t) (c .before .before .before .before .before .before .before .before .before .before .before .before .pre .1) (c .before .before .before .before .before .kind-of .result) (c .before .before .before .before .before .kind-of .ensures) (c .before .name-of .result) (c .bound-or .result) (c .before .before .before .before .if1 .taken) (c .before .name-of .ensures) (c .bound-or .ensures)
 
--- src/lib.rt:228:9
 substitute-is-entered-requires : (t : ℕ) → substitute-lts.Need-is-entered-requires (
   kind-of-reads.Asked,
   kind-of-reads.Learnt,
@@ -583,9 +612,8 @@ substitute-is-entered-requires : (t : ℕ) → substitute-lts.Need-is-entered-re
   set-done-reads.Asked,
   set-done-reads.Learnt,
 ) (substitute-at t) substitute.Post
-substitute-is-entered-requires t c κs = ?
+substitute-is-entered-requires t c κs = search needs
 
--- src/lib.rt:229:9
 substitute-same-length-3 : (t : ℕ) → substitute-lts.Need-same-length-3 (
   kind-of-reads.Asked,
   kind-of-reads.Learnt,
@@ -602,9 +630,8 @@ substitute-same-length-3 : (t : ℕ) → substitute-lts.Need-same-length-3 (
   set-done-reads.Asked,
   set-done-reads.Learnt,
 ) (substitute-at t) substitute.Post
-substitute-same-length-3 t c = ?
+substitute-same-length-3 t c = search needs
 
--- src/lib.rt:229:9
 substitute-same-length-4 : (t : ℕ) → substitute-lts.Need-same-length-4 (
   kind-of-reads.Asked,
   kind-of-reads.Learnt,
@@ -621,9 +648,8 @@ substitute-same-length-4 : (t : ℕ) → substitute-lts.Need-same-length-4 (
   set-done-reads.Asked,
   set-done-reads.Learnt,
 ) (substitute-at t) substitute.Post
-substitute-same-length-4 t c = ?
+substitute-same-length-4 t c = search needs
 
--- src/lib.rt:229:9
 substitute-returns-2 : (t : ℕ) → substitute-lts.Need-returns-2 (
   kind-of-reads.Asked,
   kind-of-reads.Learnt,
@@ -640,9 +666,10 @@ substitute-returns-2 : (t : ℕ) → substitute-lts.Need-returns-2 (
   set-done-reads.Asked,
   set-done-reads.Learnt,
 ) (substitute-at t) substitute.Post
-substitute-returns-2 t c = ?
+substitute-returns-2 t c =
+    let a = c .before .before .before .before .before .before .before .before .before .before .args in
+    done-closed (a .bindings) (now (a .page)) _ _ _ (a .t) (c .before .before .before .before .before .before .before .before .before .before .pre .1) (c .before .before .before .kind-of .result) (c .before .before .before .kind-of .ensures) (c .before .before .if1 .left) (sym (c .before .is-entered .ensures) ∙ not-true (c .before .is-entered .result) (c .if2 .taken))
 
--- src/lib.rt:231:9
 substitute-done-at-requires : (t : ℕ) → substitute-lts.Need-done-at-requires (
   kind-of-reads.Asked,
   kind-of-reads.Learnt,
@@ -659,9 +686,11 @@ substitute-done-at-requires : (t : ℕ) → substitute-lts.Need-done-at-requires
   set-done-reads.Asked,
   set-done-reads.Learnt,
 ) (substitute-at t) substitute.Post
-substitute-done-at-requires t c κs = ?
+substitute-done-at-requires t c κs =
+    let a = c .before .before .before .before .before .before .before .before .before .before .before .args in
+    let w = c .before .before .before .before .before .before .before .before .before .before .before .pre .1 in
+    (w .remembered .size, low (a .bindings) (now (a .page)) _ _ _ (a .t) w)
 
--- src/lib.rt:233:25
 substitute-sub-t25 : (t : ℕ) → substitute-lts.Need-sub-t25 (
   kind-of-reads.Asked,
   kind-of-reads.Learnt,
@@ -678,9 +707,8 @@ substitute-sub-t25 : (t : ℕ) → substitute-lts.Need-sub-t25 (
   set-done-reads.Asked,
   set-done-reads.Learnt,
 ) (substitute-at t) substitute.Post
-substitute-sub-t25 t c = ?
+substitute-sub-t25 t c = search needs
 
--- src/lib.rt:233:9
 substitute-same-length-5 : (t : ℕ) → substitute-lts.Need-same-length-5 (
   kind-of-reads.Asked,
   kind-of-reads.Learnt,
@@ -697,9 +725,8 @@ substitute-same-length-5 : (t : ℕ) → substitute-lts.Need-same-length-5 (
   set-done-reads.Asked,
   set-done-reads.Learnt,
 ) (substitute-at t) substitute.Post
-substitute-same-length-5 t c = ?
+substitute-same-length-5 t c = search needs
 
--- src/lib.rt:233:9
 substitute-same-length-6 : (t : ℕ) → substitute-lts.Need-same-length-6 (
   kind-of-reads.Asked,
   kind-of-reads.Learnt,
@@ -716,9 +743,8 @@ substitute-same-length-6 : (t : ℕ) → substitute-lts.Need-same-length-6 (
   set-done-reads.Asked,
   set-done-reads.Learnt,
 ) (substitute-at t) substitute.Post
-substitute-same-length-6 t c = ?
+substitute-same-length-6 t c = search needs
 
--- src/lib.rt:233:9
 substitute-same-length-7 : (t : ℕ) → substitute-lts.Need-same-length-7 (
   kind-of-reads.Asked,
   kind-of-reads.Learnt,
@@ -735,9 +761,8 @@ substitute-same-length-7 : (t : ℕ) → substitute-lts.Need-same-length-7 (
   set-done-reads.Asked,
   set-done-reads.Learnt,
 ) (substitute-at t) substitute.Post
-substitute-same-length-7 t c = ?
+substitute-same-length-7 t c = search needs
 
--- src/lib.rt:233:9
 substitute-returns-3 : (t : ℕ) → substitute-lts.Need-returns-3 (
   kind-of-reads.Asked,
   kind-of-reads.Learnt,
@@ -754,9 +779,10 @@ substitute-returns-3 : (t : ℕ) → substitute-lts.Need-returns-3 (
   set-done-reads.Asked,
   set-done-reads.Learnt,
 ) (substitute-at t) substitute.Post
-substitute-returns-3 t c = ?
+substitute-returns-3 t c =
+    let a = c .before .before .before .before .before .before .before .before .before .before .before .before .before .args in
+    done-before (a .bindings) (now (a .page)) _ _ _ (a .t) (c .before .before .before .before .before .before .before .before .before .before .before .before .before .pre .1) (c .before .done-at .result) (c .before .done-at .ensures) (c .if3 .taken)
 
--- src/lib.rt:235:9
 substitute-rebuild-requires : (t : ℕ) → substitute-lts.Need-rebuild-requires (
   kind-of-reads.Asked,
   kind-of-reads.Learnt,
@@ -773,9 +799,9 @@ substitute-rebuild-requires : (t : ℕ) → substitute-lts.Need-rebuild-requires
   set-done-reads.Asked,
   set-done-reads.Learnt,
 ) (substitute-at t) substitute.Post
-substitute-rebuild-requires t c κs = ?
+substitute-rebuild-requires t c κs =
+    (omega (arith, c .before .before .before .before .before .before .before .before .before .before .before .before .before .before .before .before .before .pre .0), (c .before .before .before .before .before .before .before .before .before .before .before .before .before .before .before .before .before .pre .1, rw (← c .before .before .before .before .before .before .before .before .before .before .kind-of .ensures) (sym (c .before .before .before .before .before .before .before .before .is-entered .ensures) ∙ not-false (c .before .before .before .before .before .before .before .before .is-entered .result) (c .before .before .before .before .before .before .before .if2 .left))))
 
--- src/lib.rt:236:21
 substitute-enum-known-made : (t : ℕ) → substitute-lts.Need-enum-known-made (
   kind-of-reads.Asked,
   kind-of-reads.Learnt,
@@ -792,9 +818,8 @@ substitute-enum-known-made : (t : ℕ) → substitute-lts.Need-enum-known-made (
   set-done-reads.Asked,
   set-done-reads.Learnt,
 ) (substitute-at t) substitute.Post
-substitute-enum-known-made t c = ?
+substitute-enum-known-made t c = search needs
 
--- src/lib.rt:237:9
 substitute-set-done-requires : (t : ℕ) → substitute-lts.Need-set-done-requires (
   kind-of-reads.Asked,
   kind-of-reads.Learnt,
@@ -811,7 +836,10 @@ substitute-set-done-requires : (t : ℕ) → substitute-lts.Need-set-done-requir
   set-done-reads.Asked,
   set-done-reads.Learnt,
 ) (substitute-at t) substitute.Post
-substitute-set-done-requires t c κs = ?
+substitute-set-done-requires t c κs =
+    let a = c .before .before .before .before .before .before .before .before .before .before .before .before .before .before .before .before .before .before .before .before .before .before .before .before .before .before .before .before .before .before .args in
+    let w = c .before .before .before .before .before .before .before .before .before .before .before .before .before .before .before .before .before .before .before .before .before .before .before .before .before .before .before .before .before .before .pre .1 in
+    (search (needs, c .before .before .before .before .before .before .before .before .before .before .before .before .rebuild .ensures .1 .1 .size), low (a .bindings) (now (a .page)) _ _ _ (a .t) w, done-low (a .bindings) (now (a .page)) _ _ _ (a .t) w _ _ _ _ (c .before .before .before .before .before .before .before .before .before .before .before .before .rebuild .result) (c .before .before .before .before .before .before .before .before .before .before .before .before .rebuild .ensures) _ (c .before .before .made .given .1))
 
 substitute-enum-told : (t : ℕ) → substitute-lts.Need-enum-told (
   kind-of-reads.Asked,
@@ -829,9 +857,8 @@ substitute-enum-told : (t : ℕ) → substitute-lts.Need-enum-told (
   set-done-reads.Asked,
   set-done-reads.Learnt,
 ) (substitute-at t) substitute.Post
-substitute-enum-told t c = ?
+substitute-enum-told t c = search needs
 
--- src/lib.rt:211:1
 substitute-same-length-8 : (t : ℕ) → substitute-lts.Need-same-length-8 (
   kind-of-reads.Asked,
   kind-of-reads.Learnt,
@@ -848,9 +875,8 @@ substitute-same-length-8 : (t : ℕ) → substitute-lts.Need-same-length-8 (
   set-done-reads.Asked,
   set-done-reads.Learnt,
 ) (substitute-at t) substitute.Post
-substitute-same-length-8 t c = ?
+substitute-same-length-8 t c = search needs
 
--- src/lib.rt:211:1
 substitute-same-length-9 : (t : ℕ) → substitute-lts.Need-same-length-9 (
   kind-of-reads.Asked,
   kind-of-reads.Learnt,
@@ -867,9 +893,8 @@ substitute-same-length-9 : (t : ℕ) → substitute-lts.Need-same-length-9 (
   set-done-reads.Asked,
   set-done-reads.Learnt,
 ) (substitute-at t) substitute.Post
-substitute-same-length-9 t c = ?
+substitute-same-length-9 t c = search needs
 
--- src/lib.rt:211:1
 substitute-same-length-10 : (t : ℕ) → substitute-lts.Need-same-length-10 (
   kind-of-reads.Asked,
   kind-of-reads.Learnt,
@@ -886,9 +911,8 @@ substitute-same-length-10 : (t : ℕ) → substitute-lts.Need-same-length-10 (
   set-done-reads.Asked,
   set-done-reads.Learnt,
 ) (substitute-at t) substitute.Post
-substitute-same-length-10 t c = ?
+substitute-same-length-10 t c = search needs
 
--- src/lib.rt:211:1
 substitute-same-length-11 : (t : ℕ) → substitute-lts.Need-same-length-11 (
   kind-of-reads.Asked,
   kind-of-reads.Learnt,
@@ -905,9 +929,8 @@ substitute-same-length-11 : (t : ℕ) → substitute-lts.Need-same-length-11 (
   set-done-reads.Asked,
   set-done-reads.Learnt,
 ) (substitute-at t) substitute.Post
-substitute-same-length-11 t c = ?
+substitute-same-length-11 t c = search needs
 
--- src/lib.rt:211:1
 substitute-returns-4 : (t : ℕ) → substitute-lts.Need-returns-4 (
   kind-of-reads.Asked,
   kind-of-reads.Learnt,
@@ -924,9 +947,11 @@ substitute-returns-4 : (t : ℕ) → substitute-lts.Need-returns-4 (
   set-done-reads.Asked,
   set-done-reads.Learnt,
 ) (substitute-at t) substitute.Post
-substitute-returns-4 t c = ?
+substitute-returns-4 t c =
+    let a = c .before .before .before .before .before .before .before .before .before .before .before .before .before .before .before .before .before .before .before .before .before .before .before .before .before .before .before .before .before .before .before .before .before .args in
+    rw (c .before .before .set-done .ensures)
+    (done-noted (a .bindings) (now (a .page)) _ _ _ (a .t) (c .before .before .before .before .before .before .before .before .before .before .before .before .before .before .before .before .before .before .before .before .before .before .before .before .before .before .before .before .before .before .before .before .before .pre .1) _ _ _ _ _ (rw (c .before .before .before .before .before .made .given .1) at (c .before .before .before .before .before .before .before .before .before .before .before .before .before .before .before .rebuild .ensures)))
 
--- src/lib.rt:211:1
 substitute-same-length-12 : (t : ℕ) → substitute-lts.Need-same-length-12 (
   kind-of-reads.Asked,
   kind-of-reads.Learnt,
@@ -943,9 +968,8 @@ substitute-same-length-12 : (t : ℕ) → substitute-lts.Need-same-length-12 (
   set-done-reads.Asked,
   set-done-reads.Learnt,
 ) (substitute-at t) substitute.Post
-substitute-same-length-12 t c = ?
+substitute-same-length-12 t c = search needs
 
--- src/lib.rt:211:1
 substitute-same-length-13 : (t : ℕ) → substitute-lts.Need-same-length-13 (
   kind-of-reads.Asked,
   kind-of-reads.Learnt,
@@ -962,9 +986,8 @@ substitute-same-length-13 : (t : ℕ) → substitute-lts.Need-same-length-13 (
   set-done-reads.Asked,
   set-done-reads.Learnt,
 ) (substitute-at t) substitute.Post
-substitute-same-length-13 t c = ?
+substitute-same-length-13 t c = search needs
 
--- src/lib.rt:211:1
 substitute-same-length-14 : (t : ℕ) → substitute-lts.Need-same-length-14 (
   kind-of-reads.Asked,
   kind-of-reads.Learnt,
@@ -981,9 +1004,8 @@ substitute-same-length-14 : (t : ℕ) → substitute-lts.Need-same-length-14 (
   set-done-reads.Asked,
   set-done-reads.Learnt,
 ) (substitute-at t) substitute.Post
-substitute-same-length-14 t c = ?
+substitute-same-length-14 t c = search needs
 
--- src/lib.rt:211:1
 substitute-same-length-15 : (t : ℕ) → substitute-lts.Need-same-length-15 (
   kind-of-reads.Asked,
   kind-of-reads.Learnt,
@@ -1000,9 +1022,8 @@ substitute-same-length-15 : (t : ℕ) → substitute-lts.Need-same-length-15 (
   set-done-reads.Asked,
   set-done-reads.Learnt,
 ) (substitute-at t) substitute.Post
-substitute-same-length-15 t c = ?
+substitute-same-length-15 t c = search needs
 
--- src/lib.rt:211:1
 substitute-returns-5 : (t : ℕ) → substitute-lts.Need-returns-5 (
   kind-of-reads.Asked,
   kind-of-reads.Learnt,
@@ -1019,7 +1040,7 @@ substitute-returns-5 : (t : ℕ) → substitute-lts.Need-returns-5 (
   set-done-reads.Asked,
   set-done-reads.Learnt,
 ) (substitute-at t) substitute.Post
-substitute-returns-5 t c = ?
+substitute-returns-5 t c = search needs
 
 pub +rebuild+substitute-spec : {M : Type 1} → statement M
 +rebuild+substitute-spec = close μ-rebuild μ-substitute (λ t. rebuild-lts.spec (
@@ -1113,3 +1134,19 @@ pub +rebuild+substitute-spec : {M : Type 1} → statement M
     (substitute-same-length-14 t)
     (substitute-same-length-15 t)
     (substitute-returns-5 t)
+abbrev rebuild-claims : ℕ → rebuild-lts.Claims
+rebuild-claims t =
+    (kind-of-reads.Asked, kind-of-reads.Learnt, arity-reads.Asked, arity-reads.Learnt, child-of-reads.Asked, child-of-reads.Learnt, substitute-below t, substitute.Post, enter-type-reads.Asked, enter-type-reads.Learnt)
+
+-- what a need or a place of `rebuild` is at the measure t
+abbrev rebuild-need : (rebuild-lts.Claims → In 4 rebuild-kinds.ps → Out 4 rebuild-kinds.ps rebuild-kinds.r → rebuild-lts.InvT-loop → rebuild-lts.MeasureT-loop → Type 0) → ℕ → Type 0
+rebuild-need N t = N (rebuild-claims t) (rebuild-at t) rebuild.Post rebuild-Inv-loop rebuild-μ-loop
+
+abbrev substitute-claims : ℕ → substitute-lts.Claims
+substitute-claims t =
+    (kind-of-reads.Asked, kind-of-reads.Learnt, name-of-reads.Asked, name-of-reads.Learnt, bound-or-reads.Asked, bound-or-reads.Learnt, is-entered-reads.Asked, is-entered-reads.Learnt, done-at-reads.Asked, done-at-reads.Learnt, rebuild-below t, rebuild.Post, set-done-reads.Asked, set-done-reads.Learnt)
+
+-- what a need or a place of `substitute` is at the measure t
+abbrev substitute-need : (substitute-lts.Claims → In 4 substitute-kinds.ps → Out 4 substitute-kinds.ps substitute-kinds.r → Type 0) → ℕ → Type 0
+substitute-need N t = N (substitute-claims t) (substitute-at t) substitute.Post
+

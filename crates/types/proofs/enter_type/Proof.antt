@@ -1,0 +1,58 @@
+-- `types::enter_type` meets its contract. Assumes nothing.
+use mathlib.Core.Path.{_≡_, _∙_}
+use Prim.Native.Nat.{_≤_}
+use lib.ListN.{length, take}
+use denote.Ref.{now}
+use Rattle.types.specs.Making.{entryOf}
+use Rattle.types.proofs.Entries.{entry-places, entry-front}
+use borrow.Author.Needs.{needs}
+use Rattle.types.proofs.enter_type.Statement.{statement}
+use Rattle.types.proofs.enter_type.Tie as tie
+
+entry-of-requires : tie.Need-entry-of-requires
+entry-of-requires c κs = search needs
+
+sub-enter : tie.Need-sub-enter
+sub-enter c = search needs
+
+part-enter-start : tie.Need-part-enter-start
+part-enter-start c = search needs
+
+part-enter-end : tie.Need-part-enter-end
+part-enter-end c =
+    let a = c .before .before .before .before .before .before .before .before .before .before .args in
+    entry-places (entryOf (a .kind) (now (a .children)) (a .name)) (c .before .before .before .before .before .entry-of .result .bytes) (c .before .before .before .before .before .entry-of .result .size) (c .before .before .before .before .before .entry-of .ensures)
+
+enter-requires : tie.Need-enter-requires
+enter-requires c κs =
+    let a = c .before .before .before .before .before .before .before .before .before .before .before .args in
+    rw (entry-front (entryOf (a .kind) (now (a .children)) (a .name)) (c .before .before .before .before .before .before .entry-of .result .bytes) (c .before .before .before .before .before .before .entry-of .result .size) (c .before .before .before .before .before .before .entry-of .ensures)) (c .before .before .before .before .before .before .before .before .before .before .before .pre .1)
+
+same-length : tie.Need-same-length
+same-length c = search needs
+
+same-length-2 : tie.Need-same-length-2
+same-length-2 c = search needs
+
+same-length-3 : tie.Need-same-length-3
+same-length-3 c = search needs
+
+returns : tie.Need-returns
+returns c =
+    let a = c .before .before .before .before .before .before .before .before .before .before .before .before .before .before .before .before .before .before .args in
+    let e = entry-front (entryOf (a .kind) (now (a .children)) (a .name)) (c .before .before .before .before .before .before .before .before .before .before .before .before .before .entry-of .result .bytes) (c .before .before .before .before .before .before .before .before .before .before .before .before .before .entry-of .result .size) (c .before .before .before .before .before .before .before .before .before .before .before .before .before .entry-of .ensures) in
+    rw e at (c .before .before .before .before .before .before .enter .ensures)
+
+pub enter-type-spec : {M : Type 1} → statement M
+enter-type-spec =
+    tie.close
+    (tie.spec
+    entry-of-requires
+    sub-enter
+    part-enter-start
+    part-enter-end
+    enter-requires
+    same-length
+    same-length-2
+    same-length-3
+    returns)
