@@ -73,6 +73,12 @@ module _ (page : List ℕ) (rule : ℕ → ℕ → Bool) (a b i x y : ℕ) (ex :
       go false false e = refl
 
 module _ (page : List ℕ) (f : Formed page) (a : ℕ) (u : a < typesIn page) (b : ℕ) where
+  array-child : both isArray page a b ≡ true → 0 < arity page a
+  array-child e = let h = and-true (isArray (kindOf page a)) _ e .0 in omega (arith, one-child page f a u 19 20 (omega arith) (omega arith) h)
+
+  map-child : both isMap page a b ≡ true → (i : ℕ) → i < 2 → i < arity page a
+  map-child e i l = omega (arith, two-children page f a u (and-true (isMap (kindOf page a)) _ e .0))
+
   -- the answers for the children are those below
   module _ (rule : ℕ → ℕ → Bool) where
     abbrev lower : ℕ → ℕ → Bool
@@ -85,11 +91,7 @@ module _ (page : List ℕ) (f : Formed page) (a : ℕ) (u : a < typesIn page) (b
     unfolding arrayElision
     array-lower =
         cond-cong (both isArray page a b) _ _ _ _
-        (λ e. elided-cong page lower rule a b 0 (lower-child 0 (omega (
-          arith,
-          one-child page f a u 19 20 (omega arith) (omega arith)
-              (and-true (isArray (kindOf page a)) _ e .0),
-        )) _))
+        (λ e. elided-cong page lower rule a b 0 (lower-child 0 (array-child e) _))
         (ap (λ (r : Bool). both isTuple page a b && r)
         (all-cong (elided page lower a b) (elided page rule a b) (smaller (arity page a) (arity page b))
         (λ i l. elided-cong page lower rule a b i (lower-child i (omega (arith, smaller-left (arity page a) (arity page b))) _))))
@@ -101,7 +103,7 @@ module _ (page : List ℕ) (f : Formed page) (a : ℕ) (u : a < typesIn page) (b
         (λ e. all-cong (elided page (partRule page lower) a b) (elided page (partRule page rule) a b) 2
         (λ i l. elided-cong page (partRule page lower) (partRule page rule) a b i
         (ap (λ (r : Bool). nullArrayElision page (childOf page a i) (childOf page b i) || r)
-        (lower-child i (omega (arith, two-children page f a u (and-true (isMap (kindOf page a)) _ e .0))) _))))
+        (lower-child i (map-child e i l) _))))
 
   pub array-eq : nullArrayElision page a b ≡ arrayElision page (nullArrayElision page) a b
   unfolding nullArrayElision

@@ -20,6 +20,7 @@ use Rattle.matching.specs.Matching.{wild, plainMatches, anyRule, knownMa
 use Rattle.matching.specs.declared.Checked.{Checked}
 use Rattle.matching.specs.declared.Checked.the-variants.{Known, Unknown, Function}
 use Rattle.matching.proofs.Checked.{the-type}
+pub use Rattle.matching.proofs.Elision.{array-eq, map-eq}
 
 -- ---- the equation of matching
 

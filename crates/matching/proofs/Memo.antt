@@ -20,7 +20,7 @@ use Rattle.matching.specs.Memo.{slots, findings, slot, code, Noted, foun
 pub in-use-small : (page : List ℕ) → Formed page → (t : ℕ) → t < typesIn page → t < typesMax
 in-use-small page f t u = omega (arith, whole page (f .names) (f .form) .few)
 
-pub slot-inside : (a b : ℕ) → slot a b < slots
+slot-inside : (a b : ℕ) → slot a b < slots
 unfolding slot
 slot-inside a b = omega arith
 

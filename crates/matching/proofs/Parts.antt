@@ -1,6 +1,6 @@
 -- What a type's kind says of its parts. Assumes nothing.
 use mathlib.Core.Path.{_≡_, refl}
-use mathlib.Core.Bool.{true}
+use mathlib.Core.Bool.{true, false}
 use mathlib.Core.List.{List}
 use Prim.Native.Nat.{ℕ, _<_, _≤_}
 use native.Mathlib.Omega.{arith}
@@ -38,8 +38,8 @@ module _ (page : List ℕ) (f : Formed page) (t : ℕ) (u : t < typesIn page) wh
       let d = and-true (leb x (kindOf page t)) (leb (kindOf page t) y) h in
       let k = leb-true (kindOf page t) y (d .1) in
       let w = arity-within page f t u in
-      let p : (1 ≤ arity page t) × (arity page t ≤ 1) =
-      rw (lt-leb 25 (kindOf page t) (omega arith), within-wider x y 19 24 (kindOf page t) l m h) at w in
+      let low : leb 25 (kindOf page t) ≡ false = lt-leb 25 (kindOf page t) (omega arith) in
+      let p : (1 ≤ arity page t) × (arity page t ≤ 1) = rw (low, within-wider x y 19 24 (kindOf page t) l m h) at w in
       omega (arith, p .0, p .1)
 
   -- and a map has two

@@ -386,11 +386,9 @@ pub fn matches(
 
 // Whether a type stands for a union: a union if every member of its own matches some expected one, else if it matches some member.
 pub fn any_matches(page: &[u8], offsets: &[usize], memo: &mut [usize], a: usize, b: usize) -> bool
-    requires { ⌜ Held (now page) (now offsets) ⌝ }
+    requires { ⌜ Held (now page) (now offsets) × Noted (Found (now page)) (now memo) ⌝ }
     requires { ⌜ (a < typesIn (now page)) × (b < typesIn (now page)) ⌝ }
-    requires { ⌜ Noted (Found (now page)) (now memo) ⌝ }
-    ensures { λ r. ⌜ r ≡ anyMatches (now (page .entry)) a b ⌝ }
-    ensures { λ _. ⌜ Noted (Found (now (page .entry))) (now (memo .exit)) ⌝ }
+    ensures { λ r. ⌜ (r ≡ anyMatches (now (page .entry)) a b) × Noted (Found (now (page .entry))) (now (memo .exit)) ⌝ }
 {
     if !kinds::is_union(kind_of(page, offsets, b)) {
         return false;

@@ -134,7 +134,7 @@ any-matches-returns t c =
     let a = start .args in
     let u : isUnion (kindOf (now (a .page)) (a .b)) ≡ false = rw (← c .before .before .kind-of .ensures)
     (sym (is-union .ensures) ∙ not-true (is-union .result) (c .if1 .taken)) in
-    (any-no (now (a .page)) (a .a) (a .b) u, start .pre .1 .1 .1)
+    (any-no (now (a .page)) (a .a) (a .b) u, start .pre .1 .0 .1)
 
 any-matches-arity-requires : (t : ℕ) → any-matches-need any-matches-lts.Need-arity-requires t
 any-matches-arity-requires t c κs = search needs
@@ -148,7 +148,7 @@ any-matches-is-union-requires-2 t c κs = search needs
 any-matches-loop-holds : (t : ℕ) → any-matches-need any-matches-lts.Need-loop-holds t
 any-matches-loop-holds t c =
     let start = c .before .before .before .before .before .before .before .before .before .before in
-    (search needs, start .pre .1 .1 .1, any-none _)
+    (search needs, start .pre .1 .0 .1, any-none _)
 
 any-matches-child-of-requires : (t : ℕ) → any-matches-need any-matches-lts.Need-child-of-requires t
 any-matches-child-of-requires t c κs = search needs
@@ -160,15 +160,15 @@ any-matches-matches-requires t c κs =
     let a = start .args in
     let p = start .pre in
     let e = c .before .child-of in
-    let u = in-use-known (now (a .page)) (a .a) (p .1 .1 .0 .0) in
-    let v = in-use-known (now (a .page)) (e .result) (omega (arith, e .ensures .1, p .1 .1 .0 .1)) in
-    (omega (arith, p .0, e .ensures .1), (p .1 .0, ((u, v), loop .inv .1)))
+    let u = in-use-known (now (a .page)) (a .a) (p .1 .1 .0) in
+    let v = in-use-known (now (a .page)) (e .result) (omega (arith, e .ensures .1, p .1 .1 .1)) in
+    (omega (arith, p .0, e .ensures .1), (p .1 .0 .0, ((u, v), loop .inv .1)))
 
 any-matches-same-length : (t : ℕ) → any-matches-need any-matches-lts.Need-same-length t
 any-matches-same-length t c =
     let start = c .before .before .before .before .before .before .before .before .before .before .before .before .before .before .before .before .before .before in
     let matches = c .before .before .before .matches in
-    matches .ensures .1 .size ∙ sym (start .pre .1 .1 .1 .size)
+    matches .ensures .1 .size ∙ sym (start .pre .1 .0 .1 .size)
 
 any-matches-returns-2 : (t : ℕ) → any-matches-need any-matches-lts.Need-returns-2 t
 any-matches-returns-2 t c =
@@ -206,7 +206,7 @@ any-matches-loop-again t c =
 any-matches-same-length-2 : (t : ℕ) → any-matches-need any-matches-lts.Need-same-length-2 t
 any-matches-same-length-2 t c =
     let start = c .before .before .before .before .before .before .before .before .before .before .before .before in
-    c .before .loop .inv .1 .size ∙ sym (start .pre .1 .1 .1 .size)
+    c .before .loop .inv .1 .size ∙ sym (start .pre .1 .0 .1 .size)
 
 any-matches-returns-3 : (t : ℕ) → any-matches-need any-matches-lts.Need-returns-3 t
 any-matches-returns-3 t c =
@@ -224,7 +224,7 @@ any-matches-arity-requires-2 t c κs = search needs
 any-matches-members-holds : (t : ℕ) → any-matches-need any-matches-lts.Need-members-holds t
 any-matches-members-holds t c =
     let start = c .before .before .before .before .before .before .before .before .before .before .before in
-    (search needs, start .pre .1 .1 .1, all-none _)
+    (search needs, start .pre .1 .0 .1, all-none _)
 
 any-matches-child-of-requires-2 : (t : ℕ) → any-matches-need any-matches-lts.Need-child-of-requires-2 t
 any-matches-child-of-requires-2 t c κs = search needs
@@ -244,9 +244,9 @@ any-matches-matches-requires-2 t c κs =
     let p = start .pre in
     let m = c .before .before .before .before .child-of2 in
     let e = c .before .child-of3 in
-    let u = in-use-known (now (a .page)) (m .result) (omega (arith, m .ensures .1, p .1 .1 .0 .0)) in
-    let v = in-use-known (now (a .page)) (e .result) (omega (arith, e .ensures .1, p .1 .1 .0 .1)) in
-    (omega (arith, p .0, e .ensures .1), (p .1 .0, ((u, v), loop2 .inv .1)))
+    let u = in-use-known (now (a .page)) (m .result) (omega (arith, m .ensures .1, p .1 .1 .0)) in
+    let v = in-use-known (now (a .page)) (e .result) (omega (arith, e .ensures .1, p .1 .1 .1)) in
+    (omega (arith, p .0, e .ensures .1), (p .1 .0 .0, ((u, v), loop2 .inv .1)))
 
 any-matches-add-j-2 : (t : ℕ) → any-matches-need any-matches-lts.Need-add-j-2 t
 any-matches-add-j-2 t c = search needs
@@ -294,7 +294,7 @@ any-matches-members-again t c =
 any-matches-same-length-3 : (t : ℕ) → any-matches-need any-matches-lts.Need-same-length-3 t
 any-matches-same-length-3 t c =
     let start = c .before .before .before .before .before .before .before .before .before .before .before .before .before in
-    let z = sym (start .pre .1 .1 .1 .size) in
+    let z = sym (start .pre .1 .0 .1 .size) in
     ⊎-elim (λ o. rw (o .1) (c .before .members .inv .1 .size ∙ z)) (λ o. rw (o .4) (o .2 .inv .1 .size ∙ z)) (c .members-test .came)
 
 any-matches-returns-4 : (t : ℕ) → any-matches-need any-matches-lts.Need-returns-4 t
@@ -497,7 +497,7 @@ matches-any-matches-requires t c κs =
     let start = known .before .before .before .before .before .before .before .before .before .before .before in
     let k = both-known t known in
     let w : 2 * known .before .expected .given .0 .0 + 1 ≡ t = rw (known .before .expected .given .1) at (start .pre .0) in
-    (omega (arith, w), (start .pre .1 .0, ((k .0, k .1), plain-matches .ensures .1)))
+    (omega (arith, w), ((start .pre .1 .0, plain-matches .ensures .1), (k .0, k .1)))
 
 matches-note-any-requires : (t : ℕ) → matches-need matches-lts.Need-note-any-requires t
 matches-note-any-requires t c κs =
