@@ -2,19 +2,19 @@
 use mathlib.Core.Path.{_≡_, refl, sym, _∙_, ap}
 use mathlib.Core.Bool.{Bool, true, false, _&&_, _||_, not, cond}
 use mathlib.Core.List.{List, [], _∷_, _++_}
-use Prim.Native.Nat.{ℕ, zero, suc, _+_, _*_, _/_, _%_, _<_, _≤_}
-use native.Mathlib.Nat.{not-suc-le-zero, le-of-suc-le-suc, div-add-mod'}
+use Prim.Native.Nat.{ℕ, zero, suc, _+_, _-_, _*_, _/_, _%_, _<_, _≤_}
+use native.Mathlib.Nat.{sub-zero, not-suc-le-zero, le-of-suc-le-suc, div-add-mod'}
 use native.Mathlib.Numerals.{add-one}
 use native.Mathlib.Omega.{arith}
-use lib.Dec.{ltb, leb, eqb}
-use lib.ListN.{length, getD, take, replicate}
-use lib.Seq.{take-suc, take-length, length-take-le}
-use borrow.Author.Tests.{lt-ltb, ltb-true}
+use lib.Dec.{ltb, eqb}
+use lib.ListN.{length, getD, take, drop, replicate, drop-of-length-le}
+use lib.Seq.{drop-cons, take-suc, take-length, length-take-le}
+use borrow.Author.Tests.{lt-ltb, le-ltb}
 use Rattle.pages.specs.Bytes.{within, wordAt, bytesOf, put}
 use Rattle.pages.specs.Pad.{pad}
 use Rattle.pages.proofs.Quant.{and-true, all-each}
 use Rattle.pages.proofs.Put.{put-none, put-append}
-use Rattle.pages.proofs.Pad.{put-pad}
+use Rattle.pages.proofs.Pad.{length-pad, put-pad, pad-front}
 use Rattle.kinds.specs.Kinds.{childrenMax, isNamed, isStored, fewest, most}
 use Rattle.types.specs.Store.{headBytes, childBytes, nameBytes, childrenAt, kindAt, childAt, nameAt, sizeAt, isBelow, childrenBelow, partsAt}
 use Rattle.types.specs.Making.{words, entryOf, entryMax}
@@ -59,6 +59,30 @@ module _ (l cs : List ℕ) (room : headBytes + childBytes * length cs ≤ length
 
   pub words-all : (i : ℕ) → i ≡ length cs → put l headBytes (words (take i cs)) ≡ put l headBytes (words cs)
   words-all i e = rw (e, take-length cs) refl
+
+-- ---- children below t
+
+below-at : (cs : List ℕ) (t : ℕ) → allBelow t cs ≡ true → (i : ℕ) → i < length cs → ltb (getD cs i 0) t ≡ true
+below-at [] t u i l = absurd (not-suc-le-zero l)
+below-at (c ∷ cs) t u zero l = and-true (ltb c t) (allBelow t cs) u .0
+below-at (c ∷ cs) t u (suc i) l = below-at cs t (and-true (ltb c t) (allBelow t cs) u .1) i (le-of-suc-le-suc l)
+
+module _ (cs : List ℕ) (t i : ℕ) (l : i < length cs) where
+  pub below-on : getD cs i 0 < t → allBelow t (drop i cs) ≡ allBelow t (drop (i + 1) cs)
+  below-on h = rw (drop-cons cs i 0 l, add-one i, lt-ltb (getD cs i 0) t h) refl
+
+  pub below-off : t ≤ getD cs i 0 → allBelow t (drop i cs) ≡ false
+  below-off h = rw (drop-cons cs i 0 l, le-ltb (getD cs i 0) t h) refl
+
+pub below-end : (cs : List ℕ) (t i : ℕ) → length cs ≤ i → allBelow t (drop i cs) ≡ true
+below-end cs t i h = rw (drop-of-length-le cs h) refl
+
+-- the front of an entry's places is the entry
+pub entry-front : (e bytes : List ℕ) (size : ℕ) → (bytes ≡ pad entryMax 0 e) × (size ≡ length e) × (size ≤ entryMax) → take (size - 0) bytes ≡ e
+entry-front e bytes size h = rw (sub-zero, h .0) (pad-front entryMax e size (sym (h .1)) (h .2))
+
+pub entry-places : (e bytes : List ℕ) (size : ℕ) → (bytes ≡ pad entryMax 0 e) × (size ≡ length e) × (size ≤ entryMax) → size ≤ length bytes
+entry-places e bytes size h = omega (arith, ap length (h .0) ∙ length-pad entryMax 0 e, h .2)
 
 -- ---- an entry
 
@@ -120,3 +144,17 @@ module _ (k : ℕ) (cs : List ℕ) (m : ℕ) where
       go : (b : Bool) → isNamed k ≡ b → headBytes + cond b nameBytes (childBytes * childrenAt (entryOf k cs m) 0) ≡ length (entryOf k cs m)
       go true e = named-size e
       go false e = rw (entry-children e) (other-size e)
+
+  -- with its parts: a kind that is stored, children below t or a name of n, and as many children as the kind has
+  module _ (n t : ℕ) (s : isStored k ≡ true) (u : allBelow t cs ≡ true) (v : (not (isNamed k) || ltb m n) ≡ true)
+      (w : within (fewest k) (most k) (length cs) ≡ true) where
+    pub entry-parts : partsAt (entryOf k cs m) n t 0 ≡ true
+    unfolding partsAt
+    entry-parts = rw (entry-kind, s) (go (isNamed k) refl)
+      where
+        go : (b : Bool) → isNamed k ≡ b → cond b (eqb (childrenAt (entryOf k cs m) 0) 0 && ltb (nameAt (entryOf k cs m) 0) n)
+            (within (fewest k) (most k) (childrenAt (entryOf k cs m) 0) && childrenBelow (entryOf k cs m) 0 t) ≡ true
+        go true e = rw (entry-childless e, entry-name e) (rw e at v)
+        go false e =
+            rw (entry-children e, w)
+            (all-each (length cs) (isBelow (entryOf k cs m) 0 t) (λ i l. rw (entry-child e i l) (below-at cs t u i l)))

@@ -7,4 +7,5 @@ pub mod Grown
 pub mod Making
 pub mod Entries
 pub mod Calls
+pub mod Reading
 pub mod Fresh
