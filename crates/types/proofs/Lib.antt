@@ -8,4 +8,5 @@ pub mod Making
 pub mod Entries
 pub mod Calls
 pub mod Reading
+pub mod Const
 pub mod Fresh

@@ -20,7 +20,7 @@ ghost use Rattle.kinds.specs.Kinds.{fixedMax, childrenMax, isNamed, fewest, mos
 ghost use Rattle.types.specs.Store.{entriesMax, headBytes, childBytes, childrenAt, sizeAt, offset, depthIn, larger, depthAt, isBelow, childrenBelow, partsAt, equalTo, goodAt, formed, Reached};
 ghost use Rattle.types.specs.Types.{typesIn, kindOf, arity, childOf, nameOf, Held, Measured};
 ghost use Rattle.types.specs.Making.{words, entryOf, entryMax, Ready, enterAnswer, enterPage};
-ghost use Rattle.types.specs.Calls.{emptyVerdict, emptyPage, allBelow, partsUsed, makeAnswer, makePage, listTo, typeAt, shown, readAnswer};
+ghost use Rattle.types.specs.Calls.{emptyVerdict, emptyPage, allBelow, partsUsed, makeAnswer, makePage, listTo, typeAt, shown, readAnswer, constEntry, constAnswer, constPage};
 
 // How many types there can be.
 pub const TYPES: usize = 4096;
@@ -576,4 +576,47 @@ pub fn read_type(page: &[u8], names: &[u8], lent: bool, t: usize) -> TypeRead
         verdict: Verdict::Passed,
         shape: shape_of(page, &offsets, &depths, t),
     }
+}
+
+// Writes another kind into an entry.
+fn set_kind(bytes: &mut [u8], kind: Kind)
+    requires { ⌜ headBytes ≤ length (now bytes) ⌝ }
+    ensures { λ _. ⌜ now (bytes .exit) ≡ set (now (bytes .entry)) 1 kind ⌝ }
+{
+    bytes[1] = kind;
+}
+
+// The entry of a type that is not fixed, under its const kind.
+fn const_entry(page: &[u8], offsets: &[usize], t: usize) -> Entry
+    requires { ⌜ Held (now page) (now offsets) ⌝ }
+    requires { ⌜ (fixedMax ≤ t) × (t < typesIn (now page)) ⌝ }
+    ensures { λ r. ⌜ (r .bytes ≡ pad entryMax 0 (constEntry (now (page .entry)) t)) × (r .size ≡ length (constEntry (now (page .entry)) t)) × (r .size ≤ entryMax) ⌝ }
+{
+    let at = offset_of(offsets, t);
+    let size = entry_size(page, at);
+    let mut bytes = no_bytes();
+    pages::put_bytes(&mut bytes, 0, &page[at..at + size]);
+    set_kind(&mut bytes, kinds::const_variant(page[at + 1]));
+    Entry { bytes, size }
+}
+
+// A type's const form, in a store that an entry call found in form (`checked::into_const` tests it): the number of its equal, else the
+// next. The tables grow with it.
+pub fn const_form(
+    page: &mut [u8],
+    offsets: &mut [usize],
+    depths: &mut [u8],
+    t: usize,
+) -> Made
+    requires { ⌜ Measured (now page) (now offsets) (now depths) ⌝ }
+    requires { ⌜ t < typesIn (now page) ⌝ }
+    ensures { λ r. ⌜ (r ≡ constAnswer (now (page .entry)) t) × (now (page .exit) ≡ constPage (now (page .entry)) t) × (Measured (now (page .exit)) (now (offsets .exit)) (now (depths .exit))) ⌝ }
+{
+    if t < FIXED {
+        return Made::At(index(kinds::const_variant(t as u8)));
+    }
+    let entry = const_entry(page, offsets, t);
+    let bytes = entry.bytes;
+    let size = entry.size;
+    enter(page, offsets, depths, &bytes[0..size])
 }
