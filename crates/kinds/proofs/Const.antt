@@ -1,15 +1,16 @@
--- Const forms, one law for each return. Assumes nothing.
+-- Const forms: one law for each return, and what they have of their kinds. Assumes nothing.
 use mathlib.Core.Path.{_≡_, refl, sym, _∙_, ap}
-use mathlib.Core.Bool.{Bool, true, false, _&&_, _||_}
+use mathlib.Core.Bool.{Bool, true, false, _&&_, _||_, not, cond}
 use Prim.Native.Nat.{ℕ, _+_, _-_, _%_, _<_, _≤_}
 use native.Mathlib.Decide.{ℕ-discrete}
 use native.Mathlib.Omega.{arith}
 use lib.Dec.{eqb, leb}
-use borrow.Author.Tests.{eq-eqb, ne-eqb, leb-true}
+use borrow.Author.Tests.{eq-eqb, ne-eqb, eqb-true, leb-true}
+use Rattle.pages.specs.Quant.{allTo}
 use Rattle.pages.specs.Bytes.{within}
-use Rattle.pages.proofs.Quant.{and-true}
+use Rattle.pages.proofs.Quant.{and-true, all-at}
 use Rattle.pages.proofs.Bytes.{and-false}
-use Rattle.kinds.specs.Kinds.{isPlain, constVariant, constMatches}
+use Rattle.kinds.specs.Kinds.{fixedMax, kindLast, isNamed, isStored, fewest, most, isPlain, constVariant, constMatches}
 
 -- ---- the next code
 
@@ -68,3 +69,52 @@ module _ (a b : ℕ) where
   matches-below h =
       let none : eqb a (b + 1) ≡ false = ne-eqb a (b + 1) (omega arith) in
       rw (none, and-false (isPlain b)) (ap (λ (x : Bool). (isPlain a && within 15 27 a) && x) (one-more b a h))
+
+-- ---- what the const form of a kind that is stored has of it
+
+alike : Bool → Bool → Bool
+alike a b = cond a b (not b)
+
+alike-eq : (a b : Bool) → alike a b ≡ true → a ≡ b
+unfolding alike
+alike-eq true b h = sym h
+alike-eq false true h = h
+alike-eq false false h = refl
+
+kept : ℕ → Bool
+kept k =
+    isStored (constVariant k)
+    && (alike (isNamed (constVariant k)) (isNamed k)
+    && (eqb (fewest (constVariant k)) (fewest k) && eqb (most (constVariant k)) (most k)))
+
+-- the i-th of the kinds that are stored
+keptAt : ℕ → Bool
+keptAt i = kept (fixedMax + i)
+
+all-kept : allTo (kindLast + 1 - fixedMax) keptAt ≡ true
+unfolding allTo keptAt kept alike constVariant fewest most
+all-kept = refl
+
+pub record Keeps (k : ℕ) : Type 0 where
+  pub stored : isStored (constVariant k) ≡ true
+  pub named : isNamed (constVariant k) ≡ isNamed k
+  pub few : fewest (constVariant k) ≡ fewest k
+  pub many : most (constVariant k) ≡ most k
+
+pub variant-keeps : (k : ℕ) → isStored k ≡ true → Keeps k
+unfolding keptAt kept
+variant-keeps k s =
+    let l = and-true (leb fixedMax k) (leb k kindLast) s in
+    let a = leb-true fixedMax k (l .0) in
+    let b = leb-true k kindLast (l .1) in
+    let e : fixedMax + (k - fixedMax) ≡ k = omega arith in
+    let t : kept k ≡ true = rw e at (all-at keptAt (kindLast + 1 - fixedMax) (k - fixedMax) all-kept (omega arith)) in
+    let x = and-true (isStored (constVariant k)) _ t in
+    let y = and-true (alike (isNamed (constVariant k)) (isNamed k)) _ (x .1) in
+    let z = and-true (eqb (fewest (constVariant k)) (fewest k)) _ (y .1) in
+    record {
+      stored = x .0;
+      named = alike-eq (isNamed (constVariant k)) (isNamed k) (y .0);
+      few = eqb-true (fewest (constVariant k)) (fewest k) (z .0);
+      many = eqb-true (most (constVariant k)) (most k) (z .1);
+    }

@@ -1,13 +1,29 @@
 -- What the calls on a store of types come to, one law for each return. Assumes nothing.
-use mathlib.Core.Path.{_≡_}
-use mathlib.Core.List.{List}
-use Prim.Native.Nat.{ℕ, _<_, _≤_}
+use mathlib.Core.Path.{_≡_, refl, sym, _∙_, ap}
+use mathlib.Core.Bool.{Bool, true, false, _&&_, _||_, not, cond}
+use mathlib.Core.List.{List, [], _∷_}
+use Prim.Native.Nat.{ℕ, _+_, _<_, _≤_}
+use native.Mathlib.Omega.{arith}
+use lib.Dec.{ltb, leb}
 use lib.ListN.{length, replicate}
-use borrow.Author.Tests.{lt-ltb, le-ltb}
-use Rattle.refusals.specs.declared.Refusal.the-variants.{Broken}
+use borrow.Author.Tests.{lt-ltb, le-ltb, le-leb, leb-true, leb-false}
+use Rattle.refusals.specs.Lowest.{Condition, _when_, lowest, unlessRefused}
+use Rattle.refusals.specs.declared.Refusal.{Refusal}
+use Rattle.refusals.specs.declared.Refusal.the-variants.{Undefined, Broken, Unused, Width, Depth, Full}
+use Rattle.refusals.specs.declared.Verdict.{Verdict}
 use Rattle.refusals.specs.declared.Verdict.the-variants.{Passed, Refused}
-use Rattle.pages.specs.Bytes.{countBytes}
-use Rattle.types.specs.Calls.{emptyVerdict, emptyPage}
+use Rattle.refusals.proofs.Lowest.{first-holds}
+use Rattle.pages.specs.Bytes.{within, countBytes, countOf}
+use Rattle.pages.proofs.Quant.{and-true}
+use Rattle.names.specs.Calls.{lentBroken, usedOf}
+use Rattle.kinds.specs.Kinds.{fixedMax, childrenMax, kindLast, isNamed, isStored, fewest, most}
+use Rattle.types.specs.Store.{depthMax, equalTo, formed}
+use Rattle.types.specs.Types.{typesIn, Measured}
+use Rattle.types.specs.Making.{entryOf, Ready, isMade, depthOf, roomy, withEntry, enterVerdict, enterAnswer, enterPage}
+use Rattle.types.specs.Calls.{storeBroken, emptyVerdict, emptyPage, allBelow, partsUsed, isNew, makeVerdict, makeAnswer, makePage}
+use Rattle.types.specs.declared.Made.{Made}
+use Rattle.types.proofs.Types.{whole, most-few}
+use Rattle.types.proofs.Entries.{entry-whole, entry-parts}
 
 -- ---- making a store
 
@@ -19,3 +35,143 @@ module _ (page : List ℕ) where
   pub empty-made : countBytes ≤ length page → (Passed ≡ emptyVerdict page) × (replicate (length page) 0 ≡ emptyPage page)
   unfolding emptyVerdict emptyPage
   empty-made h = (rw (le-ltb (length page) countBytes h), rw (le-ltb (length page) countBytes h))
+
+-- ---- names and store
+
+module _ (page names : List ℕ) (lent : Bool) where
+  pub broken-names : lentBroken names lent ≡ true → storeBroken page names lent ≡ true
+  unfolding storeBroken
+  broken-names l = rw l
+
+  module _ (l : lentBroken names lent ≡ false) where
+    pub broken-store : formed page (usedOf names lent) ≡ false → storeBroken page names lent ≡ true
+    unfolding storeBroken
+    broken-store f = rw (l, f)
+
+    pub unbroken : formed page (usedOf names lent) ≡ true → storeBroken page names lent ≡ false
+    unfolding storeBroken
+    unbroken f = rw (l, f)
+
+-- ---- the parts of a type
+
+module _ (page : List ℕ) (n k : ℕ) (cs : List ℕ) (m : ℕ) where
+  pub parts-above : allBelow (typesIn page) cs ≡ false → false ≡ partsUsed page n k cs m
+  unfolding partsUsed
+  parts-above b = rw b
+
+  module _ (b : allBelow (typesIn page) cs ≡ true) where
+    pub parts-named : isNamed k ≡ true → ltb m n ≡ partsUsed page n k cs m
+    unfolding partsUsed
+    parts-named h = rw (b, h)
+
+    pub parts-nameless : isNamed k ≡ false → true ≡ partsUsed page n k cs m
+    unfolding partsUsed
+    parts-nameless h = rw (b, h)
+
+-- ---- making a type
+
+-- a kind that no store holds is fixed
+unstored-fixed : (k : ℕ) → k ≤ kindLast → isStored k ≡ false → k < fixedMax
+unstored-fixed k l s = leb-false fixedMax k (go (leb fixedMax k) (rw (le-leb k kindLast l) at s))
+  where
+    go : (b : Bool) → (b && true) ≡ false → b ≡ false
+    go true e = e
+    go false e = refl
+
+module _ (page names : List ℕ) (lent : Bool) (k : ℕ) (cs : List ℕ) (m : ℕ) where
+  -- what `make_type` promises
+  abbrev Makes : Made → List ℕ → Type 0
+  Makes r after = (r ≡ makeAnswer page names lent k cs m) × (after ≡ makePage page names lent k cs m)
+
+  -- the conditions of depth and room, and those before them
+  abbrev deep : List Condition
+  deep =
+      (Depth when (isNew page k cs m && ltb depthMax (depthOf page (entryOf k cs m))))
+      ∷ (Full when (isNew page k cs m && not (roomy page (entryOf k cs m))))
+      ∷ []
+
+  abbrev wide : List Condition
+  wide = (Width when not (within (fewest k) (most k) (length cs))) ∷ deep
+
+  abbrev unused : List Condition
+  unused = (Unused when not (partsUsed page (usedOf names lent) k cs m)) ∷ wide
+
+  refused : (q : Refusal) → makeVerdict page names lent k cs m ≡ Refused q → Makes (Made.Refused q) page
+  unfolding makeAnswer makePage
+  refused q v = (rw v, rw v)
+
+  pub make-undefined : kindLast < k → Makes (Made.Refused Undefined) page
+  unfolding makeVerdict
+  make-undefined h = refused Undefined (rw (lt-ltb kindLast k h) (first-holds Undefined ((Broken when storeBroken page names lent) ∷ unused) refl))
+
+  module _ (d : k ≤ kindLast) where
+    broken : storeBroken page names lent ≡ true → Makes (Made.Refused Broken) page
+    unfolding makeVerdict
+    broken b = refused Broken (rw (le-ltb kindLast k d, b) (first-holds Broken unused refl))
+
+    pub make-unnamed : lentBroken names lent ≡ true → Makes (Made.Refused Broken) page
+    make-unnamed l = broken (broken-names page names lent l)
+
+    module _ (l : lentBroken names lent ≡ false) (n : ℕ) (is : n ≡ usedOf names lent) where
+      pub make-unformed : formed page n ≡ false → Makes (Made.Refused Broken) page
+      make-unformed f = broken (broken-store page names lent l (rw (← is) f))
+
+      module _ (f : formed page n ≡ true) where
+        sound : storeBroken page names lent ≡ false
+        sound = unbroken page names lent l (rw (← is) f)
+
+        pub make-unused : partsUsed page n k cs m ≡ false → Makes (Made.Refused Unused) page
+        unfolding makeVerdict
+        make-unused u = refused Unused (rw (le-ltb kindLast k d, sound, ← is, u) (first-holds Unused wide refl))
+
+        module _ (u : partsUsed page n k cs m ≡ true) where
+          pub make-miscounted : within (fewest k) (most k) (length cs) ≡ false → Makes (Made.Refused Width) page
+          unfolding makeVerdict
+          make-miscounted w = refused Width (rw (le-ltb kindLast k d, sound, ← is, u, w) (first-holds Width deep refl))
+
+          module _ (w : within (fewest k) (most k) (length cs) ≡ true) where
+            verdict-is : makeVerdict page names lent k cs m ≡ lowest deep
+            unfolding makeVerdict
+            verdict-is = rw (le-ltb kindLast k d, sound, ← is, u, w)
+
+            pub make-fixed : isStored k ≡ false → Makes (Made.At k) page
+            unfolding makeAnswer makePage isNew
+            make-fixed s =
+                let v : makeVerdict page names lent k cs m ≡ Passed = verdict-is ∙ rw s refl in
+                (rw (v, lt-ltb k fixedMax (unstored-fixed k d s)), rw (v, s))
+
+            module _ (s : isStored k ≡ true) where
+              -- a kind that is stored is entered
+              new-is : isNew page k cs m ≡ not (isMade page (entryOf k cs m))
+              unfolding isNew
+              new-is = rw s
+
+              entered : makeVerdict page names lent k cs m ≡ enterVerdict page (entryOf k cs m)
+              unfolding enterVerdict
+              entered = verdict-is ∙ rw new-is
+
+              pub make-entered : Makes (enterAnswer page (entryOf k cs m)) (enterPage page (entryOf k cs m))
+              unfolding makeAnswer makePage enterAnswer enterPage
+              make-entered =
+                  let b : ltb k fixedMax ≡ false = le-ltb k fixedMax (leb-true fixedMax k (and-true (leb fixedMax k) (leb k kindLast) s .0)) in
+                  (rw (entered, b), rw (entered, new-is) (ap (λ (x : List ℕ). unlessRefused (enterVerdict page (entryOf k cs m)) x page) (turned (isMade page (entryOf k cs m)))))
+                where
+                  turned : (b : Bool) → cond b page (withEntry page (entryOf k cs m)) ≡ cond (not b) (withEntry page (entryOf k cs m)) page
+                  turned true = refl
+                  turned false = refl
+
+              pub make-few : length cs ≤ childrenMax
+              make-few = omega (arith, leb-true (length cs) (most k) (and-true (leb (fewest k) (length cs)) (leb (length cs) (most k)) w .1), most-few k)
+
+              pub make-ready : (os ds : List ℕ) → Measured page os ds → Ready page os ds (entryOf k cs m)
+              unfolding partsUsed
+              make-ready os ds g =
+                  let p = and-true (allBelow (typesIn page) cs) (not (isNamed k) || ltb m n) u in
+                  record {
+                    measured = record {
+                      held = record { sound = record { names = n; form = f }; size = g .held .size; places = g .held .places };
+                      size = g .size;
+                      known = g .known;
+                    };
+                    enterable = record { whole = entry-whole k cs m; parts = entry-parts k cs m n (typesIn page) s (p .0) (p .1) w };
+                  }

@@ -48,7 +48,7 @@ below-more page o t u h b =
 -- ---- depths as far as they are known
 
 module _ (ds es : List ℕ) (j : ℕ) (known : take j ds ≡ es) where
-  depth-same : (t : ℕ) → t < fixedMax + j → depthIn ds t ≡ depthIn es t
+  pub depth-same : (t : ℕ) → t < fixedMax + j → depthIn ds t ≡ depthIn es t
   depth-same t h = go (ltb t fixedMax) refl
     where
       go : (b : Bool) → ltb t fixedMax ≡ b → depthIn ds t ≡ depthIn es t

@@ -9,4 +9,6 @@ pub mod Again
 pub mod Trees
 pub mod Entries
 pub mod Calls
+pub mod Reading
+pub mod Const
 pub mod Fresh

@@ -8,17 +8,19 @@ use pages::index;
 use refusals::Refusal;
 use refusals::Verdict;
 ghost use mathlib.Core.Path.{_≡_};
-ghost use mathlib.Core.Bool.{true};
-ghost use Prim.Native.Nat.{suc, _+_, _-_, _*_, _≤_, _<_};
+ghost use mathlib.Core.Bool.{true, cond};
+ghost use mathlib.Core.List.{List};
+ghost use Prim.Native.Nat.{ℕ, suc, _+_, _-_, _*_, _≤_, _<_};
 ghost use lib.ListN.{length, getD, set, replicate};
+ghost use Rattle.refusals.specs.declared.Verdict.the-variants.{Refused};
 ghost use Rattle.pages.specs.Quant.{allTo};
-ghost use Rattle.pages.specs.Bytes.{put};
+ghost use Rattle.pages.specs.Bytes.{within, countBytes, put};
 ghost use Rattle.pages.specs.Pad.{pad};
-ghost use Rattle.kinds.specs.Kinds.{fixedMax, childrenMax, isNamed};
+ghost use Rattle.kinds.specs.Kinds.{fixedMax, childrenMax, isNamed, fewest, most};
 ghost use Rattle.types.specs.Store.{entriesMax, headBytes, childBytes, childrenAt, sizeAt, offset, depthIn, larger, depthAt, isBelow, childrenBelow, partsAt, equalTo, goodAt, formed, Reached};
 ghost use Rattle.types.specs.Types.{typesIn, kindOf, arity, childOf, nameOf, Held, Measured};
 ghost use Rattle.types.specs.Making.{words, entryOf, entryMax, Ready, enterAnswer, enterPage};
-ghost use Rattle.types.specs.Calls.{emptyVerdict, emptyPage};
+ghost use Rattle.types.specs.Calls.{emptyVerdict, emptyPage, allBelow, partsUsed, makeAnswer, makePage, listTo, typeAt, shown, readAnswer, constEntry, constAnswer, constPage};
 
 // How many types there can be.
 pub const TYPES: usize = 4096;
@@ -65,12 +67,15 @@ pub enum Made {
     Refused(Refusal),
 }
 
+// The places of a type's children.
+type Children = [u16; CHILDREN];
+
 // A type as it is read: its kind, its depth, its children with zeros after them, its name, 0 where it has none.
 pub struct Shape {
     pub kind: Kind,
     pub depth: usize,
     pub count: usize,
-    pub children: [u16; CHILDREN],
+    pub children: Children,
     pub name: u8,
 }
 
@@ -417,6 +422,216 @@ pub fn enter_type(
     ensures { λ r. ⌜ (r ≡ enterAnswer (now (page .entry)) (entryOf kind (now (children .entry)) name)) × (now (page .exit) ≡ enterPage (now (page .entry)) (entryOf kind (now (children .entry)) name)) × (Measured (now (page .exit)) (now (offsets .exit)) (now (depths .exit))) ⌝ }
 {
     let entry = entry_of(kind, children, name);
+    let bytes = entry.bytes;
+    let size = entry.size;
+    enter(page, offsets, depths, &bytes[0..size])
+}
+
+// Whether all of these numbers are below t.
+fn all_below(children: &[u16], t: usize) -> bool
+    ensures { λ r. ⌜ r ≡ allBelow t (now (children .entry)) ⌝ }
+{
+    let mut i: usize = 0;
+    while i < children.len() {
+        if t <= type_index(children[i]) {
+            return false;
+        }
+        i += 1;
+    }
+    true
+}
+
+// Whether the children of a type are in use and, if its kind has one, its name, of n.
+fn parts_used(page: &[u8], n: usize, kind: Kind, children: &[u16], name: u8) -> bool
+    requires { ⌜ countBytes ≤ length (now page) ⌝ }
+    ensures { λ r. ⌜ r ≡ partsUsed (now (page .entry)) n kind (now (children .entry)) name ⌝ }
+{
+    if !all_below(children, FIXED + pages::count(page)) {
+        return false;
+    }
+    if kinds::is_named(kind) {
+        return symbol_index(name) < n;
+    }
+    true
+}
+
+// Whether a kind can have so many children.
+fn is_counted(kind: Kind, count: usize) -> bool
+    ensures { λ r. ⌜ r ≡ within (fewest kind) (most kind) count ⌝ }
+{
+    (kinds::fewest(kind) <= count) & (count <= kinds::most(kind))
+}
+
+// The number of a type, which is made if it is new. Names are looked at where `lent` is true, the name where the kind has one.
+pub fn make_type(
+    page: &mut [u8],
+    names: &[u8],
+    lent: bool,
+    kind: Kind,
+    children: &[u16],
+    name: u8,
+) -> Made
+    ensures { λ r. ⌜ (r ≡ makeAnswer (now (page .entry)) (now (names .entry)) lent kind (now (children .entry)) name) × (now (page .exit) ≡ makePage (now (page .entry)) (now (names .entry)) lent kind (now (children .entry)) name) ⌝ }
+{
+    if kinds::GENERIC < kind {
+        return Made::Refused(Refusal::Undefined);
+    }
+    if names::is_broken(names, lent) {
+        return Made::Refused(Refusal::Broken);
+    }
+    let n = names::in_use(names, lent);
+    let mut offsets = no_offsets();
+    let mut depths = no_depths();
+    if !survey(page, n, &mut offsets, &mut depths) {
+        return Made::Refused(Refusal::Broken);
+    }
+    if !parts_used(page, n, kind, children, name) {
+        return Made::Refused(Refusal::Unused);
+    }
+    if !is_counted(kind, children.len()) {
+        return Made::Refused(Refusal::Width);
+    }
+    if !kinds::is_stored(kind) {
+        return Made::At(index(kind));
+    }
+    enter_type(page, &mut offsets, &mut depths, kind, children, name)
+}
+
+// No child yet.
+fn no_children() -> Children
+    ensures { λ r. ⌜ r ≡ replicate childrenMax 0 ⌝ }
+{
+    [0; CHILDREN]
+}
+
+// Writes down a child.
+fn set_child(children: &mut [u16], i: usize, child: usize)
+    requires { ⌜ (i < length (now children)) × (child < 65536) ⌝ }
+    ensures { λ _. ⌜ now (children .exit) ≡ set (now (children .entry)) i child ⌝ }
+{
+    children[i] = child as u16;
+}
+
+// The children of a type, with zeros after them.
+fn children_of(page: &[u8], offsets: &[usize], t: usize) -> Children
+    requires { ⌜ Held (now page) (now offsets) ⌝ }
+    requires { ⌜ t < typesIn (now page) ⌝ }
+    ensures { λ r. ⌜ r ≡ pad childrenMax 0 (listTo (arity (now (page .entry)) t) (childOf (now (page .entry)) t)) ⌝ }
+{
+    let mut children = no_children();
+    let count = arity(page, offsets, t);
+    let mut i: usize = 0;
+    while i < count {
+        let child = child_of(page, offsets, t, i);
+        set_child(&mut children, i, child);
+        i += 1;
+    }
+    children
+}
+
+// The name of a type, 0 where it has none.
+fn name_or_zero(page: &[u8], offsets: &[usize], t: usize) -> u8
+    requires { ⌜ Held (now page) (now offsets) ⌝ }
+    requires { ⌜ t < typesIn (now page) ⌝ }
+    ensures { λ r. ⌜ r ≡ cond (isNamed (kindOf (now (page .entry)) t)) (nameOf (now (page .entry)) t) 0 ⌝ }
+{
+    if kinds::is_named(kind_of(page, offsets, t)) {
+        return name_of(page, offsets, t);
+    }
+    0
+}
+
+// A type by value.
+fn shape_of(page: &[u8], offsets: &[usize], depths: &[u8], t: usize) -> Shape
+    requires { ⌜ Measured (now page) (now offsets) (now depths) ⌝ }
+    requires { ⌜ t < typesIn (now page) ⌝ }
+    ensures { λ r. ⌜ r ≡ typeAt (now (page .entry)) t ⌝ }
+{
+    Shape {
+        kind: kind_of(page, offsets, t),
+        depth: depth_in(depths, t),
+        count: arity(page, offsets, t),
+        children: children_of(page, offsets, t),
+        name: name_or_zero(page, offsets, t),
+    }
+}
+
+// No type, and why. Null stands beside it, which is the same in every page.
+fn no_type(refusal: Refusal) -> TypeRead
+    ensures { λ r. ⌜ ((page : List ℕ) → r ≡ shown (Refused refusal) page 0) ⌝ }
+{
+    TypeRead {
+        verdict: Verdict::Refused(refusal),
+        shape: Shape {
+            kind: NULL as u8,
+            depth: 1,
+            count: 0,
+            children: no_children(),
+            name: 0,
+        },
+    }
+}
+
+// The type with number t. Names are looked at where `lent` is true.
+pub fn read_type(page: &[u8], names: &[u8], lent: bool, t: usize) -> TypeRead
+    ensures { λ r. ⌜ r ≡ readAnswer (now (page .entry)) (now (names .entry)) lent t ⌝ }
+{
+    if names::is_broken(names, lent) {
+        return no_type(Refusal::Broken);
+    }
+    let n = names::in_use(names, lent);
+    let mut offsets = no_offsets();
+    let mut depths = no_depths();
+    if !survey(page, n, &mut offsets, &mut depths) {
+        return no_type(Refusal::Broken);
+    }
+    if FIXED + pages::count(page) <= t {
+        return no_type(Refusal::Unused);
+    }
+    TypeRead {
+        verdict: Verdict::Passed,
+        shape: shape_of(page, &offsets, &depths, t),
+    }
+}
+
+// Writes another kind into an entry.
+fn set_kind(bytes: &mut [u8], kind: Kind)
+    requires { ⌜ headBytes ≤ length (now bytes) ⌝ }
+    ensures { λ _. ⌜ now (bytes .exit) ≡ set (now (bytes .entry)) 1 kind ⌝ }
+{
+    bytes[1] = kind;
+}
+
+// The entry of a type that is not fixed, under its const kind.
+fn const_entry(page: &[u8], offsets: &[usize], t: usize) -> Entry
+    requires { ⌜ Held (now page) (now offsets) ⌝ }
+    requires { ⌜ (fixedMax ≤ t) × (t < typesIn (now page)) ⌝ }
+    ensures { λ r. ⌜ (r .bytes ≡ pad entryMax 0 (constEntry (now (page .entry)) t)) × (r .size ≡ length (constEntry (now (page .entry)) t)) × (r .size ≤ entryMax) ⌝ }
+{
+    let at = offset_of(offsets, t);
+    let size = entry_size(page, at);
+    let mut bytes = no_bytes();
+    pages::put_bytes(&mut bytes, 0, &page[at..at + size]);
+    set_kind(&mut bytes, kinds::const_variant(page[at + 1]));
+    Entry { bytes, size }
+}
+
+// A type's const form, in a store that an entry call found in form (`checked::into_const` tests it): the number of its equal, else the
+// next. The tables grow with it.
+pub fn const_form(
+    page: &mut [u8],
+    offsets: &mut [usize],
+    depths: &mut [u8],
+    t: usize,
+) -> Made
+    requires { ⌜ Measured (now page) (now offsets) (now depths) ⌝ }
+    requires { ⌜ t < typesIn (now page) ⌝ }
+    ensures { λ r. ⌜ (r ≡ constAnswer (now (page .entry)) t) × (now (page .exit) ≡ constPage (now (page .entry)) t) × (Measured (now (page .exit)) (now (offsets .exit)) (now (depths .exit))) ⌝ }
+{
+    if t < FIXED {
+        return Made::At(index(kinds::const_variant(t as u8)));
+    }
+    let entry = const_entry(page, offsets, t);
     let bytes = entry.bytes;
     let size = entry.size;
     enter(page, offsets, depths, &bytes[0..size])

@@ -1,0 +1,62 @@
+-- `types::all_below` meets its contract. Assumes nothing.
+use mathlib.Core.Path.{_≡_, refl, sym, _∙_}
+use Prim.Native.Nat.{_-_, _≤_}
+use native.Mathlib.Omega.{arith}
+use lib.ListN.{length, drop}
+use denote.Ref.{now}
+use Rattle.types.specs.Calls.{allBelow}
+use Rattle.types.proofs.Entries.{below-on, below-off, below-end}
+use borrow.Author.Needs.{needs}
+use Rattle.types.proofs.all_below.Statement.{statement}
+use Rattle.types.proofs.all_below.Tie as tie
+
+abbrev Inv-loop : tie.InvT-loop
+Inv-loop children t i₀ i = (i ≤ length children) × (allBelow t children ≡ allBelow t (drop i children))
+
+abbrev μ-loop : tie.MeasureT-loop
+μ-loop children t i₀ i = length children - i
+
+loop-holds : tie.Need-loop-holds Inv-loop μ-loop
+loop-holds c = (omega arith, refl)
+
+mul-type-index : tie.Need-mul-type-index Inv-loop μ-loop
+mul-type-index c = search needs
+
+shared-slice-read-type-index : tie.Need-shared-slice-read-type-index Inv-loop μ-loop
+shared-slice-read-type-index c = search needs
+
+type-index-requires : tie.Need-type-index-requires Inv-loop μ-loop
+type-index-requires c κs = search needs
+
+returns : tie.Need-returns Inv-loop μ-loop
+returns c =
+    sym (c .before .before .before .before .loop .inv .1 ∙ below-off (now (c .before .before .before .before .before .before .args .children)) (c .before .before .before .before .before .before .args .t) (c .before .before .before .before .loop .i) (c .before .before .before .loop-test .taken) (rw (c .before .type-index .ensures .0) at (c .if1 .taken)))
+
+add-i : tie.Need-add-i Inv-loop μ-loop
+add-i c = search needs
+
+loop-less : tie.Need-loop-less Inv-loop μ-loop
+loop-less c = search needs
+
+loop-again : tie.Need-loop-again Inv-loop μ-loop
+loop-again c =
+    (omega arith, c .before .before .before .before .loop .inv .1 ∙ below-on (now (c .before .before .before .before .before .before .args .children)) (c .before .before .before .before .before .before .args .t) (c .before .before .before .before .loop .i) (c .before .before .before .loop-test .taken) (rw (c .before .type-index .ensures .0) at (c .if1 .left)))
+
+returns-2 : tie.Need-returns-2 Inv-loop μ-loop
+returns-2 c = sym (c .before .loop .inv .1 ∙ below-end (now (c .before .before .before .args .children)) (c .before .before .before .args .t) (c .before .loop .i) (c .loop-test .left))
+
+pub all-below-spec : {M : Type 1} → statement M
+all-below-spec =
+    tie.close
+    (tie.spec
+    Inv-loop
+    μ-loop
+    loop-holds
+    mul-type-index
+    shared-slice-read-type-index
+    type-index-requires
+    returns
+    add-i
+    loop-less
+    loop-again
+    returns-2)
