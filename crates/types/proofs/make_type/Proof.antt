@@ -20,8 +20,10 @@ is-broken-requires c κs = search needs
 
 returns-2 : tie.Need-returns-2
 returns-2 c =
-    let a = c .before .before .before .before .before .before .args in
-    make-unnamed (now (a .page)) (now (a .names)) (a .lent) (a .kind) (now (a .children)) (a .name) (c .before .before .if1 .left) (sym (c .before .is-broken .ensures) ∙ c .if2 .taken)
+    let start = c .before .before .before .before .before .before in
+    let if1 = c .before .before .if1 in
+    let a = start .args in
+    make-unnamed (now (a .page)) (now (a .names)) (a .lent) (a .kind) (now (a .children)) (a .name) (if1 .left) (sym (c .before .is-broken .ensures) ∙ c .if2 .taken)
 
 in-use-requires : tie.Need-in-use-requires
 in-use-requires c κs = sym (c .before .is-broken .ensures) ∙ c .if2 .left
@@ -46,25 +48,41 @@ same-length c = search needs
 
 returns-3 : tie.Need-returns-3
 returns-3 c =
-    let a = c .before .before .before .before .before .before .before .before .before .before .before .before .before .before .before .before .args in
-    let l = sym (c .before .before .before .before .before .before .before .before .before .before .before .is-broken .ensures) ∙ c .before .before .before .before .before .before .before .before .before .before .if2 .left in
-    let f = sym (c .before .before .before .survey .ensures .0) ∙ not-true (c .before .before .before .survey .result) (c .if3 .taken) in
-    make-unformed (now (a .page)) (now (a .names)) (a .lent) (a .kind) (now (a .children)) (a .name) (c .before .before .before .before .before .before .before .before .before .before .before .before .if1 .left) l (c .before .before .before .before .before .before .before .before .before .in-use .result) (c .before .before .before .before .before .before .before .before .before .in-use .ensures .0) f
+    let start = c .before .before .before .before .before .before .before .before .before .before .before .before .before .before .before .before in
+    let if1 = c .before .before .before .before .before .before .before .before .before .before .before .before .if1 in
+    let is-broken = c .before .before .before .before .before .before .before .before .before .before .before .is-broken in
+    let if2 = c .before .before .before .before .before .before .before .before .before .before .if2 in
+    let in-use = c .before .before .before .before .before .before .before .before .before .in-use in
+    let survey = c .before .before .before .survey in
+    let a = start .args in
+    let l = sym (is-broken .ensures) ∙ if2 .left in
+    let f = sym (survey .ensures .0) ∙ not-true (survey .result) (c .if3 .taken) in
+    make-unformed (now (a .page)) (now (a .names)) (a .lent) (a .kind) (now (a .children)) (a .name) (if1 .left) l (in-use .result) (in-use .ensures .0) f
 
 parts-used-requires : tie.Need-parts-used-requires
 parts-used-requires c κs =
-    whole (now (c .before .before .before .before .before .before .before .before .before .before .before .before .before .before .before .before .before .args .page)) (c .before .before .before .before .before .before .before .before .before .before .in-use .result) (sym (c .before .before .before .before .survey .ensures .0) ∙ not-false (c .before .before .before .before .survey .result) (c .before .if3 .left)) .two
+    let start = c .before .before .before .before .before .before .before .before .before .before .before .before .before .before .before .before .before in
+    let in-use = c .before .before .before .before .before .before .before .before .before .before .in-use in
+    let survey = c .before .before .before .before .survey in
+    whole (now (start .args .page)) (in-use .result) (sym (survey .ensures .0) ∙ not-false (survey .result) (c .before .if3 .left)) .two
 
 same-length-2 : tie.Need-same-length-2
 same-length-2 c = search needs
 
 returns-4 : tie.Need-returns-4
 returns-4 c =
-    let a = c .before .before .before .before .before .before .before .before .before .before .before .before .before .before .before .before .before .before .before .args in
-    let l = sym (c .before .before .before .before .before .before .before .before .before .before .before .before .before .before .is-broken .ensures) ∙ c .before .before .before .before .before .before .before .before .before .before .before .before .before .if2 .left in
-    let f = sym (c .before .before .before .before .before .before .survey .ensures .0) ∙ not-false (c .before .before .before .before .before .before .survey .result) (c .before .before .before .if3 .left) in
+    let start = c .before .before .before .before .before .before .before .before .before .before .before .before .before .before .before .before .before .before .before in
+    let if1 = c .before .before .before .before .before .before .before .before .before .before .before .before .before .before .before .if1 in
+    let is-broken = c .before .before .before .before .before .before .before .before .before .before .before .before .before .before .is-broken in
+    let if2 = c .before .before .before .before .before .before .before .before .before .before .before .before .before .if2 in
+    let in-use = c .before .before .before .before .before .before .before .before .before .before .before .before .in-use in
+    let survey = c .before .before .before .before .before .before .survey in
+    let if3 = c .before .before .before .if3 in
+    let a = start .args in
+    let l = sym (is-broken .ensures) ∙ if2 .left in
+    let f = sym (survey .ensures .0) ∙ not-false (survey .result) (if3 .left) in
     let u = sym (c .before .parts-used .ensures) ∙ not-true (c .before .parts-used .result) (c .if4 .taken) in
-    make-unused (now (a .page)) (now (a .names)) (a .lent) (a .kind) (now (a .children)) (a .name) (c .before .before .before .before .before .before .before .before .before .before .before .before .before .before .before .if1 .left) l (c .before .before .before .before .before .before .before .before .before .before .before .before .in-use .result) (c .before .before .before .before .before .before .before .before .before .before .before .before .in-use .ensures .0) f u
+    make-unused (now (a .page)) (now (a .names)) (a .lent) (a .kind) (now (a .children)) (a .name) (if1 .left) l (in-use .result) (in-use .ensures .0) f u
 
 is-counted-requires : tie.Need-is-counted-requires
 is-counted-requires c κs = search needs
@@ -74,12 +92,21 @@ same-length-3 c = search needs
 
 returns-5 : tie.Need-returns-5
 returns-5 c =
-    let a = c .before .before .before .before .before .before .before .before .before .before .before .before .before .before .before .before .before .before .before .before .before .args in
-    let l = sym (c .before .before .before .before .before .before .before .before .before .before .before .before .before .before .before .before .is-broken .ensures) ∙ c .before .before .before .before .before .before .before .before .before .before .before .before .before .before .before .if2 .left in
-    let f = sym (c .before .before .before .before .before .before .before .before .survey .ensures .0) ∙ not-false (c .before .before .before .before .before .before .before .before .survey .result) (c .before .before .before .before .before .if3 .left) in
-    let u = sym (c .before .before .before .parts-used .ensures) ∙ not-false (c .before .before .before .parts-used .result) (c .before .before .if4 .left) in
+    let start = c .before .before .before .before .before .before .before .before .before .before .before .before .before .before .before .before .before .before .before .before .before in
+    let if1 = c .before .before .before .before .before .before .before .before .before .before .before .before .before .before .before .before .before .if1 in
+    let is-broken = c .before .before .before .before .before .before .before .before .before .before .before .before .before .before .before .before .is-broken in
+    let if2 = c .before .before .before .before .before .before .before .before .before .before .before .before .before .before .before .if2 in
+    let in-use = c .before .before .before .before .before .before .before .before .before .before .before .before .before .before .in-use in
+    let survey = c .before .before .before .before .before .before .before .before .survey in
+    let if3 = c .before .before .before .before .before .if3 in
+    let parts-used = c .before .before .before .parts-used in
+    let if4 = c .before .before .if4 in
+    let a = start .args in
+    let l = sym (is-broken .ensures) ∙ if2 .left in
+    let f = sym (survey .ensures .0) ∙ not-false (survey .result) (if3 .left) in
+    let u = sym (parts-used .ensures) ∙ not-false (parts-used .result) (if4 .left) in
     let w = sym (c .before .is-counted .ensures) ∙ not-true (c .before .is-counted .result) (c .if5 .taken) in
-    make-miscounted (now (a .page)) (now (a .names)) (a .lent) (a .kind) (now (a .children)) (a .name) (c .before .before .before .before .before .before .before .before .before .before .before .before .before .before .before .before .before .if1 .left) l (c .before .before .before .before .before .before .before .before .before .before .before .before .before .before .in-use .result) (c .before .before .before .before .before .before .before .before .before .before .before .before .before .before .in-use .ensures .0) f u w
+    make-miscounted (now (a .page)) (now (a .names)) (a .lent) (a .kind) (now (a .children)) (a .name) (if1 .left) l (in-use .result) (in-use .ensures .0) f u w
 
 is-stored-requires : tie.Need-is-stored-requires
 is-stored-requires c κs = search needs
@@ -92,23 +119,47 @@ same-length-4 c = search needs
 
 returns-6 : tie.Need-returns-6
 returns-6 c =
-    let a = c .before .before .before .before .before .before .before .before .before .before .before .before .before .before .before .before .before .before .before .before .before .before .before .before .args in
-    let l = sym (c .before .before .before .before .before .before .before .before .before .before .before .before .before .before .before .before .before .before .before .is-broken .ensures) ∙ c .before .before .before .before .before .before .before .before .before .before .before .before .before .before .before .before .before .before .if2 .left in
-    let f = sym (c .before .before .before .before .before .before .before .before .before .before .before .survey .ensures .0) ∙ not-false (c .before .before .before .before .before .before .before .before .before .before .before .survey .result) (c .before .before .before .before .before .before .before .before .if3 .left) in
-    let u = sym (c .before .before .before .before .before .before .parts-used .ensures) ∙ not-false (c .before .before .before .before .before .before .parts-used .result) (c .before .before .before .before .before .if4 .left) in
-    let w = sym (c .before .before .before .before .is-counted .ensures) ∙ not-false (c .before .before .before .before .is-counted .result) (c .before .before .before .if5 .left) in
-    let s = sym (c .before .before .is-stored .ensures) ∙ not-true (c .before .before .is-stored .result) (c .before .if6 .taken) in
-    rw (c .index .ensures .0) (make-fixed (now (a .page)) (now (a .names)) (a .lent) (a .kind) (now (a .children)) (a .name) (c .before .before .before .before .before .before .before .before .before .before .before .before .before .before .before .before .before .before .before .before .if1 .left) l (c .before .before .before .before .before .before .before .before .before .before .before .before .before .before .before .before .before .in-use .result) (c .before .before .before .before .before .before .before .before .before .before .before .before .before .before .before .before .before .in-use .ensures .0) f u w s)
+    let start = c .before .before .before .before .before .before .before .before .before .before .before .before .before .before .before .before .before .before .before .before .before .before .before .before in
+    let if1 = c .before .before .before .before .before .before .before .before .before .before .before .before .before .before .before .before .before .before .before .before .if1 in
+    let is-broken = c .before .before .before .before .before .before .before .before .before .before .before .before .before .before .before .before .before .before .before .is-broken in
+    let if2 = c .before .before .before .before .before .before .before .before .before .before .before .before .before .before .before .before .before .before .if2 in
+    let in-use = c .before .before .before .before .before .before .before .before .before .before .before .before .before .before .before .before .before .in-use in
+    let survey = c .before .before .before .before .before .before .before .before .before .before .before .survey in
+    let if3 = c .before .before .before .before .before .before .before .before .if3 in
+    let parts-used = c .before .before .before .before .before .before .parts-used in
+    let if4 = c .before .before .before .before .before .if4 in
+    let is-counted = c .before .before .before .before .is-counted in
+    let if5 = c .before .before .before .if5 in
+    let is-stored = c .before .before .is-stored in
+    let a = start .args in
+    let l = sym (is-broken .ensures) ∙ if2 .left in
+    let f = sym (survey .ensures .0) ∙ not-false (survey .result) (if3 .left) in
+    let u = sym (parts-used .ensures) ∙ not-false (parts-used .result) (if4 .left) in
+    let w = sym (is-counted .ensures) ∙ not-false (is-counted .result) (if5 .left) in
+    let s = sym (is-stored .ensures) ∙ not-true (is-stored .result) (c .before .if6 .taken) in
+    rw (c .index .ensures .0)
+    (make-fixed (now (a .page)) (now (a .names)) (a .lent) (a .kind) (now (a .children)) (a .name) (if1 .left) l (in-use .result) (in-use .ensures .0) f u w s)
 
 entry-of-requires : tie.Need-entry-of-requires
 entry-of-requires c κs =
-    let a = c .before .before .before .before .before .before .before .before .before .before .before .before .before .before .before .before .before .before .before .before .before .before .before .args in
-    let l = sym (c .before .before .before .before .before .before .before .before .before .before .before .before .before .before .before .before .before .before .is-broken .ensures) ∙ c .before .before .before .before .before .before .before .before .before .before .before .before .before .before .before .before .before .if2 .left in
-    let f = sym (c .before .before .before .before .before .before .before .before .before .before .survey .ensures .0) ∙ not-false (c .before .before .before .before .before .before .before .before .before .before .survey .result) (c .before .before .before .before .before .before .before .if3 .left) in
-    let u = sym (c .before .before .before .before .before .parts-used .ensures) ∙ not-false (c .before .before .before .before .before .parts-used .result) (c .before .before .before .before .if4 .left) in
-    let w = sym (c .before .before .before .is-counted .ensures) ∙ not-false (c .before .before .before .is-counted .result) (c .before .before .if5 .left) in
+    let start = c .before .before .before .before .before .before .before .before .before .before .before .before .before .before .before .before .before .before .before .before .before .before .before in
+    let if1 = c .before .before .before .before .before .before .before .before .before .before .before .before .before .before .before .before .before .before .before .if1 in
+    let is-broken = c .before .before .before .before .before .before .before .before .before .before .before .before .before .before .before .before .before .before .is-broken in
+    let if2 = c .before .before .before .before .before .before .before .before .before .before .before .before .before .before .before .before .before .if2 in
+    let in-use = c .before .before .before .before .before .before .before .before .before .before .before .before .before .before .before .before .in-use in
+    let survey = c .before .before .before .before .before .before .before .before .before .before .survey in
+    let if3 = c .before .before .before .before .before .before .before .if3 in
+    let parts-used = c .before .before .before .before .before .parts-used in
+    let if4 = c .before .before .before .before .if4 in
+    let is-counted = c .before .before .before .is-counted in
+    let if5 = c .before .before .if5 in
+    let a = start .args in
+    let l = sym (is-broken .ensures) ∙ if2 .left in
+    let f = sym (survey .ensures .0) ∙ not-false (survey .result) (if3 .left) in
+    let u = sym (parts-used .ensures) ∙ not-false (parts-used .result) (if4 .left) in
+    let w = sym (is-counted .ensures) ∙ not-false (is-counted .result) (if5 .left) in
     let s = sym (c .before .is-stored .ensures) ∙ not-false (c .before .is-stored .result) (c .if6 .left) in
-    make-few (now (a .page)) (now (a .names)) (a .lent) (a .kind) (now (a .children)) (a .name) (c .before .before .before .before .before .before .before .before .before .before .before .before .before .before .before .before .before .before .before .if1 .left) l (c .before .before .before .before .before .before .before .before .before .before .before .before .before .before .before .before .in-use .result) (c .before .before .before .before .before .before .before .before .before .before .before .before .before .before .before .before .in-use .ensures .0) f u w s
+    make-few (now (a .page)) (now (a .names)) (a .lent) (a .kind) (now (a .children)) (a .name) (if1 .left) l (in-use .result) (in-use .ensures .0) f u w s
 
 slice-aggregate-enter : tie.Need-slice-aggregate-enter
 slice-aggregate-enter c = search needs
@@ -124,35 +175,66 @@ part-enter-start c = search needs
 
 part-enter-end : tie.Need-part-enter-end
 part-enter-end c =
-    let a = c .before .before .before .before .before .before .before .before .before .before .before .before .before .before .before .before .before .before .before .before .before .before .before .before .before .before .before .before .before .args in
-    entry-places (entryOf (a .kind) (now (a .children)) (a .name)) (c .before .before .before .before .before .entry-of .result .bytes) (c .before .before .before .before .before .entry-of .result .size) (c .before .before .before .before .before .entry-of .ensures)
+    let start = c .before .before .before .before .before .before .before .before .before .before .before .before .before .before .before .before .before .before .before .before .before .before .before .before .before .before .before .before .before in
+    let entry-of = c .before .before .before .before .before .entry-of in
+    let a = start .args in
+    entry-places (entryOf (a .kind) (now (a .children)) (a .name)) (entry-of .result .bytes) (entry-of .result .size) (entry-of .ensures)
 
 enter-requires : tie.Need-enter-requires
 enter-requires c κs =
-    let a = c .before .before .before .before .before .before .before .before .before .before .before .before .before .before .before .before .before .before .before .before .before .before .before .before .before .before .before .before .before .before .args in
-    let l = sym (c .before .before .before .before .before .before .before .before .before .before .before .before .before .before .before .before .before .before .before .before .before .before .before .before .before .is-broken .ensures) ∙ c .before .before .before .before .before .before .before .before .before .before .before .before .before .before .before .before .before .before .before .before .before .before .before .before .if2 .left in
-    let f = sym (c .before .before .before .before .before .before .before .before .before .before .before .before .before .before .before .before .before .survey .ensures .0) ∙ not-false (c .before .before .before .before .before .before .before .before .before .before .before .before .before .before .before .before .before .survey .result) (c .before .before .before .before .before .before .before .before .before .before .before .before .before .before .if3 .left) in
-    let u = sym (c .before .before .before .before .before .before .before .before .before .before .before .before .parts-used .ensures) ∙ not-false (c .before .before .before .before .before .before .before .before .before .before .before .before .parts-used .result) (c .before .before .before .before .before .before .before .before .before .before .before .if4 .left) in
-    let w = sym (c .before .before .before .before .before .before .before .before .before .before .is-counted .ensures) ∙ not-false (c .before .before .before .before .before .before .before .before .before .before .is-counted .result) (c .before .before .before .before .before .before .before .before .before .if5 .left) in
-    let s = sym (c .before .before .before .before .before .before .before .before .is-stored .ensures) ∙ not-false (c .before .before .before .before .before .before .before .before .is-stored .result) (c .before .before .before .before .before .before .before .if6 .left) in
-    let g = c .before .before .before .before .before .before .before .before .before .before .before .before .before .before .before .before .before .survey .ensures .1 (not-false (c .before .before .before .before .before .before .before .before .before .before .before .before .before .before .before .before .before .survey .result) (c .before .before .before .before .before .before .before .before .before .before .before .before .before .before .if3 .left)) in
-    let e = entry-front (entryOf (a .kind) (now (a .children)) (a .name)) (c .before .before .before .before .before .before .entry-of .result .bytes) (c .before .before .before .before .before .before .entry-of .result .size) (c .before .before .before .before .before .before .entry-of .ensures) in
-    rw e (make-ready (now (a .page)) (now (a .names)) (a .lent) (a .kind) (now (a .children)) (a .name) (c .before .before .before .before .before .before .before .before .before .before .before .before .before .before .before .before .before .before .before .before .before .before .before .before .before .before .if1 .left) l (c .before .before .before .before .before .before .before .before .before .before .before .before .before .before .before .before .before .before .before .before .before .before .before .in-use .result) (c .before .before .before .before .before .before .before .before .before .before .before .before .before .before .before .before .before .before .before .before .before .before .before .in-use .ensures .0) f u w s _ _ g)
+    let start = c .before .before .before .before .before .before .before .before .before .before .before .before .before .before .before .before .before .before .before .before .before .before .before .before .before .before .before .before .before .before in
+    let if1 = c .before .before .before .before .before .before .before .before .before .before .before .before .before .before .before .before .before .before .before .before .before .before .before .before .before .before .if1 in
+    let is-broken = c .before .before .before .before .before .before .before .before .before .before .before .before .before .before .before .before .before .before .before .before .before .before .before .before .before .is-broken in
+    let if2 = c .before .before .before .before .before .before .before .before .before .before .before .before .before .before .before .before .before .before .before .before .before .before .before .before .if2 in
+    let in-use = c .before .before .before .before .before .before .before .before .before .before .before .before .before .before .before .before .before .before .before .before .before .before .before .in-use in
+    let survey = c .before .before .before .before .before .before .before .before .before .before .before .before .before .before .before .before .before .survey in
+    let if3 = c .before .before .before .before .before .before .before .before .before .before .before .before .before .before .if3 in
+    let parts-used = c .before .before .before .before .before .before .before .before .before .before .before .before .parts-used in
+    let if4 = c .before .before .before .before .before .before .before .before .before .before .before .if4 in
+    let is-counted = c .before .before .before .before .before .before .before .before .before .before .is-counted in
+    let if5 = c .before .before .before .before .before .before .before .before .before .if5 in
+    let is-stored = c .before .before .before .before .before .before .before .before .is-stored in
+    let if6 = c .before .before .before .before .before .before .before .if6 in
+    let entry-of = c .before .before .before .before .before .before .entry-of in
+    let a = start .args in
+    let l = sym (is-broken .ensures) ∙ if2 .left in
+    let f = sym (survey .ensures .0) ∙ not-false (survey .result) (if3 .left) in
+    let u = sym (parts-used .ensures) ∙ not-false (parts-used .result) (if4 .left) in
+    let w = sym (is-counted .ensures) ∙ not-false (is-counted .result) (if5 .left) in
+    let s = sym (is-stored .ensures) ∙ not-false (is-stored .result) (if6 .left) in
+    let g = survey .ensures .1 (not-false (survey .result) (if3 .left)) in
+    let e = entry-front (entryOf (a .kind) (now (a .children)) (a .name)) (entry-of .result .bytes) (entry-of .result .size) (entry-of .ensures) in
+    rw e (make-ready (now (a .page)) (now (a .names)) (a .lent) (a .kind) (now (a .children)) (a .name) (if1 .left) l (in-use .result) (in-use .ensures .0) f u w s _ _ g)
 
 same-length-5 : tie.Need-same-length-5
 same-length-5 c = search needs
 
 returns-7 : tie.Need-returns-7
 returns-7 c =
-    let a = c .before .before .before .before .before .before .before .before .before .before .before .before .before .before .before .before .before .before .before .before .before .before .before .before .before .before .before .before .before .before .before .before .before .before .before .args in
-    let l = sym (c .before .before .before .before .before .before .before .before .before .before .before .before .before .before .before .before .before .before .before .before .before .before .before .before .before .before .before .before .before .before .is-broken .ensures) ∙ c .before .before .before .before .before .before .before .before .before .before .before .before .before .before .before .before .before .before .before .before .before .before .before .before .before .before .before .before .before .if2 .left in
-    let f = sym (c .before .before .before .before .before .before .before .before .before .before .before .before .before .before .before .before .before .before .before .before .before .before .survey .ensures .0) ∙ not-false (c .before .before .before .before .before .before .before .before .before .before .before .before .before .before .before .before .before .before .before .before .before .before .survey .result) (c .before .before .before .before .before .before .before .before .before .before .before .before .before .before .before .before .before .before .before .if3 .left) in
-    let u = sym (c .before .before .before .before .before .before .before .before .before .before .before .before .before .before .before .before .before .parts-used .ensures) ∙ not-false (c .before .before .before .before .before .before .before .before .before .before .before .before .before .before .before .before .before .parts-used .result) (c .before .before .before .before .before .before .before .before .before .before .before .before .before .before .before .before .if4 .left) in
-    let w = sym (c .before .before .before .before .before .before .before .before .before .before .before .before .before .before .before .is-counted .ensures) ∙ not-false (c .before .before .before .before .before .before .before .before .before .before .before .before .before .before .before .is-counted .result) (c .before .before .before .before .before .before .before .before .before .before .before .before .before .before .if5 .left) in
-    let s = sym (c .before .before .before .before .before .before .before .before .before .before .before .before .before .is-stored .ensures) ∙ not-false (c .before .before .before .before .before .before .before .before .before .before .before .before .before .is-stored .result) (c .before .before .before .before .before .before .before .before .before .before .before .before .if6 .left) in
-    let e = entry-front (entryOf (a .kind) (now (a .children)) (a .name)) (c .before .before .before .before .before .before .before .before .before .before .before .entry-of .result .bytes) (c .before .before .before .before .before .before .before .before .before .before .before .entry-of .result .size) (c .before .before .before .before .before .before .before .before .before .before .before .entry-of .ensures) in
-    let z = make-entered (now (a .page)) (now (a .names)) (a .lent) (a .kind) (now (a .children)) (a .name) (c .before .before .before .before .before .before .before .before .before .before .before .before .before .before .before .before .before .before .before .before .before .before .before .before .before .before .before .before .before .before .before .if1 .left) l (c .before .before .before .before .before .before .before .before .before .before .before .before .before .before .before .before .before .before .before .before .before .before .before .before .before .before .before .before .in-use .result) (c .before .before .before .before .before .before .before .before .before .before .before .before .before .before .before .before .before .before .before .before .before .before .before .before .before .before .before .before .in-use .ensures .0) f u w s in
-    ((rw e at (c .before .before .before .before .enter .ensures .0)) ∙ z .0, (rw e at (c .before .before .before .before .enter .ensures .1)) ∙ z .1)
+    let start = c .before .before .before .before .before .before .before .before .before .before .before .before .before .before .before .before .before .before .before .before .before .before .before .before .before .before .before .before .before .before .before .before .before .before .before in
+    let if1 = c .before .before .before .before .before .before .before .before .before .before .before .before .before .before .before .before .before .before .before .before .before .before .before .before .before .before .before .before .before .before .before .if1 in
+    let is-broken = c .before .before .before .before .before .before .before .before .before .before .before .before .before .before .before .before .before .before .before .before .before .before .before .before .before .before .before .before .before .before .is-broken in
+    let if2 = c .before .before .before .before .before .before .before .before .before .before .before .before .before .before .before .before .before .before .before .before .before .before .before .before .before .before .before .before .before .if2 in
+    let in-use = c .before .before .before .before .before .before .before .before .before .before .before .before .before .before .before .before .before .before .before .before .before .before .before .before .before .before .before .before .in-use in
+    let survey = c .before .before .before .before .before .before .before .before .before .before .before .before .before .before .before .before .before .before .before .before .before .before .survey in
+    let if3 = c .before .before .before .before .before .before .before .before .before .before .before .before .before .before .before .before .before .before .before .if3 in
+    let parts-used = c .before .before .before .before .before .before .before .before .before .before .before .before .before .before .before .before .before .parts-used in
+    let if4 = c .before .before .before .before .before .before .before .before .before .before .before .before .before .before .before .before .if4 in
+    let is-counted = c .before .before .before .before .before .before .before .before .before .before .before .before .before .before .before .is-counted in
+    let if5 = c .before .before .before .before .before .before .before .before .before .before .before .before .before .before .if5 in
+    let is-stored = c .before .before .before .before .before .before .before .before .before .before .before .before .before .is-stored in
+    let if6 = c .before .before .before .before .before .before .before .before .before .before .before .before .if6 in
+    let entry-of = c .before .before .before .before .before .before .before .before .before .before .before .entry-of in
+    let enter = c .before .before .before .before .enter in
+    let a = start .args in
+    let l = sym (is-broken .ensures) ∙ if2 .left in
+    let f = sym (survey .ensures .0) ∙ not-false (survey .result) (if3 .left) in
+    let u = sym (parts-used .ensures) ∙ not-false (parts-used .result) (if4 .left) in
+    let w = sym (is-counted .ensures) ∙ not-false (is-counted .result) (if5 .left) in
+    let s = sym (is-stored .ensures) ∙ not-false (is-stored .result) (if6 .left) in
+    let e = entry-front (entryOf (a .kind) (now (a .children)) (a .name)) (entry-of .result .bytes) (entry-of .result .size) (entry-of .ensures) in
+    let z = make-entered (now (a .page)) (now (a .names)) (a .lent) (a .kind) (now (a .children)) (a .name) (if1 .left) l (in-use .result) (in-use .ensures .0) f u w s in
+    ((rw e at (enter .ensures .0)) ∙ z .0, (rw e at (enter .ensures .1)) ∙ z .1)
 
 pub make-type-spec : {M : Type 1} → statement M
 make-type-spec =
