@@ -16,8 +16,8 @@ use Rattle.pages.proofs.Quant.{and-true, all-each}
 use Rattle.pages.proofs.Pad.{put-pad}
 use Rattle.kinds.specs.Kinds.{fixedMax, isNamed, isStored, fewest, most, constVariant}
 use Rattle.kinds.proofs.Const.{Keeps, variant-keeps}
-use Rattle.types.specs.Store.{headBytes, childBytes, nameBytes, childrenAt, kindAt, childAt, nameAt, sizeAt, entryAt, isBelow, childrenBelow, partsAt, Formed}
-use Rattle.types.specs.Types.{typesIn, placeOf, kindOf, arity, Measured}
+use Rattle.types.specs.Store.{headBytes, childBytes, childrenAt, kindAt, childAt, nameAt, sizeAt, entryAt, isBelow, childrenBelow, partsAt, Formed}
+use Rattle.types.specs.Types.{typesIn, placeOf, kindOf, Measured}
 use Rattle.types.specs.Making.{entryMax, Enterable, Ready, enterAnswer, enterPage}
 use Rattle.types.specs.Calls.{constEntry, constAnswer, constPage}
 use Rattle.types.specs.declared.Made.{Made}
@@ -56,7 +56,8 @@ module _ (e : List ℕ) (two : headBytes ≤ length e) (g : Keeps (kindAt e 0)) 
       lower : (i : ℕ) → childAt e 0 i < t → childAt e 0 i < u
       lower i k = omega arith
 
-      go : (b : Bool) → cond b (eqb (childrenAt e 0) 0 && ltb (nameAt e 0) n) (within (fewest (kindAt e 0)) (most (kindAt e 0)) (childrenAt e 0) && childrenBelow e 0 t) ≡ true
+      go : (b : Bool) → cond b (eqb (childrenAt e 0) 0 && ltb (nameAt e 0) n)
+          (within (fewest (kindAt e 0)) (most (kindAt e 0)) (childrenAt e 0) && childrenBelow e 0 t) ≡ true
           → cond b (eqb (childrenAt e 0) 0 && ltb (nameAt e 0) n)
           (within (fewest (kindAt e 0)) (most (kindAt e 0)) (childrenAt e 0) && allTo (childrenAt e 0) (isBelow turned 0 u)) ≡ true
       go true q = q
@@ -151,7 +152,8 @@ module _ (page : List ℕ) (f : Formed page) (t : ℕ) (l : fixedMax ≤ t) (u :
 -- ---- the call
 
 module _ (page os ds : List ℕ) (m : Measured page os ds) (t : ℕ) where
-  pub const-fixed : t < fixedMax → (r : ℕ) → r ≡ constVariant t → (Made.At r ≡ constAnswer page t) × (page ≡ constPage page t) × (Measured page os ds)
+  pub const-fixed : t < fixedMax → (r : ℕ) → r ≡ constVariant t
+      → (Made.At r ≡ constAnswer page t) × (page ≡ constPage page t) × (Measured page os ds)
   unfolding constAnswer constPage
   const-fixed h r e = (rw (lt-ltb t fixedMax h, e) refl, rw (lt-ltb t fixedMax h) refl, m)
 

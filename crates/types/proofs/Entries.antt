@@ -2,7 +2,7 @@
 use mathlib.Core.Path.{_≡_, refl, sym, _∙_, ap}
 use mathlib.Core.Bool.{Bool, true, false, _&&_, _||_, not, cond}
 use mathlib.Core.List.{List, [], _∷_, _++_}
-use Prim.Native.Nat.{ℕ, zero, suc, _+_, _-_, _*_, _/_, _%_, _<_, _≤_}
+use Prim.Native.Nat.{ℕ, zero, suc, _+_, _-_, _*_, _<_, _≤_}
 use native.Mathlib.Nat.{sub-zero, not-suc-le-zero, le-of-suc-le-suc, div-add-mod'}
 use native.Mathlib.Numerals.{add-one}
 use native.Mathlib.Omega.{arith}
@@ -134,7 +134,8 @@ module _ (k : ℕ) (cs : List ℕ) (m : ℕ) where
     other-made l =
         let w = words-length cs in
         rw other-is
-        (put-append (replicate entryMax 0) 0 (length cs ∷ k ∷ []) (words cs) (omega (arith, w)) ∙ put-pad entryMax (length cs ∷ k ∷ words cs) (omega (arith, w)))
+        (put-append (replicate entryMax 0) 0 (length cs ∷ k ∷ []) (words cs) (omega (arith, w))
+        ∙ put-pad entryMax (length cs ∷ k ∷ words cs) (omega (arith, w)))
 
   -- all of it
   pub entry-whole : sizeAt (entryOf k cs m) 0 ≡ length (entryOf k cs m)

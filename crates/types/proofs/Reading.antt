@@ -1,6 +1,6 @@
 -- Reading a type by value: one law for each step and each return. Assumes nothing.
 use mathlib.Core.Path.{_≡_, refl, sym, _∙_, ap}
-use mathlib.Core.Bool.{Bool, true, false, not, cond}
+use mathlib.Core.Bool.{Bool, true, false, not}
 use mathlib.Core.List.{List, [], _∷_}
 use Prim.Native.Nat.{ℕ, zero, suc, _+_, _<_, _≤_}
 use native.Mathlib.Numerals.{add-one}
@@ -17,12 +17,11 @@ use Rattle.pages.specs.Bytes.{countOf}
 use Rattle.pages.specs.Pad.{pad}
 use Rattle.pages.proofs.Pad.{pad-more, pad-none, length-pad}
 use Rattle.names.specs.Calls.{lentBroken, usedOf}
-use Rattle.kinds.specs.Kinds.{fixedMax, childrenMax, isNamed}
+use Rattle.kinds.specs.Kinds.{fixedMax, childrenMax}
 use Rattle.types.specs.Store.{depthIn, depths, formed}
-use Rattle.types.specs.Types.{typesIn, kindOf, arity, childOf, nameOf, Measured}
+use Rattle.types.specs.Types.{typesIn, kindOf, arity, Measured}
 use Rattle.types.specs.Calls.{storeBroken, listTo, typeAt, readVerdict, shown, readAnswer}
 use Rattle.types.specs.declared.Shape.{Shape}
-use Rattle.types.specs.declared.TypeRead.{TypeRead}
 use Rattle.types.proofs.Form.{depth-same}
 use Rattle.types.proofs.Types.{whole}
 use Rattle.types.proofs.Calls.{broken-names, broken-store, unbroken}

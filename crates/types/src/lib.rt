@@ -618,12 +618,7 @@ fn const_entry(page: &[u8], offsets: &[usize], t: usize) -> Entry
 
 // A type's const form, in a store that an entry call found in form (`checked::into_const` tests it): the number of its equal, else the
 // next. The tables grow with it.
-pub fn const_form(
-    page: &mut [u8],
-    offsets: &mut [usize],
-    depths: &mut [u8],
-    t: usize,
-) -> Made
+pub fn const_form(page: &mut [u8], offsets: &mut [usize], depths: &mut [u8], t: usize) -> Made
     requires { ⌜ Measured (now page) (now offsets) (now depths) ⌝ }
     requires { ⌜ t < typesIn (now page) ⌝ }
     ensures { λ r. ⌜ (r ≡ constAnswer (now (page .entry)) t) × (now (page .exit) ≡ constPage (now (page .entry)) t) × (Measured (now (page .exit)) (now (offsets .exit)) (now (depths .exit))) ⌝ }

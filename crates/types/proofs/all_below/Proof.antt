@@ -30,7 +30,10 @@ type-index-requires c κs = search needs
 
 returns : tie.Need-returns Inv-loop μ-loop
 returns c =
-    sym (c .before .before .before .before .loop .inv .1 ∙ below-off (now (c .before .before .before .before .before .before .args .children)) (c .before .before .before .before .before .before .args .t) (c .before .before .before .before .loop .i) (c .before .before .before .loop-test .taken) (rw (c .before .type-index .ensures .0) at (c .if1 .taken)))
+    let start = c .before .before .before .before .before .before in
+    let loop = c .before .before .before .before .loop in
+    let loop-test = c .before .before .before .loop-test in
+    sym (loop .inv .1 ∙ below-off (now (start .args .children)) (start .args .t) (loop .i) (loop-test .taken) (rw (c .before .type-index .ensures .0) at (c .if1 .taken)))
 
 add-i : tie.Need-add-i Inv-loop μ-loop
 add-i c = search needs
@@ -40,10 +43,15 @@ loop-less c = search needs
 
 loop-again : tie.Need-loop-again Inv-loop μ-loop
 loop-again c =
-    (omega arith, c .before .before .before .before .loop .inv .1 ∙ below-on (now (c .before .before .before .before .before .before .args .children)) (c .before .before .before .before .before .before .args .t) (c .before .before .before .before .loop .i) (c .before .before .before .loop-test .taken) (rw (c .before .type-index .ensures .0) at (c .if1 .left)))
+    let start = c .before .before .before .before .before .before in
+    let loop = c .before .before .before .before .loop in
+    let loop-test = c .before .before .before .loop-test in
+    (omega arith, loop .inv .1 ∙ below-on (now (start .args .children)) (start .args .t) (loop .i) (loop-test .taken) (rw (c .before .type-index .ensures .0) at (c .if1 .left)))
 
 returns-2 : tie.Need-returns-2 Inv-loop μ-loop
-returns-2 c = sym (c .before .loop .inv .1 ∙ below-end (now (c .before .before .before .args .children)) (c .before .before .before .args .t) (c .before .loop .i) (c .loop-test .left))
+returns-2 c =
+    let start = c .before .before .before in
+    sym (c .before .loop .inv .1 ∙ below-end (now (start .args .children)) (start .args .t) (c .before .loop .i) (c .loop-test .left))
 
 pub all-below-spec : {M : Type 1} → statement M
 all-below-spec =

@@ -26,7 +26,9 @@ arity-requires : tie.Need-arity-requires Inv-loop μ-loop
 arity-requires c κs = search needs
 
 loop-holds : tie.Need-loop-holds Inv-loop μ-loop
-loop-holds c = (omega arith, c .before .no-children .ensures ∙ children-none (childOf (now (c .before .before .before .before .args .page)) (c .before .before .before .before .args .t)))
+loop-holds c =
+    let start = c .before .before .before .before in
+    (omega arith, c .before .no-children .ensures ∙ children-none (childOf (now (start .args .page)) (start .args .t)))
 
 child-of-requires : tie.Need-child-of-requires Inv-loop μ-loop
 child-of-requires c κs =
@@ -41,11 +43,14 @@ slice-aggregate-set-child c =
 
 set-child-requires : tie.Need-set-child-requires Inv-loop μ-loop
 set-child-requires c κs =
-    let start = c .before .before .before .before .before .before .before .before in
+    let arity = c .before .before .before .before .arity in
     let loop = c .before .before .before .loop in
+    let loop-test = c .before .before .loop-test in
+    let start = c .before .before .before .before .before .before .before .before in
+    let loop = loop in
     let n = children-places (childOf (now (start .args .page)) (start .args .t)) (loop .children) (loop .i) (loop .inv .1) in
     let w = whole (now (start .args .page)) (start .pre .0 .sound .names) (start .pre .0 .sound .form) .few in
-    (omega (arith, n, c .before .before .before .before .arity .ensures .1, c .before .before .loop-test .taken), omega (arith, c .before .child-of .ensures .1, start .pre .1, w))
+    (omega (arith, n, arity .ensures .1, loop-test .taken), omega (arith, c .before .child-of .ensures .1, start .pre .1, w))
 
 add-i : tie.Need-add-i Inv-loop μ-loop
 add-i c = search needs
@@ -55,11 +60,15 @@ loop-less c = search needs
 
 loop-again : tie.Need-loop-again Inv-loop μ-loop
 loop-again c =
-    let start = c .before .before .before .before .before .before .before .before .before .before in
+    let arity = c .before .before .before .before .before .before .arity in
     let loop = c .before .before .before .before .before .loop in
+    let loop-test = c .before .before .before .before .loop-test in
     let child-of = c .before .before .before .child-of in
-    let l : loop .i < childrenMax = omega (arith, c .before .before .before .before .before .before .arity .ensures .1, c .before .before .before .before .loop-test .taken) in (
-      omega (arith, c .before .before .before .before .loop-test .taken),
+    let start = c .before .before .before .before .before .before .before .before .before .before in
+    let loop = loop in
+    let child-of = child-of in
+    let l : loop .i < childrenMax = omega (arith, arity .ensures .1, loop-test .taken) in (
+      omega (arith, loop-test .taken),
       c .before .set-child .ensures ∙ rw (loop .inv .1, child-of .ensures .0) (children-more (childOf (now (start .args .page)) (start .args .t)) (loop .i) l),
     )
 

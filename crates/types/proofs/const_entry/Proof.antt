@@ -28,10 +28,13 @@ slice-aggregate-put-bytes c = search needs
 
 add-put-bytes : tie.Need-add-put-bytes
 add-put-bytes c =
+    let offset-of = c .before .before .before .offset-of in
+    let entry-size = c .before .before .entry-size in
     let start = c .before .before .before .before .before .before in
     let page = now (start .args .page) in
-    let at = offset-is page (now (start .args .offsets)) (start .pre .0) (start .args .t) (start .pre .1 .1) (c .before .before .before .offset-of .result) (start .pre .1 .0) (c .before .before .before .offset-of .ensures) in
-    let s = const-size page (start .pre .0 .sound) (start .args .t) (start .pre .1 .0) (start .pre .1 .1) (c .before .before .before .offset-of .result) (c .before .before .entry-size .result) at (c .before .before .entry-size .ensures .0) in
+    let at = offset-is page (now (start .args .offsets)) (start .pre .0) (start .args .t) (start .pre .1 .1) (offset-of .result) (start .pre .1 .0) (offset-of .ensures) in
+    let s = const-size page (start .pre .0 .sound) (start .args .t) (start .pre .1 .0) (start .pre .1 .1) (offset-of .result)
+    (entry-size .result) at (entry-size .ensures .0) in
     search (needs, at, s, entry-inside page (start .pre .0 .sound) (start .args .t) (start .pre .1 .1) (start .pre .1 .0))
 
 sub-put-bytes : tie.Need-sub-put-bytes
@@ -42,34 +45,43 @@ part-put-bytes-start c = search needs
 
 part-put-bytes-end : tie.Need-part-put-bytes-end
 part-put-bytes-end c =
+    let offset-of = c .before .before .before .offset-of in
+    let entry-size = c .before .before .entry-size in
     let start = c .before .before .before .before .before .before in
     let page = now (start .args .page) in
-    let at = offset-is page (now (start .args .offsets)) (start .pre .0) (start .args .t) (start .pre .1 .1) (c .before .before .before .offset-of .result) (start .pre .1 .0) (c .before .before .before .offset-of .ensures) in
-    let s = const-size page (start .pre .0 .sound) (start .args .t) (start .pre .1 .0) (start .pre .1 .1) (c .before .before .before .offset-of .result) (c .before .before .entry-size .result) at (c .before .before .entry-size .ensures .0) in
+    let at = offset-is page (now (start .args .offsets)) (start .pre .0) (start .args .t) (start .pre .1 .1) (offset-of .result) (start .pre .1 .0) (offset-of .ensures) in
+    let s = const-size page (start .pre .0 .sound) (start .args .t) (start .pre .1 .0) (start .pre .1 .1) (offset-of .result)
+    (entry-size .result) at (entry-size .ensures .0) in
     omega (arith, at, s, entry-inside page (start .pre .0 .sound) (start .args .t) (start .pre .1 .1) (start .pre .1 .0))
 
 put-bytes-requires : tie.Need-put-bytes-requires
 put-bytes-requires c κs =
+    let offset-of = c .before .before .before .before .offset-of in
+    let entry-size = c .before .before .before .entry-size in
+    let no-bytes = c .before .before .no-bytes in
     let start = c .before .before .before .before .before .before .before in
     let page = now (start .args .page) in
-    let at = offset-is page (now (start .args .offsets)) (start .pre .0) (start .args .t) (start .pre .1 .1) (c .before .before .before .before .offset-of .result) (start .pre .1 .0) (c .before .before .before .before .offset-of .ensures) in
-    const-fits page (start .pre .0 .sound) (start .args .t) (start .pre .1 .0) (start .pre .1 .1) (c .before .before .before .before .offset-of .result) (c .before .before .before .entry-size .result) at (c .before .before .before .entry-size .ensures .0) (c .before .before .no-bytes .result) (c .before .before .no-bytes .ensures)
+    let at = offset-is page (now (start .args .offsets)) (start .pre .0) (start .args .t) (start .pre .1 .1) (offset-of .result) (start .pre .1 .0) (offset-of .ensures) in
+    const-fits page (start .pre .0 .sound) (start .args .t) (start .pre .1 .0) (start .pre .1 .1) (offset-of .result)
+    (entry-size .result) at (entry-size .ensures .0) (no-bytes .result) (no-bytes .ensures)
 
 slice-aggregate-set-kind : tie.Need-slice-aggregate-set-kind
 slice-aggregate-set-kind c = search needs
 
 add-const-variant : tie.Need-add-const-variant
 add-const-variant c =
+    let offset-of = c .before .before .before .before .before .before .before .offset-of in
     let start = c .before .before .before .before .before .before .before .before .before .before in
     let page = now (start .args .page) in
-    let at = offset-is page (now (start .args .offsets)) (start .pre .0) (start .args .t) (start .pre .1 .1) (c .before .before .before .before .before .before .before .offset-of .result) (start .pre .1 .0) (c .before .before .before .before .before .before .before .offset-of .ensures) in
+    let at = offset-is page (now (start .args .offsets)) (start .pre .0) (start .args .t) (start .pre .1 .1) (offset-of .result) (start .pre .1 .0) (offset-of .ensures) in
     search (needs, at, head-inside page (start .pre .0 .sound) (start .args .t) (start .pre .1 .1) (start .pre .1 .0))
 
 shared-slice-read-const-variant : tie.Need-shared-slice-read-const-variant
 shared-slice-read-const-variant c =
+    let offset-of = c .before .before .before .before .before .before .before .before .offset-of in
     let start = c .before .before .before .before .before .before .before .before .before .before .before in
     let page = now (start .args .page) in
-    let at = offset-is page (now (start .args .offsets)) (start .pre .0) (start .args .t) (start .pre .1 .1) (c .before .before .before .before .before .before .before .before .offset-of .result) (start .pre .1 .0) (c .before .before .before .before .before .before .before .before .offset-of .ensures) in
+    let at = offset-is page (now (start .args .offsets)) (start .pre .0) (start .args .t) (start .pre .1 .1) (offset-of .result) (start .pre .1 .0) (offset-of .ensures) in
     omega (arith, at, head-inside page (start .pre .0 .sound) (start .args .t) (start .pre .1 .1) (start .pre .1 .0))
 
 const-variant-requires : tie.Need-const-variant-requires
@@ -80,13 +92,20 @@ set-kind-requires c κs = search needs
 
 returns : tie.Need-returns
 returns c =
+    let offset-of = c .before .before .before .before .before .before .before .before .before .before .before .offset-of in
+    let entry-size = c .before .before .before .before .before .before .before .before .before .before .entry-size in
+    let no-bytes = c .before .before .before .before .before .before .before .before .before .no-bytes in
+    let put-bytes = c .before .before .before .before .before .before .put-bytes in
+    let const-variant = c .before .before .const-variant in
     let start = c .before .before .before .before .before .before .before .before .before .before .before .before .before .before in
     let page = now (start .args .page) in
-    let at = offset-is page (now (start .args .offsets)) (start .pre .0) (start .args .t) (start .pre .1 .1) (c .before .before .before .before .before .before .before .before .before .before .before .offset-of .result) (start .pre .1 .0) (c .before .before .before .before .before .before .before .before .before .before .before .offset-of .ensures) in
-    let s = const-size page (start .pre .0 .sound) (start .args .t) (start .pre .1 .0) (start .pre .1 .1) (c .before .before .before .before .before .before .before .before .before .before .before .offset-of .result) (c .before .before .before .before .before .before .before .before .before .before .entry-size .result) at (c .before .before .before .before .before .before .before .before .before .before .entry-size .ensures .0) in
-    let p = const-part page (start .pre .0 .sound) (start .args .t) (start .pre .1 .0) (start .pre .1 .1) (c .before .before .before .before .before .before .before .before .before .before .before .offset-of .result) (c .before .before .before .before .before .before .before .before .before .before .entry-size .result) at (c .before .before .before .before .before .before .before .before .before .before .entry-size .ensures .0) in
-    (
-      c .before .set-kind .ensures ∙ rw (c .before .before .before .before .before .before .put-bytes .ensures, p, c .before .before .before .before .before .before .before .before .before .no-bytes .ensures) (const-made page (start .pre .0 .sound) (start .args .t) (start .pre .1 .0) (start .pre .1 .1) (c .before .before .const-variant .result) (rw at at (c .before .before .const-variant .ensures))),
+    let at = offset-is page (now (start .args .offsets)) (start .pre .0) (start .args .t) (start .pre .1 .1) (offset-of .result) (start .pre .1 .0) (offset-of .ensures) in
+    let s = const-size page (start .pre .0 .sound) (start .args .t) (start .pre .1 .0) (start .pre .1 .1) (offset-of .result)
+    (entry-size .result) at (entry-size .ensures .0) in
+    let p = const-part page (start .pre .0 .sound) (start .args .t) (start .pre .1 .0) (start .pre .1 .1) (offset-of .result)
+    (entry-size .result) at (entry-size .ensures .0) in (
+      c .before .set-kind .ensures ∙ rw (put-bytes .ensures, p, no-bytes .ensures)
+          (const-made page (start .pre .0 .sound) (start .args .t) (start .pre .1 .0) (start .pre .1 .1) (const-variant .result) (rw at at (const-variant .ensures))),
       s ∙ sym (const-length page (start .pre .0 .sound) (start .args .t) (start .pre .1 .0) (start .pre .1 .1)),
       omega (arith, s, const-small page (start .pre .0 .sound) (start .args .t) (start .pre .1 .0) (start .pre .1 .1)),
     )

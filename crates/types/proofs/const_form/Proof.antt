@@ -1,5 +1,5 @@
 -- `types::const_form` meets its contract. Assumes nothing.
-use mathlib.Core.Path.{sym, _∙_}
+use mathlib.Core.Path.{_∙_}
 use denote.Ref.{now}
 use Rattle.types.specs.Calls.{constEntry}
 use Rattle.types.proofs.Entries.{entry-front, entry-places}
@@ -19,8 +19,9 @@ index-requires c κs = search needs
 
 returns : tie.Need-returns
 returns c =
+    let if1 = c .before .before .if1 in
     let start = c .before .before .before .before .before .before in
-    const-fixed (now (start .args .page)) _ _ (start .pre .0) (start .args .t) (c .before .before .if1 .taken) (c .index .result) (c .index .ensures .0 ∙ c .before .const-variant .ensures)
+    const-fixed (now (start .args .page)) _ _ (start .pre .0) (start .args .t) (if1 .taken) (c .index .result) (c .index .ensures .0 ∙ c .before .const-variant .ensures)
 
 const-entry-requires : tie.Need-const-entry-requires
 const-entry-requires c κs = search needs
@@ -33,15 +34,19 @@ part-enter-start c = search needs
 
 part-enter-end : tie.Need-part-enter-end
 part-enter-end c =
-    let a = c .before .before .before .before .before .before .before .before .before .before .before .before .args in
-    entry-places (constEntry (now (a .page)) (a .t)) (c .before .before .before .before .before .const-entry .result .bytes) (c .before .before .before .before .before .const-entry .result .size) (c .before .before .before .before .before .const-entry .ensures)
+    let start = c .before .before .before .before .before .before .before .before .before .before .before .before in
+    let const-entry = c .before .before .before .before .before .const-entry in
+    let a = start .args in
+    entry-places (constEntry (now (a .page)) (a .t)) (const-entry .result .bytes) (const-entry .result .size) (const-entry .ensures)
 
 enter-requires : tie.Need-enter-requires
 enter-requires c κs =
+    let if1 = c .before .before .before .before .before .before .before .before .before .if1 in
+    let const-entry = c .before .before .before .before .before .before .const-entry in
     let start = c .before .before .before .before .before .before .before .before .before .before .before .before .before in
     let a = start .args in
-    let e = entry-front (constEntry (now (a .page)) (a .t)) (c .before .before .before .before .before .before .const-entry .result .bytes) (c .before .before .before .before .before .before .const-entry .result .size) (c .before .before .before .before .before .before .const-entry .ensures) in
-    rw e (const-ready (now (a .page)) (now (a .offsets)) (now (a .depths)) (start .pre .0) (a .t) (c .before .before .before .before .before .before .before .before .before .if1 .left) (start .pre .1))
+    let e = entry-front (constEntry (now (a .page)) (a .t)) (const-entry .result .bytes) (const-entry .result .size) (const-entry .ensures) in
+    rw e (const-ready (now (a .page)) (now (a .offsets)) (now (a .depths)) (start .pre .0) (a .t) (if1 .left) (start .pre .1))
 
 same-length : tie.Need-same-length
 same-length c = search needs
@@ -54,11 +59,14 @@ same-length-3 c = search needs
 
 returns-2 : tie.Need-returns-2
 returns-2 c =
+    let if1 = c .before .before .before .before .before .before .before .before .before .before .before .before .before .before .before .before .if1 in
+    let const-entry = c .before .before .before .before .before .before .before .before .before .before .before .before .before .const-entry in
+    let enter = c .before .before .before .before .before .before .enter in
     let start = c .before .before .before .before .before .before .before .before .before .before .before .before .before .before .before .before .before .before .before .before in
     let a = start .args in
-    let e = entry-front (constEntry (now (a .page)) (a .t)) (c .before .before .before .before .before .before .before .before .before .before .before .before .before .const-entry .result .bytes) (c .before .before .before .before .before .before .before .before .before .before .before .before .before .const-entry .result .size) (c .before .before .before .before .before .before .before .before .before .before .before .before .before .const-entry .ensures) in
-    let z = const-entered (now (a .page)) (now (a .offsets)) (now (a .depths)) (start .pre .0) (a .t) (c .before .before .before .before .before .before .before .before .before .before .before .before .before .before .before .before .if1 .left) in
-    ((rw e at (c .before .before .before .before .before .before .enter .ensures .0)) ∙ z .0, (rw e at (c .before .before .before .before .before .before .enter .ensures .1)) ∙ z .1, c .before .before .before .before .before .before .enter .ensures .2)
+    let e = entry-front (constEntry (now (a .page)) (a .t)) (const-entry .result .bytes) (const-entry .result .size) (const-entry .ensures) in
+    let z = const-entered (now (a .page)) (now (a .offsets)) (now (a .depths)) (start .pre .0) (a .t) (if1 .left) in
+    ((rw e at (enter .ensures .0)) ∙ z .0, (rw e at (enter .ensures .1)) ∙ z .1, enter .ensures .2)
 
 pub const-form-spec : {M : Type 1} → statement M
 const-form-spec =

@@ -16,7 +16,11 @@ same-length : tie.Need-same-length
 same-length c = search needs
 
 returns-2 : tie.Need-returns-2
-returns-2 c = let z = empty-made (now (c .before .before .before .before .before .before .args .page)) (c .before .before .before .before .if1 .left) in (z .0, c .before .before .clear .ensures ∙ z .1)
+returns-2 c =
+    let start = c .before .before .before .before .before .before in
+    let if1 = c .before .before .before .before .if1 in
+    let clear = c .before .before .clear in
+    let z = empty-made (now (start .args .page)) (if1 .left) in (z .0, clear .ensures ∙ z .1)
 
 pub empty-types-spec : {M : Type 1} → statement M
 empty-types-spec = tie.close (tie.spec returns clear-requires same-length returns-2)

@@ -27,9 +27,13 @@ add-t15 c = search needs
 
 returns : tie.Need-returns
 returns c =
-    let a = c .before .before .before .before .before .before .before .before .args in
-    let h = sym (c .before .before .before .before .before .is-named .ensures) ∙ c .before .before .before .before .if1 .taken in (
-      c .before .put-bytes .ensures ∙ rw (c .before .before .before .before .before .before .no-bytes .ensures) (named-made (a .kind) (now (a .children)) (a .name) h),
+    let start = c .before .before .before .before .before .before .before .before in
+    let no-bytes = c .before .before .before .before .before .before .no-bytes in
+    let is-named = c .before .before .before .before .before .is-named in
+    let if1 = c .before .before .before .before .if1 in
+    let a = start .args in
+    let h = sym (is-named .ensures) ∙ if1 .taken in (
+      c .before .put-bytes .ensures ∙ rw (no-bytes .ensures) (named-made (a .kind) (now (a .children)) (a .name) h),
       named-size (a .kind) (now (a .children)) (a .name) h,
       omega arith,
     )
@@ -60,11 +64,16 @@ add-t26 c = search needs
 
 returns-2 : tie.Need-returns-2
 returns-2 c =
-    let a = c .before .before .before .before .before .before .before .before .before .before .before .args in
-    let h = sym (c .before .before .before .before .before .before .before .before .is-named .ensures) ∙ c .before .before .before .before .before .before .before .if1 .left in (
-      c .before .put-children .ensures ∙ rw (c .before .before .before .before .put-bytes2 .ensures, c .before .before .before .before .before .before .before .before .before .no-bytes .ensures) (other-made (a .kind) (now (a .children)) (a .name) h (c .before .before .before .before .before .before .before .before .before .before .before .pre)),
+    let start = c .before .before .before .before .before .before .before .before .before .before .before in
+    let no-bytes = c .before .before .before .before .before .before .before .before .before .no-bytes in
+    let is-named = c .before .before .before .before .before .before .before .before .is-named in
+    let if1 = c .before .before .before .before .before .before .before .if1 in
+    let put-bytes2 = c .before .before .before .before .put-bytes2 in
+    let a = start .args in
+    let h = sym (is-named .ensures) ∙ if1 .left in (
+      c .before .put-children .ensures ∙ rw (put-bytes2 .ensures, no-bytes .ensures) (other-made (a .kind) (now (a .children)) (a .name) h (start .pre)),
       other-size (a .kind) (now (a .children)) (a .name) h,
-      omega (arith, c .before .before .before .before .before .before .before .before .before .before .before .pre),
+      omega (arith, start .pre),
     )
 
 pub entry-of-spec : {M : Type 1} → statement M

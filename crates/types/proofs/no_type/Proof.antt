@@ -1,5 +1,4 @@
 -- `types::no_type` meets its contract. Assumes nothing.
-use mathlib.Core.Path.{_∙_}
 use Rattle.types.proofs.Reading.{null-is}
 use borrow.Author.Needs.{needs}
 use Rattle.types.proofs.no_type.Statement.{statement}

@@ -18,8 +18,10 @@ all-below-requires c κs = search needs
 
 returns : tie.Need-returns
 returns c =
-    let a = c .before .before .before .before .before .args in
-    let b = rw (c .before .before .count .ensures .0) at (sym (c .before .all-below .ensures) ∙ not-true (c .before .all-below .result) (c .if1 .taken)) in
+    let start = c .before .before .before .before .before in
+    let count = c .before .before .count in
+    let a = start .args in
+    let b = rw (count .ensures .0) at (sym (c .before .all-below .ensures) ∙ not-true (c .before .all-below .result) (c .if1 .taken)) in
     parts-above (now (a .page)) (a .n) (a .kind) (now (a .children)) (a .name) b
 
 is-named-requires : tie.Need-is-named-requires
@@ -30,14 +32,23 @@ symbol-index-requires c κs = search needs
 
 returns-2 : tie.Need-returns-2
 returns-2 c =
-    let a = c .before .before .before .before .before .before .before .before .args in
-    let b = rw (c .before .before .before .before .before .count .ensures .0) at (sym (c .before .before .before .before .all-below .ensures) ∙ not-false (c .before .before .before .before .all-below .result) (c .before .before .before .if1 .left)) in
-    rw (c .symbol-index .ensures .0) (parts-named (now (a .page)) (a .n) (a .kind) (now (a .children)) (a .name) b (sym (c .before .before .is-named .ensures) ∙ c .before .if2 .taken))
+    let start = c .before .before .before .before .before .before .before .before in
+    let count = c .before .before .before .before .before .count in
+    let all-below = c .before .before .before .before .all-below in
+    let if1 = c .before .before .before .if1 in
+    let is-named = c .before .before .is-named in
+    let a = start .args in
+    let b = rw (count .ensures .0) at (sym (all-below .ensures) ∙ not-false (all-below .result) (if1 .left)) in
+    rw (c .symbol-index .ensures .0) (parts-named (now (a .page)) (a .n) (a .kind) (now (a .children)) (a .name) b (sym (is-named .ensures) ∙ c .before .if2 .taken))
 
 returns-3 : tie.Need-returns-3
 returns-3 c =
-    let a = c .before .before .before .before .before .before .before .args in
-    let b = rw (c .before .before .before .before .count .ensures .0) at (sym (c .before .before .before .all-below .ensures) ∙ not-false (c .before .before .before .all-below .result) (c .before .before .if1 .left)) in
+    let start = c .before .before .before .before .before .before .before in
+    let count = c .before .before .before .before .count in
+    let all-below = c .before .before .before .all-below in
+    let if1 = c .before .before .if1 in
+    let a = start .args in
+    let b = rw (count .ensures .0) at (sym (all-below .ensures) ∙ not-false (all-below .result) (if1 .left)) in
     parts-nameless (now (a .page)) (a .n) (a .kind) (now (a .children)) (a .name) b (sym (c .before .is-named .ensures) ∙ c .if2 .left)
 
 pub parts-used-spec : {M : Type 1} → statement M

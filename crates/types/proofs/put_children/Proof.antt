@@ -1,11 +1,11 @@
 -- `types::put_children` meets its contract. Assumes nothing.
 use mathlib.Core.Path.{_≡_, refl, _∙_}
-use Prim.Native.Nat.{_+_, _-_, _*_, _≤_}
+use Prim.Native.Nat.{_-_, _≤_}
 use native.Mathlib.Omega.{arith}
 use lib.ListN.{length, take}
 use denote.Ref.{now}
 use Rattle.pages.specs.Bytes.{put}
-use Rattle.types.specs.Store.{headBytes, childBytes}
+use Rattle.types.specs.Store.{headBytes}
 use Rattle.types.specs.Making.{words}
 use Rattle.types.proofs.Entries.{words-none, words-more, words-all}
 use borrow.Author.Needs.{needs}
@@ -19,7 +19,9 @@ abbrev μ-loop : tie.MeasureT-loop
 μ-loop bytes₀ children i₀ bytes i = length children - i
 
 loop-holds : tie.Need-loop-holds Inv-loop μ-loop
-loop-holds c = (omega arith, words-none (now (c .before .before .args .bytes)) (now (c .before .before .args .children)) (c .before .before .pre), refl)
+loop-holds c =
+    let start = c .before .before in
+    (omega arith, words-none (now (start .args .bytes)) (now (start .args .children)) (start .pre), refl)
 
 mul-type-index : tie.Need-mul-type-index Inv-loop μ-loop
 mul-type-index c = search needs
@@ -52,17 +54,26 @@ loop-less : tie.Need-loop-less Inv-loop μ-loop
 loop-less c = search needs
 
 loop-again : tie.Need-loop-again Inv-loop μ-loop
-loop-again c = (
-  omega arith,
-  c .before .before .put-bytes .ensures ∙ rw (c .before .before .before .before .before .before .before .before .before .loop .inv .1, c .before .before .before .before .before .count-bytes .ensures, c .before .before .before .before .before .before .type-index .ensures .0) (words-more (now (c .before .before .before .before .before .before .before .before .before .before .before .before .args .bytes)) (now (c .before .before .before .before .before .before .before .before .before .before .before .before .args .children)) (c .before .before .before .before .before .before .before .before .before .before .before .before .pre) (c .before .before .before .before .before .before .before .before .before .loop .i) (c .before .before .before .before .before .before .before .before .loop-test .taken)),
-  c .before .before .put-bytes .kept .0 ∙ c .before .before .before .before .before .before .before .before .before .loop .inv .2,
-)
+loop-again c =
+    let start = c .before .before .before .before .before .before .before .before .before .before .before .before in
+    let loop = c .before .before .before .before .before .before .before .before .before .loop in
+    let loop-test = c .before .before .before .before .before .before .before .before .loop-test in
+    let type-index = c .before .before .before .before .before .before .type-index in
+    let count-bytes = c .before .before .before .before .before .count-bytes in
+    let put-bytes = c .before .before .put-bytes in (
+      omega arith,
+      put-bytes .ensures ∙ rw (loop .inv .1, count-bytes .ensures, type-index .ensures .0)
+          (words-more (now (start .args .bytes)) (now (start .args .children)) (start .pre) (loop .i) (loop-test .taken)),
+      put-bytes .kept .0 ∙ loop .inv .2,
+    )
 
 same-length : tie.Need-same-length Inv-loop μ-loop
 same-length c = search needs
 
 returns : tie.Need-returns Inv-loop μ-loop
-returns c = c .before .loop .inv .1 ∙ words-all (now (c .before .before .before .before .args .bytes)) (now (c .before .before .before .before .args .children)) (c .before .before .before .before .pre) (c .before .loop .i) (omega arith)
+returns c =
+    let start = c .before .before .before .before in
+    c .before .loop .inv .1 ∙ words-all (now (start .args .bytes)) (now (start .args .children)) (start .pre) (c .before .loop .i) (omega arith)
 
 pub put-children-spec : {M : Type 1} → statement M
 put-children-spec =

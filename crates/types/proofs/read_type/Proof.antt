@@ -16,8 +16,10 @@ no-type-requires c κs = search needs
 
 returns : tie.Need-returns
 returns c =
-    let a = c .before .before .before .before .before .args in
-    c .no-type .ensures (now (a .page)) ∙ read-unnamed (now (a .page)) (now (a .names)) (a .lent) (a .t) (sym (c .before .before .is-broken .ensures) ∙ c .before .if1 .taken)
+    let start = c .before .before .before .before .before in
+    let is-broken = c .before .before .is-broken in
+    let a = start .args in
+    c .no-type .ensures (now (a .page)) ∙ read-unnamed (now (a .page)) (now (a .names)) (a .lent) (a .t) (sym (is-broken .ensures) ∙ c .before .if1 .taken)
 
 in-use-requires : tie.Need-in-use-requires
 in-use-requires c κs = sym (c .before .is-broken .ensures) ∙ c .if1 .left
@@ -42,13 +44,22 @@ no-type-requires-2 c κs = search needs
 
 returns-2 : tie.Need-returns-2
 returns-2 c =
-    let a = c .before .before .before .before .before .before .before .before .before .before .before .before .before .before .args in
-    let l = sym (c .before .before .before .before .before .before .before .before .before .before .before .is-broken .ensures) ∙ c .before .before .before .before .before .before .before .before .before .before .if1 .left in
-    let f = sym (c .before .before .before .before .survey .ensures .0) ∙ not-true (c .before .before .before .before .survey .result) (c .before .if2 .taken) in
-    c .no-type2 .ensures (now (a .page)) ∙ read-unformed (now (a .page)) (now (a .names)) (a .lent) (a .t) l (c .before .before .before .before .before .before .before .before .before .in-use .result) (c .before .before .before .before .before .before .before .before .before .in-use .ensures .0) f
+    let start = c .before .before .before .before .before .before .before .before .before .before .before .before .before .before in
+    let is-broken = c .before .before .before .before .before .before .before .before .before .before .before .is-broken in
+    let if1 = c .before .before .before .before .before .before .before .before .before .before .if1 in
+    let in-use = c .before .before .before .before .before .before .before .before .before .in-use in
+    let survey = c .before .before .before .before .survey in
+    let a = start .args in
+    let l = sym (is-broken .ensures) ∙ if1 .left in
+    let f = sym (survey .ensures .0) ∙ not-true (survey .result) (c .before .if2 .taken) in
+    c .no-type2 .ensures (now (a .page)) ∙ read-unformed (now (a .page)) (now (a .names)) (a .lent) (a .t) l (in-use .result) (in-use .ensures .0) f
 
 count-requires : tie.Need-count-requires
-count-requires c κs = whole (now (c .before .before .before .before .before .before .before .before .before .before .before .before .before .args .page)) (c .before .before .before .before .before .before .before .before .in-use .result) (sym (c .before .before .before .survey .ensures .0) ∙ not-false (c .before .before .before .survey .result) (c .if2 .left)) .two
+count-requires c κs =
+    let start = c .before .before .before .before .before .before .before .before .before .before .before .before .before in
+    let in-use = c .before .before .before .before .before .before .before .before .in-use in
+    let survey = c .before .before .before .survey in
+    whole (now (start .args .page)) (in-use .result) (sym (survey .ensures .0) ∙ not-false (survey .result) (c .if2 .left)) .two
 
 add-if3 : tie.Need-add-if3
 add-if3 c = search needs
@@ -58,11 +69,18 @@ no-type-requires-3 c κs = search needs
 
 returns-3 : tie.Need-returns-3
 returns-3 c =
-    let a = c .before .before .before .before .before .before .before .before .before .before .before .before .before .before .before .before .args in
-    let l = sym (c .before .before .before .before .before .before .before .before .before .before .before .before .before .is-broken .ensures) ∙ c .before .before .before .before .before .before .before .before .before .before .before .before .if1 .left in
-    let f = sym (c .before .before .before .before .before .before .survey .ensures .0) ∙ not-false (c .before .before .before .before .before .before .survey .result) (c .before .before .before .if2 .left) in
-    let h = rw (c .before .before .count .ensures .0) at (c .before .if3 .taken) in
-    c .no-type3 .ensures (now (a .page)) ∙ read-unused (now (a .page)) (now (a .names)) (a .lent) (a .t) l (c .before .before .before .before .before .before .before .before .before .before .before .in-use .result) (c .before .before .before .before .before .before .before .before .before .before .before .in-use .ensures .0) f h
+    let start = c .before .before .before .before .before .before .before .before .before .before .before .before .before .before .before .before in
+    let is-broken = c .before .before .before .before .before .before .before .before .before .before .before .before .before .is-broken in
+    let if1 = c .before .before .before .before .before .before .before .before .before .before .before .before .if1 in
+    let in-use = c .before .before .before .before .before .before .before .before .before .before .before .in-use in
+    let survey = c .before .before .before .before .before .before .survey in
+    let if2 = c .before .before .before .if2 in
+    let count = c .before .before .count in
+    let a = start .args in
+    let l = sym (is-broken .ensures) ∙ if1 .left in
+    let f = sym (survey .ensures .0) ∙ not-false (survey .result) (if2 .left) in
+    let h = rw (count .ensures .0) at (c .before .if3 .taken) in
+    c .no-type3 .ensures (now (a .page)) ∙ read-unused (now (a .page)) (now (a .names)) (a .lent) (a .t) l (in-use .result) (in-use .ensures .0) f h
 
 slice-aggregate-shape-of : tie.Need-slice-aggregate-shape-of
 slice-aggregate-shape-of c = search needs
@@ -71,15 +89,28 @@ slice-aggregate-shape-of-2 : tie.Need-slice-aggregate-shape-of-2
 slice-aggregate-shape-of-2 c = search needs
 
 shape-of-requires : tie.Need-shape-of-requires
-shape-of-requires c κs = (c .before .before .before .before .before .before .before .survey .ensures .1 (not-false (c .before .before .before .before .before .before .before .survey .result) (c .before .before .before .before .if2 .left)), rw (c .before .before .before .count .ensures .0) at (c .before .before .if3 .left))
+shape-of-requires c κs =
+    let survey = c .before .before .before .before .before .before .before .survey in
+    let if2 = c .before .before .before .before .if2 in
+    let count = c .before .before .before .count in
+    let if3 = c .before .before .if3 in
+    (survey .ensures .1 (not-false (survey .result) (if2 .left)), rw (count .ensures .0) at (if3 .left))
 
 returns-4 : tie.Need-returns-4
 returns-4 c =
-    let a = c .before .before .before .before .before .before .before .before .before .before .before .before .before .before .before .before .before .before .args in
-    let l = sym (c .before .before .before .before .before .before .before .before .before .before .before .before .before .before .before .is-broken .ensures) ∙ c .before .before .before .before .before .before .before .before .before .before .before .before .before .before .if1 .left in
-    let f = sym (c .before .before .before .before .before .before .before .before .survey .ensures .0) ∙ not-false (c .before .before .before .before .before .before .before .before .survey .result) (c .before .before .before .before .before .if2 .left) in
-    let h = rw (c .before .before .before .before .count .ensures .0) at (c .before .before .before .if3 .left) in
-    read-given (now (a .page)) (now (a .names)) (a .lent) (a .t) l (c .before .before .before .before .before .before .before .before .before .before .before .before .before .in-use .result) (c .before .before .before .before .before .before .before .before .before .before .before .before .before .in-use .ensures .0) f h (c .shape-of .result) (c .shape-of .ensures)
+    let start = c .before .before .before .before .before .before .before .before .before .before .before .before .before .before .before .before .before .before in
+    let is-broken = c .before .before .before .before .before .before .before .before .before .before .before .before .before .before .before .is-broken in
+    let if1 = c .before .before .before .before .before .before .before .before .before .before .before .before .before .before .if1 in
+    let in-use = c .before .before .before .before .before .before .before .before .before .before .before .before .before .in-use in
+    let survey = c .before .before .before .before .before .before .before .before .survey in
+    let if2 = c .before .before .before .before .before .if2 in
+    let count = c .before .before .before .before .count in
+    let if3 = c .before .before .before .if3 in
+    let a = start .args in
+    let l = sym (is-broken .ensures) ∙ if1 .left in
+    let f = sym (survey .ensures .0) ∙ not-false (survey .result) (if2 .left) in
+    let h = rw (count .ensures .0) at (if3 .left) in
+    read-given (now (a .page)) (now (a .names)) (a .lent) (a .t) l (in-use .result) (in-use .ensures .0) f h (c .shape-of .result) (c .shape-of .ensures)
 
 pub read-type-spec : {M : Type 1} → statement M
 read-type-spec =

@@ -11,7 +11,9 @@ kind-of-requires : tie.Need-kind-of-requires
 kind-of-requires c κs = search needs
 
 depth-in-requires : tie.Need-depth-in-requires
-depth-in-requires c κs = depth-there (now (c .before .before .before .before .args .page)) _ _ (c .before .before .before .before .pre .0) (c .before .before .before .before .args .t) (c .before .before .before .before .pre .1)
+depth-in-requires c κs =
+    let start = c .before .before .before .before in
+    depth-there (now (start .args .page)) _ _ (start .pre .0) (start .args .t) (start .pre .1)
 
 arity-requires : tie.Need-arity-requires
 arity-requires c κs = search needs
@@ -25,9 +27,13 @@ name-or-zero-requires c κs = search needs
 returns : tie.Need-returns
 unfolding typeAt
 returns c =
-    let a = c .before .before .before .before .before .before .before .before .args in
-    let d = c .before .before .before .depth-in .ensures .0 ∙ depth-read (now (a .page)) (now (a .offsets)) (now (a .depths)) (c .before .before .before .before .before .before .before .before .pre .0) (a .t) (c .before .before .before .before .before .before .before .before .pre .1) in
-    rw (c .before .before .before .before .kind-of .ensures, d, c .before .before .arity .ensures .0, c .before .children-of .ensures, c .name-or-zero .ensures) refl
+    let start = c .before .before .before .before .before .before .before .before in
+    let kind-of = c .before .before .before .before .kind-of in
+    let depth-in = c .before .before .before .depth-in in
+    let arity = c .before .before .arity in
+    let a = start .args in
+    let d = depth-in .ensures .0 ∙ depth-read (now (a .page)) (now (a .offsets)) (now (a .depths)) (start .pre .0) (a .t) (start .pre .1) in
+    rw (kind-of .ensures, d, arity .ensures .0, c .before .children-of .ensures, c .name-or-zero .ensures) refl
 
 pub shape-of-spec : {M : Type 1} → statement M
 shape-of-spec =
