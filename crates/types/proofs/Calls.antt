@@ -57,6 +57,11 @@ module _ (page names : List ℕ) (lent : Bool) where
     unbroken f = rw (l, f)
 
   -- where neither breaks its form
+  -- whether it is broken, once the names are not
+  pub broken-or-not : lentBroken names lent ≡ false → (n : ℕ) → n ≡ usedOf names lent → (r : Bool) → r ≡ formed page n → storeBroken page names lent ≡ not r
+  unfolding storeBroken
+  broken-or-not l n is r e = rw (l, ← is, e) refl
+
   pub unbroken-both : storeBroken page names lent ≡ false → (lentBroken names lent ≡ false) × (formed page (usedOf names lent) ≡ true)
   unfolding storeBroken
   unbroken-both e = go (lentBroken names lent) refl

@@ -11,4 +11,5 @@ pub mod Entries
 pub mod Calls
 pub mod Reading
 pub mod Const
+pub mod Back
 pub mod Fresh

@@ -1,10 +1,10 @@
 -- Making a type: "Making a type returns the number of its equal, else the next" (document 01, "Types").
 use mathlib.Core.Path.{_≡_}
 use mathlib.Core.Bool.{Bool, true, _&&_, not, cond}
-use mathlib.Core.List.{List, [], _∷_}
-use Prim.Native.Nat.{ℕ, _+_, _*_, _/_, _%_, _<_, _≤_}
+use mathlib.Core.List.{List, [], _∷_, _++_}
+use Prim.Native.Nat.{ℕ, _+_, _-_, _*_, _/_, _%_, _<_, _≤_}
 use lib.Dec.{ltb, leb}
-use lib.ListN.{length, getD}
+use lib.ListN.{length, getD, take, replicate}
 use Rattle.refusals.specs.Lowest.{_when_, lowest, unlessRefused}
 use Rattle.refusals.specs.declared.Refusal.the-variants.{Depth, Full}
 use Rattle.refusals.specs.declared.Verdict.{Verdict}
@@ -78,6 +78,10 @@ enterAnswer page entry = numbered (enterVerdict page entry) (fixedMax + equalTo 
 -- the page afterwards: changed only by a new type that is not refused
 unfoldable pub enterPage : List ℕ → List ℕ → List ℕ
 enterPage page entry = unlessRefused (enterVerdict page entry) (cond (isMade page entry) page (withEntry page entry)) page
+
+-- the page with this count's bytes, and without the entries from index `end` on
+unfoldable pub takenBack : List ℕ → List ℕ → ℕ → List ℕ
+takenBack page count end = put (take end page ++ replicate (length page - end) 0) 0 count
 
 -- a store that has grown out of another: every entry of that one stands where it stood
 pub record Grows (page grown : List ℕ) : Type 0 where

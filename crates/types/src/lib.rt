@@ -4,11 +4,12 @@ use kinds::FIXED;
 use kinds::Kind;
 use names::symbol_index;
 use pages::COUNT_BYTES;
+use pages::Word;
 use pages::index;
 use refusals::Refusal;
 use refusals::Verdict;
 ghost use mathlib.Core.Path.{_≡_};
-ghost use mathlib.Core.Bool.{true, cond};
+ghost use mathlib.Core.Bool.{true, cond, not};
 ghost use mathlib.Core.List.{List};
 ghost use Prim.Native.Nat.{ℕ, suc, _+_, _-_, _*_, _≤_, _<_};
 ghost use lib.ListN.{length, getD, set, replicate};
@@ -19,8 +20,8 @@ ghost use Rattle.pages.specs.Pad.{pad};
 ghost use Rattle.kinds.specs.Kinds.{fixedMax, childrenMax, isNamed, fewest, most};
 ghost use Rattle.types.specs.Store.{entriesMax, headBytes, childBytes, childrenAt, sizeAt, offset, depthIn, larger, depthAt, isBelow, childrenBelow, partsAt, equalTo, goodAt, formed, Reached};
 ghost use Rattle.types.specs.Types.{typesIn, kindOf, arity, childOf, nameOf, Held, Measured};
-ghost use Rattle.types.specs.Making.{words, entryOf, entryMax, Ready, enterAnswer, enterPage};
-ghost use Rattle.types.specs.Calls.{emptyVerdict, emptyPage, allBelow, partsUsed, makeAnswer, makePage, listTo, typeAt, shown, readAnswer, constEntry, constAnswer, constPage};
+ghost use Rattle.types.specs.Making.{words, entryOf, entryMax, Ready, enterAnswer, enterPage, takenBack};
+ghost use Rattle.types.specs.Calls.{storeBroken, emptyVerdict, emptyPage, allBelow, partsUsed, makeAnswer, makePage, listTo, typeAt, shown, readAnswer, constEntry, constAnswer, constPage};
 
 // How many types there can be.
 pub const TYPES: usize = 4096;
@@ -630,4 +631,31 @@ pub fn const_form(page: &mut [u8], offsets: &mut [usize], depths: &mut [u8], t: 
     let bytes = entry.bytes;
     let size = entry.size;
     enter(page, offsets, depths, &bytes[0..size])
+}
+
+// Takes back the entries from index `end` on, the count's bytes having been these.
+pub fn take_back(page: &mut [u8], count: Word, end: usize)
+    requires { ⌜ (countBytes ≤ end) × (end ≤ length (now page)) ⌝ }
+    ensures { λ _. ⌜ now (page .exit) ≡ takenBack (now (page .entry)) count end ⌝ }
+{
+    pages::clear(&mut page[end..]);
+    pages::put_bytes(page, 0, &count);
+}
+
+// Whether names and store are in form, names being looked at where `lent` is true; if so, the tables are filled.
+pub fn open(
+    page: &[u8],
+    names: &[u8],
+    lent: bool,
+    offsets: &mut [usize],
+    depths: &mut [u8],
+) -> bool
+    requires { ⌜ (length (now offsets) ≡ suc entriesMax) × (length (now depths) ≡ entriesMax) ⌝ }
+    ensures { λ r. ⌜ (storeBroken (now (page .entry)) (now (names .entry)) lent ≡ not r) × (r ≡ true → Measured (now (page .entry)) (now (offsets .exit)) (now (depths .exit))) ⌝ }
+{
+    if names::is_broken(names, lent) {
+        return false;
+    }
+    let n = names::in_use(names, lent);
+    survey(page, n, offsets, depths)
 }
