@@ -11,6 +11,7 @@ use refusals::Verdict;
 ghost use mathlib.Core.Path.{_≡_};
 ghost use mathlib.Core.Bool.{true, cond, not};
 ghost use mathlib.Core.List.{List};
+ghost use mathlib.Core.List.{[], _∷_};
 ghost use Prim.Native.Nat.{ℕ, suc, _+_, _-_, _*_, _≤_, _<_};
 ghost use lib.ListN.{length, getD, set, replicate};
 ghost use Rattle.refusals.specs.declared.Verdict.the-variants.{Refused};
@@ -269,8 +270,24 @@ pub fn survey(page: &[u8], n: usize, offsets: &mut [usize], depths: &mut [u8]) -
     pages::zeros_from(page, o)
 }
 
-// Where the entry of a type begins, as the table has it.
-fn offset_of(offsets: &[usize], t: usize) -> usize
+// How many types there are, and so the next one's number.
+pub fn count(page: &[u8]) -> usize
+    requires { ⌜ countBytes ≤ length (now page) ⌝ }
+    ensures { λ r. ⌜ r ≡ typesIn (now (page .entry)) ⌝ }
+{
+    FIXED + pages::count(page)
+}
+
+// The bytes of the count of entries.
+pub fn front(page: &[u8]) -> Word
+    requires { ⌜ countBytes ≤ length (now page) ⌝ }
+    ensures { λ r. ⌜ r ≡ getD (now (page .entry)) 0 0 ∷ getD (now (page .entry)) 1 0 ∷ [] ⌝ }
+{
+    [page[0], page[1]]
+}
+
+// Where the entry of a type begins, as the table has it, or of the next type's number where the last entry ends.
+pub fn offset_of(offsets: &[usize], t: usize) -> usize
     requires { ⌜ (fixedMax ≤ t) × (t < fixedMax + length (now offsets)) × (length (now offsets) ≡ suc entriesMax) ⌝ }
     ensures { λ r. ⌜ r ≡ getD (now (offsets .entry)) (t - fixedMax) 0 ⌝ }
 {
@@ -643,7 +660,7 @@ pub fn take_back(page: &mut [u8], count: Word, end: usize)
 }
 
 // Whether names and store are in form, names being looked at where `lent` is true; if so, the tables are filled.
-pub fn open(
+pub fn opened(
     page: &[u8],
     names: &[u8],
     lent: bool,

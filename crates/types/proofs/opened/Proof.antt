@@ -1,12 +1,12 @@
--- `types::open` meets its contract. Assumes nothing.
+-- `types::opened` meets its contract. Assumes nothing.
 use mathlib.Core.Path.{_≡_, sym, _∙_, subst}
 use mathlib.Core.Bool.{true, false}
 use lib.Dec.{T}
 use denote.Ref.{now}
 use Rattle.types.proofs.Calls.{broken-names, broken-or-not}
 use borrow.Author.Needs.{needs}
-use Rattle.types.proofs.open.Statement.{statement}
-use Rattle.types.proofs.open.Tie as tie
+use Rattle.types.proofs.opened.Statement.{statement}
+use Rattle.types.proofs.opened.Tie as tie
 
 is-broken-requires : tie.Need-is-broken-requires
 is-broken-requires c κs = search needs
@@ -33,8 +33,8 @@ returns-2 c =
     let a = c .before .before .before .before .before .before .before .before .before .before .before .before .before .before .args in
     (broken-or-not (now (a .page)) (now (a .names)) (a .lent) (sym (c .before .before .before .before .before .before .before .before .before .is-broken .ensures) ∙ c .before .before .before .before .before .before .before .before .if1 .left) (c .before .before .before .before .before .before .before .in-use .result) (c .before .before .before .before .before .before .before .in-use .ensures .0) (c .before .before .before .before .survey .result) (c .before .before .before .before .survey .ensures .0), c .before .before .before .before .survey .ensures .1)
 
-pub open-spec : {M : Type 1} → statement M
-open-spec =
+pub opened-spec : {M : Type 1} → statement M
+opened-spec =
     tie.close
     (tie.spec
     is-broken-requires
