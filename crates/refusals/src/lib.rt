@@ -34,6 +34,13 @@ pub enum Verdict {
     Refused(Refusal),
 }
 
+// What a call with a plain question answers.
+pub enum Answer {
+    Yes,
+    No,
+    Refused(Refusal),
+}
+
 // The number that document 01 gives a refusal.
 pub fn number(r: Refusal) -> u8
     ensures { λ n. ⌜ n ≡ numberOf r ⌝ }
