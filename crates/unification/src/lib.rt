@@ -87,10 +87,9 @@ fn are_alike(k: Kind, m: Kind) -> bool
     ensures { λ r. ⌜ r ≡ isAlike k m ⌝ }
 {
     (kinds::is_array(k) & kinds::is_array(m))
-        | (kinds::is_set(k) & kinds::is_set(m))
-        | (kinds::is_result(k) & kinds::is_result(m))
-        | (kinds::is_map(k) & kinds::is_map(m))
-        | (kinds::is_tuple(k) & kinds::is_tuple(m))
+        | ((kinds::is_set(k) & kinds::is_set(m))
+            | ((kinds::is_result(k) & kinds::is_result(m))
+                | ((kinds::is_map(k) & kinds::is_map(m)) | (kinds::is_tuple(k) & kinds::is_tuple(m)))))
 }
 
 // Whether an array is taken as it is: one of no element, or of Int where Byte is expected.
@@ -149,9 +148,10 @@ pub fn unify(
     }
     let out = unify_children(page, offsets, memo, seen, bindings, e, a);
     let answer = out.answer;
-    if let Answer::Yes = answer {
-        note(seen, SETTLED, e, a);
-    }
+    let Answer::Yes = answer else {
+        return out;
+    };
+    note(seen, SETTLED, e, a);
     out
 }
 
@@ -211,9 +211,6 @@ pub fn unify_arg(
     requires { ⌜ Noted (Settled (now page) bindings) (now seen) ⌝ }
     ensures { λ r. ⌜ r ≡ unifyArg (now (page .entry)) e actual bindings ⌝ }
 {
-    if let Checked::Unknown = actual {
-        return say(true, bindings);
-    }
     if let Checked::Known(a) = actual {
         return unify(page, offsets, memo, seen, bindings, e, a);
     }

@@ -1,69 +1,75 @@
+-- `unification::is_adopted` meets its contract. Assumes nothing.
+use mathlib.Core.Path.{sym, _∙_}
+use native.Mathlib.Omega.{arith}
+use borrow.Author.Tests.{eq-eqb, ne-eqb, not-true, not-false}
+use Rattle.kinds.specs.Kinds.{null}
+use Rattle.matching.proofs.Parts.{one-child}
+use Rattle.unification.specs.Unification.{isAdopted}
 use borrow.Author.Needs.{needs}
 use Rattle.unification.proofs.is_adopted.Statement.{statement}
 use Rattle.unification.proofs.is_adopted.Tie as tie
-use Rattle.unification.proofs.is_adopted.Reads as reads
-use Rattle.unification.proofs.is_adopted.Lts as lts
-use Rattle.kinds.proofs.is_array.Reads as is-array-reads
-use Rattle.kinds.proofs.is_byte.Reads as is-byte-reads
-use Rattle.kinds.proofs.is_int.Reads as is-int-reads
-use Rattle.types.proofs.child_of.Reads as child-of-reads
-use Rattle.types.proofs.kind_of.Reads as kind-of-reads
 
--- src/lib.rt:102:25
 kind-of-requires : tie.Need-kind-of-requires
 kind-of-requires c κs = search needs
 
--- src/lib.rt:102:9
 is-array-requires : tie.Need-is-array-requires
 is-array-requires c κs = search needs
 
--- src/lib.rt:103:9
 returns : tie.Need-returns
-returns c = ?
+returns c = rw (← c .before .before .kind-of .ensures, sym (c .before .is-array .ensures) ∙ not-true (c .before .is-array .result) (c .if1 .taken))
 
--- src/lib.rt:105:25
 kind-of-requires-2 : tie.Need-kind-of-requires-2
 kind-of-requires-2 c κs = search needs
 
--- src/lib.rt:105:9
 is-array-requires-2 : tie.Need-is-array-requires-2
 is-array-requires-2 c κs = search needs
 
--- src/lib.rt:106:9
 returns-2 : tie.Need-returns-2
-returns-2 c = ?
+returns-2 c =
+    let k = sym (c .before .before .before .before .is-array .ensures) ∙ not-false (c .before .before .before .before .is-array .result) (c .before .before .before .if1 .left) in
+    let l = sym (c .before .is-array2 .ensures) ∙ not-true (c .before .is-array2 .result) (c .if2 .taken) in
+    rw (← c .before .before .before .before .before .kind-of .ensures, ← c .before .before .kind-of2 .ensures, k, l)
 
--- src/lib.rt:108:9
 child-of-requires : tie.Need-child-of-requires
-child-of-requires c κs = ?
+child-of-requires c κs =
+    let l = sym (c .before .is-array2 .ensures) ∙ not-false (c .before .is-array2 .result) (c .if2 .left) in
+    let o = one-child _ (c .before .before .before .before .before .before .before .before .pre .0 .sound) _ (c .before .before .before .before .before .before .before .before .pre .1 .1) 19 20 (omega arith) (omega arith) (rw (c .before .before .kind-of2 .ensures) at l) in
+    (c .before .before .before .before .before .before .before .before .pre .0, (c .before .before .before .before .before .before .before .before .pre .1 .1, omega (arith, o)))
 
--- src/lib.rt:110:9
 returns-3 : tie.Need-returns-3
-returns-3 c = ?
+unfolding isAdopted
+returns-3 c =
+    let k = sym (c .before .before .before .before .before .before .is-array .ensures) ∙ not-false (c .before .before .before .before .before .before .is-array .result) (c .before .before .before .before .before .if1 .left) in
+    let l = sym (c .before .before .before .is-array2 .ensures) ∙ not-false (c .before .before .before .is-array2 .result) (c .before .before .if2 .left) in
+    rw (← c .before .before .before .before .before .before .before .kind-of .ensures, ← c .before .before .before .before .kind-of2 .ensures, k, l, ← c .before .child-of .ensures .0, eq-eqb (c .before .child-of .result) null (c .if3 .taken))
 
--- src/lib.rt:112:9
 child-of-requires-2 : tie.Need-child-of-requires-2
-child-of-requires-2 c κs = ?
+child-of-requires-2 c κs =
+    let k = sym (c .before .before .before .before .before .before .is-array .ensures) ∙ not-false (c .before .before .before .before .before .before .is-array .result) (c .before .before .before .before .before .if1 .left) in
+    let o = one-child _ (c .before .before .before .before .before .before .before .before .before .before .pre .0 .sound) _ (c .before .before .before .before .before .before .before .before .before .before .pre .1 .0) 19 20 (omega arith) (omega arith) (rw (c .before .before .before .before .before .before .before .kind-of .ensures) at k) in
+    (c .before .before .before .before .before .before .before .before .before .before .pre .0, (c .before .before .before .before .before .before .before .before .before .before .pre .1 .0, omega (arith, o)))
 
--- src/lib.rt:113:20
 kind-of-requires-3 : tie.Need-kind-of-requires-3
 kind-of-requires-3 c κs = search needs
 
--- src/lib.rt:113:5
 is-byte-requires : tie.Need-is-byte-requires
 is-byte-requires c κs = search needs
 
--- src/lib.rt:113:70
 kind-of-requires-4 : tie.Need-kind-of-requires-4
 kind-of-requires-4 c κs = search needs
 
--- src/lib.rt:113:56
 is-int-requires : tie.Need-is-int-requires
 is-int-requires c κs = search needs
 
--- src/lib.rt:97:1
 returns-4 : tie.Need-returns-4
-returns-4 c = ?
+unfolding isAdopted
+returns-4 c =
+    let k = sym (c .before .before .before .before .before .before .before .before .before .before .before .is-array .ensures) ∙ not-false (c .before .before .before .before .before .before .before .before .before .before .before .is-array .result) (c .before .before .before .before .before .before .before .before .before .before .if1 .left) in
+    let l = sym (c .before .before .before .before .before .before .before .before .is-array2 .ensures) ∙ not-false (c .before .before .before .before .before .before .before .before .is-array2 .result) (c .before .before .before .before .before .before .before .if2 .left) in
+    rw (
+      ← c .before .before .before .before .before .before .before .before .before .before .before .before .kind-of .ensures, ← c .before .before .before .before .before .before .before .before .before .kind-of2 .ensures, k, l, ← c .before .before .before .before .before .before .child-of .ensures .0, ← c .before .before .before .before .child-of2 .ensures .0,
+      ne-eqb (c .before .before .before .before .before .before .child-of .result) null (c .before .before .before .before .before .if3 .left), c .before .before .is-byte .ensures, c .is-int .ensures, c .before .before .before .kind-of3 .ensures, c .before .kind-of4 .ensures,
+    )
 
 pub is-adopted-spec : {M : Type 1} → statement M
 is-adopted-spec =
