@@ -1,0 +1,115 @@
+-- `unification::unify_arg` meets its contract. Assumes nothing.
+use mathlib.Core.Path.{_≡_, sym, _∙_}
+use mathlib.Core.Bool.{true, false}
+use denote.Ref.{now}
+use borrow.Author.Tests.{eq-eqb, ne-eqb}
+use Rattle.kinds.specs.Kinds.{callback}
+use Rattle.matching.specs.Matching.{isKind, inUse}
+use Rattle.matching.specs.declared.Checked.the-variants.{Known, Function}
+use Rattle.matching.proofs.Matching.{known-in-use, in-use-known, from-function}
+use Rattle.unification.proofs.Arguments.{function-in-use, arg-unknown, arg-known, arg-callback, arg-function}
+use borrow.Author.Needs.{needs}
+use Rattle.unification.proofs.unify_arg.Statement.{statement}
+use Rattle.unification.proofs.unify_arg.Tie as tie
+
+enum-known-actual : tie.Need-enum-known-actual
+enum-known-actual c = search needs
+
+unify-requires : tie.Need-unify-requires
+unify-requires c κs =
+    let s = c .before .before .before .before .before .before .before .before .before in
+    let actual = c .before .before .before .actual .given in
+    let u : inUse (now (s .args .page)) (Known (actual .0 .0)) ≡ true = rw (actual .1) at (s .pre .1 .0 .1) in
+    (s .pre .0, ((s .pre .1 .0 .0, known-in-use (now (s .args .page)) (actual .0 .0) u), s .pre .1 .1))
+
+same-length : tie.Need-same-length
+same-length c = search needs
+
+same-length-2 : tie.Need-same-length-2
+same-length-2 c = search needs
+
+returns : tie.Need-returns
+returns c =
+    let g = c .before .before .before .before .before .before .before .before .before .before .before .before .before .before .args in
+    let actual = c .before .before .before .before .before .before .before .before .actual .given in
+    rw (actual .1) (c .before .before .before .before .unify .ensures .0 ∙ arg-known (now (g .page)) (g .e) (g .bindings) (actual .0 .0))
+
+enum-known-actual-2 : tie.Need-enum-known-actual-2
+enum-known-actual-2 c = search needs
+
+say-requires : tie.Need-say-requires
+say-requires c κs = search needs
+
+returns-2 : tie.Need-returns-2
+returns-2 c =
+    let g = c .before .before .before .before .before .before .before .args in
+    c .say .ensures ∙ arg-unknown (now (g .page)) (g .e) (g .bindings) (g .actual) (c .before .before .match .keys2) (c .before .match2 .keys2)
+
+kind-of-requires : tie.Need-kind-of-requires
+kind-of-requires c κs = search needs
+
+unify-children-requires : tie.Need-unify-children-requires
+unify-children-requires c κs =
+    let s = c .before .before .before .before .before .before .before .before .before .before .before .before in
+    let actual = c .before .before .before .before .before .actual2 .given in
+    let u : inUse (now (s .args .page)) (Function (actual .0 .0)) ≡ true = rw (actual .1) at (s .pre .1 .0 .1) in
+    (s .pre .0, ((s .pre .1 .0 .0, function-in-use (now (s .args .page)) (actual .0 .0) u), s .pre .1 .1))
+
+same-length-3 : tie.Need-same-length-3
+same-length-3 c = search needs
+
+same-length-4 : tie.Need-same-length-4
+same-length-4 c = search needs
+
+returns-3 : tie.Need-returns-3
+returns-3 c =
+    let g = c .before .before .before .before .before .before .before .before .before .before .before .before .before .before .before .before .before .args in
+    let page = now (g .page) in
+    let actual = c .before .before .before .before .before .before .before .before .before .before .actual2 .given in
+    let k : isKind callback page (g .e) ≡ true = rw (← c .before .before .before .before .before .before .before .before .kind-of .ensures) (eq-eqb (c .before .before .before .before .before .before .before .before .kind-of .result) callback (c .before .before .before .before .before .before .before .if1 .taken)) in
+    rw (actual .1) (c .before .before .before .before .unify-children .ensures .0 ∙ arg-callback page (g .e) (g .bindings) (actual .0 .0) k)
+
+matches-requires : tie.Need-matches-requires
+matches-requires c κs =
+    let s = c .before .before .before .before .before .before .before .before .before .before .before in
+    let actual = c .before .before .before .before .actual2 .given in
+    let u : inUse (now (s .args .page)) (Function (actual .0 .0)) ≡ true = rw (actual .1) at (s .pre .1 .0 .1) in
+    (s .pre .0, ((u, in-use-known _ (s .args .e) (s .pre .1 .0 .0)), s .pre .1 .1 .1 .0))
+
+say-requires-2 : tie.Need-say-requires-2
+say-requires-2 c κs = search needs
+
+same-length-5 : tie.Need-same-length-5
+same-length-5 c = search needs
+
+returns-4 : tie.Need-returns-4
+returns-4 c =
+    let g = c .before .before .before .before .before .before .before .before .before .before .before .before .before .before .before .args in
+    let page = now (g .page) in
+    let actual = c .before .before .before .before .before .before .before .before .actual2 .given in
+    let f = actual .0 .0 in
+    let k : isKind callback page (g .e) ≡ false = rw (← c .before .before .before .before .before .before .kind-of .ensures) (ne-eqb (c .before .before .before .before .before .before .kind-of .result) callback (c .before .before .before .before .before .if1 .left)) in
+    let m = c .before .before .before .matches .ensures .0 ∙ sym (from-function page f (Known (g .e))) in
+    rw (actual .1) (rw m at (c .say2 .ensures) ∙ arg-function page (g .e) (g .bindings) f k)
+
+pub unify-arg-spec : {M : Type 1} → statement M
+unify-arg-spec =
+    tie.close
+    (tie.spec
+    enum-known-actual
+    unify-requires
+    same-length
+    same-length-2
+    returns
+    enum-known-actual-2
+    say-requires
+    returns-2
+    kind-of-requires
+    unify-children-requires
+    same-length-3
+    same-length-4
+    returns-3
+    matches-requires
+    say-requires-2
+    same-length-5
+    returns-4)
