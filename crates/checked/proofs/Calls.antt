@@ -36,7 +36,9 @@ use Rattle.bindings.specs.declared.Bindings.{Bindings}
 use Rattle.bindings.proofs.Bound.{usable}
 use Rattle.bindings.proofs.Substitution.{substitute-sound}
 use Rattle.bindings.proofs.Rebuilding.{remembered-none}
-use Rattle.checked.specs.Calls.{verdictOf, answered, given, ofMade, constOf, constAfter, orRefused, matchesAnswer, genericAnswer, intoConst, intoConstPage, bindingsVerdict, substituteAnswer, substitutePage}
+use Rattle.unification.specs.Unification.{unified, unifyArg}
+use Rattle.unification.specs.declared.Unified.{Unified}
+use Rattle.checked.specs.Calls.{verdictOf, answered, given, ofMade, constOf, constAfter, orRefused, matchesAnswer, genericAnswer, intoConst, intoConstPage, bindingsVerdict, substituteAnswer, substitutePage, keptBy, unifyArgAnswer, unifyAnswer}
 use Rattle.checked.specs.declared.Const.{Const}
 
 -- ---- numbers in use
@@ -214,3 +216,51 @@ module _ (page os ds : List ℕ) (m : Measured page os ds) where
   back-asks b k t h l after e end is =
       let g = substitute-sound b t page (m .held .sound) l (usable k (typesIn page) b h) .grown in
       (omega (arith, is, offset-start page, offset-le page 0 (countOf page) (omega arith)), rw e (omega (arith, is, g .size, end-inside page (m .held .sound))))
+
+-- ---- `unify` and `unify_arg`
+
+module _ (page names : List ℕ) (lent : Bool) (b : Bindings) (e : ℕ) (c : Checked) where
+  fails : (q : Refusal) → bindingsVerdict page names lent b (ltb e (typesIn page) && inUse page c) ≡ Refused q → unified (Answer.Refused q) b ≡ unifyArgAnswer page names lent b e c
+  unfolding unifyArgAnswer
+  fails q v = rw v refl
+
+  pub unify-broken : storeBroken page names lent ≡ true → unified (Answer.Refused Broken) b ≡ unifyArgAnswer page names lent b e c
+  unfolding bindingsVerdict
+  unify-broken h = fails Broken (verdict-broken page names lent (formed (usedOf names lent) (typesIn page) b) (ltb e (typesIn page) && inUse page c) h)
+
+  module _ (h : storeBroken page names lent ≡ false) where
+    pub unify-unformed : formed (usedOf names lent) (typesIn page) b ≡ false → unified (Answer.Refused Broken) b ≡ unifyArgAnswer page names lent b e c
+    unfolding bindingsVerdict
+    unify-unformed k = fails Broken (verdict-unformed page names lent (formed (usedOf names lent) (typesIn page) b) (ltb e (typesIn page) && inUse page c) h k)
+
+    module _ (k : formed (usedOf names lent) (typesIn page) b ≡ true) where
+      unused : (ltb e (typesIn page) && inUse page c) ≡ false → unified (Answer.Refused Unused) b ≡ unifyArgAnswer page names lent b e c
+      unfolding bindingsVerdict
+      unused l = fails Unused (verdict-unused page names lent (formed (usedOf names lent) (typesIn page) b) (ltb e (typesIn page) && inUse page c) h k l)
+
+      pub unify-unused : typesIn page ≤ e → unified (Answer.Refused Unused) b ≡ unifyArgAnswer page names lent b e c
+      unify-unused l = unused (rw (le-ltb e (typesIn page) l) refl)
+
+      pub unify-unused-actual : inUse page c ≡ false → unified (Answer.Refused Unused) b ≡ unifyArgAnswer page names lent b e c
+      unify-unused-actual u = unused (rw u (and-false (ltb e (typesIn page))))
+
+      pub unify-says : e < typesIn page → inUse page c ≡ true → (u : Unified) → u ≡ unifyArg page e c b → keptBy (u .answer) (u .bindings) b ≡ unifyArgAnswer page names lent b e c
+      unfolding unifyArgAnswer bindingsVerdict
+      unify-says l u r q =
+          let w : (ltb e (typesIn page) && inUse page c) ≡ true = rw (lt-ltb e (typesIn page) l, u) refl in
+          rw (verdict-passed page names lent (formed (usedOf names lent) (typesIn page) b) (ltb e (typesIn page) && inUse page c) h k w, q) refl
+
+-- an actual type is a checked one that is Known
+pub unify-known : (page names : List ℕ) (lent : Bool) (b : Bindings) (e a : ℕ) → unifyArgAnswer page names lent b e (Known a) ≡ unifyAnswer page names lent b e a
+unfolding unifyArgAnswer unifyAnswer unifyArg inUse
+unify-known page names lent b e a = refl
+
+-- an answer that is no refusal keeps its bindings
+pub kept-yes : (u : Unified) (b : Bindings) → u .answer ≡ Answer.Yes → u ≡ keptBy (u .answer) (u .bindings) b
+kept-yes u b e = ap (λ (x : Answer). unified x (u .bindings)) e ∙ sym (ap (λ (x : Answer). keptBy x (u .bindings) b) e)
+
+pub kept-no : (u : Unified) (b : Bindings) → u .answer ≡ Answer.No → u ≡ keptBy (u .answer) (u .bindings) b
+kept-no u b e = ap (λ (x : Answer). unified x (u .bindings)) e ∙ sym (ap (λ (x : Answer). keptBy x (u .bindings) b) e)
+
+pub kept-refused : (u : Unified) (b : Bindings) (r : Refusal) → u .answer ≡ Answer.Refused r → unified (Answer.Refused r) b ≡ keptBy (u .answer) (u .bindings) b
+kept-refused u b r e = rw e refl

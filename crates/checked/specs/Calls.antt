@@ -19,6 +19,8 @@ use Rattle.matching.specs.declared.Checked.the-variants.{Known, Unknown, Functi
 use Rattle.bindings.specs.Bindings as bindings
 use Rattle.bindings.specs.Generics.{hasGeneric, substitute}
 use Rattle.bindings.specs.declared.Bindings.{Bindings}
+use Rattle.unification.specs.Unification.{unified, unify, unifyArg}
+use Rattle.unification.specs.declared.Unified.{Unified}
 use Rattle.checked.specs.declared.Const.{Const}
 
 -- ---- refusals that calls share
@@ -96,3 +98,25 @@ unlessStopped (Made.Refused r) new old = old
 unfoldable pub substitutePage : List ℕ → List ℕ → Bool → Bindings → ℕ → List ℕ
 substitutePage page names lent b t =
     unlessRefused (bindingsVerdict page names lent b (ltb t (typesIn page))) (unlessStopped (substitute b t page .made) (substitute b t page .store) page) page
+
+-- ---- `unify` and `unify_arg`
+
+-- "a plain no from unify keeps its bindings"; a refusal, in the walk too, gives back those that came in
+abbrev pub keptBy : Answer → Bindings → Bindings → Unified
+keptBy Answer.Yes new old = unified Answer.Yes new
+keptBy Answer.No new old = unified Answer.No new
+keptBy (Answer.Refused r) new old = unified (Answer.Refused r) old
+
+abbrev pub unifiedOr : Verdict → Unified → Bindings → Unified
+unifiedOr Passed u b = keptBy (u .answer) (u .bindings) b
+unifiedOr (Refused r) u b = unified (Answer.Refused r) b
+
+-- an expected type, and an actual checked type
+unfoldable pub unifyArgAnswer : List ℕ → List ℕ → Bool → Bindings → ℕ → Checked → Unified
+unifyArgAnswer page names lent b e c =
+    unifiedOr (bindingsVerdict page names lent b (ltb e (typesIn page) && inUse page c)) (unifyArg page e c b) b
+
+-- an expected type, and an actual one
+unfoldable pub unifyAnswer : List ℕ → List ℕ → Bool → Bindings → ℕ → ℕ → Unified
+unifyAnswer page names lent b e a =
+    unifiedOr (bindingsVerdict page names lent b (ltb e (typesIn page) && ltb a (typesIn page))) (unify page e a b) b

@@ -10,11 +10,14 @@ use types::Made;
 use types::kind_of;
 use types::no_depths;
 use types::no_offsets;
+use unification::Unified;
 ghost use mathlib.Core.Path.{_≡_};
 ghost use Rattle.types.specs.Types.{Held};
 ghost use Rattle.matching.specs.Matching.{inUse};
 ghost use Rattle.refusals.specs.declared.Verdict.the-variants.{Passed};
-ghost use Rattle.checked.specs.Calls.{answered, given, ofMade, matchesAnswer, genericAnswer, intoConst, intoConstPage, substituteAnswer, substitutePage};
+ghost use Rattle.refusals.specs.declared.Answer.{Answer};
+ghost use Rattle.unification.specs.Unification.{unified};
+ghost use Rattle.checked.specs.Calls.{answered, given, ofMade, matchesAnswer, genericAnswer, intoConst, intoConstPage, substituteAnswer, substitutePage, keptBy, unifyArgAnswer, unifyAnswer};
 
 // The const form of a checked type, or Unknown beside the refusal.
 pub struct Const {
@@ -159,4 +162,65 @@ pub fn substitute(
         types::take_back(page, front, end);
     }
     made
+}
+
+// A refusal, beside the bindings that came in.
+fn refuse(r: Refusal, bound: Bindings) -> Unified
+    ensures { λ u. ⌜ u ≡ unified (Answer.Refused r) bound ⌝ }
+{
+    Unified {
+        answer: Answer::Refused(r),
+        bindings: bound,
+    }
+}
+
+// An answer with its bindings, those that came in where it is a refusal.
+fn kept_by(out: Unified, bound: Bindings) -> Unified
+    ensures { λ u. ⌜ u ≡ keptBy (out .answer) (out .bindings) bound ⌝ }
+{
+    let answer = out.answer;
+    match answer {
+        Answer::Yes => out,
+        Answer::No => out,
+        Answer::Refused(r) => refuse(r, bound),
+    }
+}
+
+// Whether an argument fits a parameter, and what generic names it binds.
+pub fn unify_arg(
+    page: &[u8],
+    names: &[u8],
+    lent: bool,
+    bound: Bindings,
+    e: usize,
+    actual: Checked,
+) -> Unified
+    ensures { λ r. ⌜ r ≡ unifyArgAnswer (now (page .entry)) (now (names .entry)) lent bound e actual ⌝ }
+{
+    let mut offsets = no_offsets();
+    let mut depths = no_depths();
+    if !types::opened(page, names, lent, &mut offsets, &mut depths) {
+        return refuse(Refusal::Broken, bound);
+    }
+    let n = types::count(page);
+    if !bindings::is_formed(bound, names::in_use(names, lent), n) {
+        return refuse(Refusal::Broken, bound);
+    }
+    if n <= e {
+        return refuse(Refusal::Unused, bound);
+    }
+    if !is_used(page, &offsets, actual) {
+        return refuse(Refusal::Unused, bound);
+    }
+    let mut memo = matching::no_memo();
+    let mut seen = matching::no_memo();
+    let out = unification::unify_arg(page, &offsets, &mut memo, &mut seen, bound, e, actual);
+    kept_by(out, bound)
+}
+
+// Whether an actual type fits an expected one, and what generic names it binds.
+pub fn unify(page: &[u8], names: &[u8], lent: bool, bound: Bindings, e: usize, a: usize) -> Unified
+    ensures { λ r. ⌜ r ≡ unifyAnswer (now (page .entry)) (now (names .entry)) lent bound e a ⌝ }
+{
+    unify_arg(page, names, lent, bound, e, Checked::Known(a))
 }
