@@ -74,13 +74,7 @@ fn of_made(made: Made) -> Const
 }
 
 // Whether a checked type stands for another.
-pub fn matches(
-    page: &[u8],
-    names: &[u8],
-    lent: bool,
-    actual: Checked,
-    expected: Checked,
-) -> Answer
+pub fn matches(page: &[u8], names: &[u8], lent: bool, actual: Checked, expected: Checked) -> Answer
     ensures { λ r. ⌜ r ≡ matchesAnswer (now (page .entry)) (now (names .entry)) lent actual expected ⌝ }
 {
     let mut offsets = no_offsets();
@@ -133,13 +127,7 @@ pub fn into_const(page: &mut [u8], names: &[u8], lent: bool, c: Checked) -> Cons
 }
 
 // A type with its generic names replaced by what they are bound to. New types are made left to right, children before parent.
-pub fn substitute(
-    page: &mut [u8],
-    names: &[u8],
-    lent: bool,
-    bound: Bindings,
-    t: usize,
-) -> Made
+pub fn substitute(page: &mut [u8], names: &[u8], lent: bool, bound: Bindings, t: usize) -> Made
     ensures { λ r. ⌜ (r ≡ substituteAnswer (now (page .entry)) (now (names .entry)) lent bound t) × (now (page .exit) ≡ substitutePage (now (page .entry)) (now (names .entry)) lent bound t) ⌝ }
 {
     let mut offsets = no_offsets();
