@@ -30,7 +30,7 @@ pub struct Bindings {
     pub types: [u16; BINDINGS],
 }
 
-// Whether a name is bound, and where: its place, or the count.
+// The first of the first k places that has a name, or k.
 fn place_of(bindings: Bindings, k: usize, name: u8) -> usize
     requires { ⌜ (k ≤ bindingsMax) ⌝ }
     ensures { λ r. ⌜ (r ≡ placeIn bindings k name) × (r ≤ k) ⌝ }
@@ -190,7 +190,7 @@ pub fn none_done() -> [usize; TYPES]
     [0; TYPES]
 }
 
-// What a type was substituted by, and one more; 0 where it was not yet.
+// One more than the number that a type was substituted by; 0 where it was not yet.
 fn done_at(done: &[usize], t: usize) -> usize
     requires { ⌜ (length (now done) ≡ typesMax) × (t < typesMax) ⌝ }
     ensures { λ r. ⌜ r ≡ getD (now (done .entry)) t 0 ⌝ }

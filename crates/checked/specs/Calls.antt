@@ -48,10 +48,11 @@ genericAnswer page names lent t = answered (verdictOf page names lent true (ltb 
 
 -- ---- `into_const`: the const form of a Known type, everything else as it is
 
--- a checked type, or Unknown beside the refusal
+-- a checked type
 abbrev pub given : Checked → Const
 given c = record { verdict = Passed; checked = c }
 
+-- the type that was made, or Unknown beside the refusal
 abbrev pub ofMade : Made → Const
 ofMade (Made.At t) = given (Known t)
 ofMade (Made.Refused r) = record { verdict = Refused r; checked = Unknown }

@@ -1,5 +1,5 @@
--- When one type may stand for another (document 01, "Types"; `matches` and what it calls in the source's types.rs). Every rule bears
--- the source's name. Types are numbers of a store, actual before expected; where a rule needs its own answers for children, it is
+-- When one type may stand for another (document 01, "Types"; `matches` and what it calls in the source's types.rs). A rule of the
+-- source bears its name. Types are numbers of a store, actual before expected; where a rule needs its own answers for children, it is
 -- written over them (`rule`) first. In a store in form types are equal exactly if their numbers are (`equal-types` in
 -- crates/types/proofs/Trees.antt).
 use mathlib.Core.Bool.{Bool, true, false, _&&_, _||_, cond}
@@ -29,7 +29,8 @@ smaller m n = cond (ltb m n) m n
 unfoldable pub nullOr : (ℕ → ℕ → Bool) → ℕ → ℕ → Bool
 nullOr rule x y = eqb x null || (eqb y null || rule x y)
 
--- ---- `null_array_elision`: an empty array stands for every array, also inside tuples, of which only shared elements are compared
+-- ---- `null_array_elision`: an array of Null, which is an empty one, and every array stand for each other; of tuples every pair of
+-- shared elements has Null on a side, or is such a pair itself
 
 unfoldable pub arrayElision : List ℕ → (ℕ → ℕ → Bool) → ℕ → ℕ → Bool
 arrayElision page rule a b =

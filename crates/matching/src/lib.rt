@@ -115,7 +115,8 @@ fn are_sequences(page: &[u8], offsets: &[usize], a: usize, b: usize) -> bool
     (kinds::is_array(ka) & kinds::is_array(kb)) | (kinds::is_tuple(ka) & kinds::is_tuple(kb))
 }
 
-// Whether two arrays, or two tuples, differ only where one of them has Null; of tuples only shared elements are compared.
+// Whether of two arrays, or two tuples, every pair of elements has Null on a side or is such a pair itself; of tuples only shared
+// elements are compared.
 pub fn null_array_elision(
     page: &[u8],
     offsets: &[usize],
@@ -151,7 +152,7 @@ pub fn null_array_elision(
     true
 }
 
-// Whether two maps differ only where one of them has Null in its key or its value, or arrays, tuples or maps that do.
+// Whether of two maps the keys, and the values, have Null on a side, or are arrays, tuples or maps of which the same holds.
 pub fn null_map_elision(
     page: &[u8],
     offsets: &[usize],

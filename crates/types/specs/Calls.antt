@@ -20,7 +20,7 @@ use Rattle.types.specs.declared.Made.{Made}
 use Rattle.types.specs.declared.Shape.{Shape}
 use Rattle.types.specs.declared.TypeRead.{TypeRead}
 
--- do the names that are lent, or the store beside them, break their form
+-- do the names that are lent, or the store beside them, break their form, the store also by a name number not in use
 unfoldable pub storeBroken : List ℕ → List ℕ → Bool → Bool
 storeBroken page names lent = lentBroken names lent || not (formed page (usedOf names lent))
 
@@ -90,7 +90,7 @@ typeAt page t = record {
   name = cond (isNamed (kindOf page t)) (nameOf page t) 0;
 }
 
--- the number is not in use: 3
+-- 2 the names or the store, 3 the number
 unfoldable pub readVerdict : List ℕ → List ℕ → Bool → ℕ → Verdict
 readVerdict page names lent t = lowest ((Broken when storeBroken page names lent) ∷ (Unused when not (ltb t (typesIn page))) ∷ [])
 

@@ -99,7 +99,7 @@ isBelow page o t i = ltb (childAt page o i) t
 abbrev pub childrenBelow : List ℕ → ℕ → ℕ → Bool
 childrenBelow page o t = allTo (childrenAt page o) (isBelow page o t)
 
--- a kind that is stored, with a name in use, of n, and no child, or with as many children as it has
+-- a kind that is stored, with a name below n and no child, or with as many children as the kind takes, all below t
 unfoldable pub partsAt : List ℕ → ℕ → ℕ → ℕ → Bool
 partsAt page n t o =
     isStored (kindAt page o)

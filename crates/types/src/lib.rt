@@ -113,7 +113,7 @@ fn are_below(page: &[u8], o: usize, k: usize, t: usize) -> bool
     true
 }
 
-// Whether the entry at o has a kind that is stored, with a name in use, of n, or with as many children as it has, all below t.
+// Whether the entry at o has a kind that is stored, with a name below n, or with as many children as the kind takes, all below t.
 fn has_parts(page: &[u8], n: usize, t: usize, o: usize) -> bool
     requires { ⌜ (o + headBytes ≤ length (now page)) × (o + sizeAt (now page) o ≤ length (now page)) ⌝ }
     ensures { λ r. ⌜ r ≡ partsAt (now (page .entry)) n t o ⌝ }
@@ -286,7 +286,7 @@ pub fn front(page: &[u8]) -> Word
     [page[0], page[1]]
 }
 
-// Where the entry of a type begins, as the table has it, or of the next type's number where the last entry ends.
+// Where the entry of a type begins, as the table has it; for the next type's number, where the last entry ends.
 pub fn offset_of(offsets: &[usize], t: usize) -> usize
     requires { ⌜ (fixedMax ≤ t) × (t < fixedMax + length (now offsets)) × (length (now offsets) ≡ suc entriesMax) ⌝ }
     ensures { λ r. ⌜ r ≡ getD (now (offsets .entry)) (t - fixedMax) 0 ⌝ }

@@ -43,13 +43,13 @@ pairsTo rule page e a (suc k) b =
 unfoldable pub allPairs : (ℕ → ℕ → Bindings → Unified) → List ℕ → ℕ → ℕ → Bindings → Unified
 allPairs rule page e a b = cond (eqb (arity page e) (arity page a)) (pairsTo rule page e a (arity page e) b) (unified No b)
 
--- a generic name: what it is bound to must match, and an unbound one is bound (10: to a 33rd)
+-- a generic name: what it is bound to must match, and an unbound one is bound; 10 where it would be the 33rd
 unfoldable pub genericUnify : List ℕ → ℕ → ℕ → Bindings → Unified
 genericUnify page name a b =
     cond (isBound b name) (said (knownMatches page (boundTo b name) a) b)
     (cond (ltb (b .count) bindingsMax) (unified Yes (withBinding b name a)) (unified (Refused Full) b))
 
--- "An empty literal adopts the needed element type", and Int elements stand for Byte ones
+-- "An empty literal adopts the needed element type" (types.rs), and "Array Byte takes Array Int"
 unfoldable pub isAdopted : List ℕ → ℕ → ℕ → Bool
 isAdopted page e a =
     eqb (childOf page a 0) null || (isByte (kindOf page (childOf page e 0)) && isInt (kindOf page (childOf page a 0)))
@@ -59,7 +59,8 @@ unfoldable pub isAlike : ℕ → ℕ → Bool
 isAlike k m =
     (isArray k && isArray m) || ((isSet k && isSet m) || ((isResult k && isResult m) || ((isMap k && isMap m) || (isTuple k && isTuple m))))
 
--- `unify`, given its answers for lower expected types
+-- `unify`, given its answers for lower expected types; in the last case the expected type stands in the actual one's place, as in the
+-- source
 unfoldable pub unifyRule : List ℕ → (ℕ → ℕ → Bindings → Unified) → ℕ → ℕ → Bindings → Unified
 unifyRule page rule e a b =
     cond (isKind generic page e) (genericUnify page (nameOf page e) a b)
