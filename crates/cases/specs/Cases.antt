@@ -4,12 +4,93 @@ use mathlib.Core.Bool.{Bool, true, false}
 use mathlib.Core.List.{List, [], _∷_}
 use Prim.Native.Nat.{ℕ}
 use lib.IntN.{pos, negsuc}
+use lib.ListN.{length}
 use Rattle.refusals.specs.declared.Verdict.the-variants.{Passed}
+use Rattle.refusals.specs.declared.Answer.{Answer}
+use Rattle.refusals.specs.declared.Answer.the-variants.{Yes, No}
+use Rattle.pages.specs.Pad.{pad}
 use Rattle.names.specs.Table.{namesMax}
+use Rattle.matching.specs.Matching.{matches}
+use Rattle.matching.specs.declared.Checked.the-variants.{Known}
+use Rattle.bindings.specs.Bindings.{bindingsMax}
+use Rattle.bindings.specs.declared.Bindings.{Bindings}
+use Rattle.unification.specs.Unification.{unified, unify}
 use Rattle.units.specs.Unit.{placesMax, Term, term}
 use Rattle.units.specs.Product.{productOf, productVerdict}
 use Rattle.groups.specs.Groups.{Pair, pair, rootOf}
 use Rattle.sums.specs.Sums.{convertible}
+
+-- ---- types: those of one store, and others that are always there
+
+-- a store of the types 19 to 30, one to a line behind the count
+unfoldable pub store : List ℕ
+store =
+    0 ∷ 12
+    ∷ 1 ∷ 19 ∷ 0 ∷ 1  -- Array Int
+    ∷ 1 ∷ 20 ∷ 0 ∷ 5  -- CArray Float
+    ∷ 1 ∷ 19 ∷ 0 ∷ 5  -- Array Float
+    ∷ 0 ∷ 27  -- Tuple()
+    ∷ 1 ∷ 27 ∷ 0 ∷ 1  -- Tuple(Int)
+    ∷ 2 ∷ 27 ∷ 0 ∷ 0 ∷ 0 ∷ 1  -- Tuple(Null, Int)
+    ∷ 2 ∷ 27 ∷ 0 ∷ 1 ∷ 0 ∷ 1  -- Tuple(Int, Int)
+    ∷ 0 ∷ 37 ∷ 0  -- A, the Generic with name 0
+    ∷ 2 ∷ 27 ∷ 0 ∷ 26 ∷ 0 ∷ 7  -- Tuple(A, Bool)
+    ∷ 2 ∷ 27 ∷ 0 ∷ 1 ∷ 0 ∷ 5  -- Tuple(Int, Float)
+    ∷ 1 ∷ 19 ∷ 0 ∷ 26  -- Array A
+    ∷ 1 ∷ 19 ∷ 0 ∷ 0  -- Array Null
+    ∷ []
+
+abbrev null : ℕ
+null = 0
+
+abbrev int : ℕ
+int = 1
+
+abbrev constInt : ℕ
+constInt = 2
+
+abbrev arrayInt : ℕ
+arrayInt = 19
+
+abbrev constArrayFloat : ℕ
+constArrayFloat = 20
+
+abbrev arrayFloat : ℕ
+arrayFloat = 21
+
+abbrev tuple : ℕ
+tuple = 22
+
+abbrev tupleInt : ℕ
+tupleInt = 23
+
+abbrev tupleNullInt : ℕ
+tupleNullInt = 24
+
+abbrev tupleIntInt : ℕ
+tupleIntInt = 25
+
+abbrev tupleABool : ℕ
+tupleABool = 27
+
+abbrev tupleIntFloat : ℕ
+tupleIntFloat = 28
+
+abbrev arrayA : ℕ
+arrayA = 29
+
+abbrev arrayNull : ℕ
+arrayNull = 30
+
+-- the name of A
+abbrev nameA : ℕ
+nameA = 0
+
+-- these names bound to these types, in order, and zeros after them
+abbrev bound : List ℕ → List ℕ → Bindings
+bound names types = record { count = length names; names = pad bindingsMax 0 names; types = pad bindingsMax 0 types }
+
+-- ---- what rows there are
 
 pub data Case : Type 0 where
   -- the product of two units or, with true, their quotient is this unit, and is not refused
@@ -18,6 +99,10 @@ pub data Case : Type 0 where
   root : List Pair → ℕ → ℕ → Case
   -- two units are convertible by such a list or, with false, are not
   converts : Bool → List Pair → List Term → List Term → Case
+  -- the first type, actual, matches the second, expected, or, with false, does not
+  against : Bool → ℕ → ℕ → Case
+  -- the first type, expected, unified with the second, actual, comes to this answer and, of no bindings, to these
+  unifies : Answer → ℕ → ℕ → Bindings → Case
 
 -- what a row says
 abbrev pub Holds : Case → Type 0
@@ -25,6 +110,8 @@ Holds (product quotient xs ys zs) =
     (productVerdict placesMax namesMax quotient xs ys ≡ Passed) × (productOf namesMax quotient xs ys ≡ zs)
 Holds (root ps s r) = rootOf namesMax ps s ≡ r
 Holds (converts yes! ps xs ys) = convertible namesMax (rootOf namesMax ps) xs ys ≡ yes!
+Holds (against yes! a b) = matches store (Known a) (Known b) ≡ yes!
+Holds (unifies r e a b) = unify store e a (bound [] []) ≡ unified r b
 
 -- ---- symbols
 
@@ -52,4 +139,21 @@ cases =
     ∷ root (pair inch millimetre ∷ []) millimetre inch
     ∷ converts true (pair inch millimetre ∷ []) (term inch (pos 1) ∷ []) (term millimetre (pos 1) ∷ [])
     ∷ converts false (pair inch millimetre ∷ []) (term inch (pos 1) ∷ []) (term millimetre (pos 2) ∷ [])
+    -- "Null against Int matches, Int against Null not" ("Types")
+    ∷ against true null int
+    ∷ against false int null
+    -- "CInt against Int yes, reversed no"
+    ∷ against true constInt int
+    ∷ against false int constInt
+    -- "Array Int against CArray Float yes, against Array Float no"
+    ∷ against true arrayInt constArrayFloat
+    ∷ against false arrayInt arrayFloat
+    -- "Tuple() against Tuple(Int) yes"
+    ∷ against true tuple tupleInt
+    -- "Tuple(Null, Int) against Tuple(Int, Int) no"
+    ∷ against false tupleNullInt tupleIntInt
+    -- "Unify Tuple(A, Bool) with Tuple(Int, Float), A a Generic: no, yet A is bound to Int"
+    ∷ unifies No tupleABool tupleIntFloat (bound (nameA ∷ []) (int ∷ []))
+    -- "Array A with Array Null: yes, A unbound"
+    ∷ unifies Yes arrayA arrayNull (bound [] [])
     ∷ []

@@ -1,4 +1,4 @@
--- `executed::main` meets its contract: each verdict is what the definition computes. Assumes nothing.
+-- `executed::expect_units` meets its contract: each verdict is what the definition computes. Assumes nothing.
 use mathlib.Core.Path.{_≡_, ap, ap₂, _∙_}
 use mathlib.Core.Bool.{true, false}
 use mathlib.Core.List.{[], _∷_}
@@ -11,8 +11,8 @@ use Rattle.units.specs.Unit.{term, formed}
 use Rattle.units.specs.Product.{productOf, productVerdict}
 use Rattle.units.specs.Calls.{unitOf, productAnswer}
 use Rattle.units.specs.declared.UnitResult.{UnitResult}
-use Rattle.executed.proofs.main.Statement.{statement}
-use Rattle.executed.proofs.main.Tie as tie
+use Rattle.executed.proofs.expect_units.Statement.{statement}
+use Rattle.executed.proofs.expect_units.Tie as tie
 
 power-requires : tie.Need-power-requires
 power-requires c κs = search needs
@@ -53,8 +53,8 @@ expect-requires-2 c κs =
 returns : tie.Need-returns
 returns c = search needs
 
-pub main-spec : {M : Type 1} → statement M
-main-spec =
+pub expect-units-spec : {M : Type 1} → statement M
+expect-units-spec =
     tie.close
     (tie.spec
     power-requires
