@@ -78,10 +78,16 @@ module _ (b : Bindings) (page os ds done : List ℕ) (t : ℕ) (w : Working b pa
 
   -- what it came to, remembered
   pub done-noted : (r : ℕ) (after os′ ds′ done′ : List ℕ) → Done b t page after os′ ds′ done′ (Made.At r) → Done b t page after os′ ds′ (set done′ t (r + 1)) (Made.At r)
-  done-noted r after os′ ds′ done′ z = rw (add-one r) (z .0, (z .1 .0, record {
-    size = length-set done′ t (suc r) ∙ z .1 .1 .size;
-    right = λ u x e q g f. go u x e q g f (eqb u t) refl;
-  }))
+  done-noted r after os′ ds′ done′ z = rw (add-one r) (
+    z .0,
+    (
+      z .1 .0,
+      record {
+        size = length-set done′ t (suc r) ∙ z .1 .1 .size;
+        right = λ u x e q g f. go u x e q g f (eqb u t) refl;
+      },
+    ),
+  )
     where
       go : (u x : ℕ) → getD (set done′ t (suc r)) u 0 ≡ suc x → (q : List ℕ) → Grows after q → Formed q → (d : Bool) → eqb u t ≡ d → substitute b u q ≡ outcome (Made.At x) q
       go u x e q g f true d =
@@ -218,6 +224,7 @@ module _ (b : Bindings) (page os₀ ds₀ done₀ : List ℕ) (t : ℕ) (w : Wor
       parent-done r q os′ ds′ h g m =
           let o : substitute b t page ≡ outcome r q =
           substitute-eq b t page ∙ rw (ne-eqb (kindOf page t) generic (entered-plain (kindOf page t) e), e, at-end, h, g, of) refl in
-          let grown = enter-grows p (entryOf kind (take n kids) 0) (k .measured .held .sound) (parent-ready .enterable) in
-          ((sym (ap (λ (y : Outcome). y .made) o), sym (ap (λ (y : Outcome). y .store) o)),
-          (m, rw g (remembered-grown b p (enterPage p (entryOf kind (take n kids) 0)) done (k .measured .held .sound) (grown .0) (k .remembered))))
+          let grown = enter-grows p (entryOf kind (take n kids) 0) (k .measured .held .sound) (parent-ready .enterable) in (
+            (sym (ap (λ (y : Outcome). y .made) o), sym (ap (λ (y : Outcome). y .store) o)),
+            (m, rw g (remembered-grown b p (enterPage p (entryOf kind (take n kids) 0)) done (k .measured .held .sound) (grown .0) (k .remembered))),
+          )

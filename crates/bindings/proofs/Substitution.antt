@@ -259,7 +259,7 @@ module _ (b : Bindings) where
   again-below (suc m) t l page f u z r h q g fq =
       let gp = grows-trans page (substitute b t page .store) q f (substitute-sound b t page f u z .grown) g in
       let ih : (c : ℕ) → c < t → (s : List ℕ) → Formed s → Grows page s → (r′ : ℕ) → under b t c s .made ≡ Made.At r′
-          → (q′ : List ℕ) → Grows (under b t c s .store) q′ → Formed q′ → under b t c q′ ≡ outcome (Made.At r′) q′ =
+      → (q′ : List ℕ) → Grows (under b t c s .store) q′ → Formed q′ → under b t c q′ ≡ outcome (Made.At r′) q′ =
       λ c k s fs gs r′ h′ q′ g′ fq′.
       under-is b t c q′ k
       ∙ again-below m c (omega arith) s fs (omega (arith, u, k, gs .more)) (usable-more b (typesIn page) (typesIn s) (more-types page s gs) z) r′

@@ -1,5 +1,5 @@
 -- Children in pairs: where the loop stands, and one law for each of its arms and returns. Assumes nothing.
-use mathlib.Core.Path.{_≡_, refl, sym, _∙_, ap}
+use mathlib.Core.Path.{_≡_, refl, sym}
 use mathlib.Core.List.{List}
 use mathlib.Core.Logic.{_⊎_, inl, inr, ⊎-elim}
 use Prim.Native.Nat.{ℕ, zero, suc, _+_, _<_, _≤_}
@@ -43,7 +43,8 @@ then-ends r next = go (r .answer)
     go (Refused q) h = refl
 
 module _ (page : List ℕ) (e a n : ℕ) (b : Bindings) where
-  pub paired-none : (memo seen : List ℕ) → Given b (typesIn page) → Noted (Found page) memo → Noted (Settled page b) seen → Paired page e a n b memo seen b 0
+  pub paired-none : (memo seen : List ℕ) → Given b (typesIn page) → Noted (Found page) memo → Noted (Settled page b) seen
+      → Paired page e a n b memo seen b 0
   unfolding pairsTo
   paired-none memo seen g m s = record { few = omega arith; given = g; agreed = refl; found = m; settled = s }
 

@@ -1,6 +1,6 @@
 -- `unify`: its equation, how its bindings grow, and that a pair answered yes is answered yes again. Assumes nothing.
-use mathlib.Core.Path.{_≡_, refl, sym, _∙_, ap, ap₂}
-use mathlib.Core.Bool.{Bool, true, false, _&&_, _||_, cond, false≢true}
+use mathlib.Core.Path.{_≡_, refl, sym, _∙_, ap}
+use mathlib.Core.Bool.{Bool, true, false, _&&_, cond, false≢true}
 use mathlib.Core.List.{List}
 use mathlib.Core.Logic.{_⊎_, inl, inr, ⊎-elim}
 use Prim.Native.Nat.{ℕ, zero, suc, _<_, _≤_}
@@ -17,7 +17,7 @@ use Rattle.refusals.specs.declared.Answer.the-variants.{Yes, No, Refused}
 use Rattle.kinds.specs.Kinds.{generic, isArray, isSet, isResult, isMap, isTuple}
 use Rattle.types.specs.Store.{Formed}
 use Rattle.types.specs.Types.{typesIn, kindOf, arity, childOf, nameOf}
-use Rattle.types.specs.Recur.{below, cov}
+use Rattle.types.specs.Recur.{below}
 use Rattle.types.proofs.Recur.{below-lt, cov-eq}
 use Rattle.types.proofs.Types.{child-lower}
 use Rattle.matching.specs.Matching.{both, isKind, knownMatches}
@@ -125,19 +125,19 @@ module _ (page : List ℕ) (f : Formed page) (e a : ℕ) (u : e < typesIn page) 
           (pairs-cong lower (unify page) page e a (arity page e) b (λ i l. below-lt no e (unify page) (childOf page e i) (child-lower page f e u i l)))
 
   module _ (b : Bindings) where
-    pub unify-generic : isKind generic page e ≡ true → unify page e a b ≡ genericUnify page (nameOf page e) a b
-    unify-generic g = unify-eq b ∙ rule-generic page e a g (unify page) b
+    pub generic-eq : isKind generic page e ≡ true → unify page e a b ≡ genericUnify page (nameOf page e) a b
+    generic-eq g = unify-eq b ∙ rule-generic page e a g (unify page) b
 
     module _ (g : isKind generic page e ≡ false) where
-      pub unify-adopted : (both isArray page e a && isAdopted page e a) ≡ true → unify page e a b ≡ unified Yes b
-      unify-adopted h = unify-eq b ∙ rule-adopted page e a g h (unify page) b
+      pub adopted-eq : (both isArray page e a && isAdopted page e a) ≡ true → unify page e a b ≡ unified Yes b
+      adopted-eq h = unify-eq b ∙ rule-adopted page e a g h (unify page) b
 
-      pub unify-rest : isAlike (kindOf page e) (kindOf page a) ≡ false → unify page e a b ≡ said (knownMatches page e a) b
-      unify-rest h = unify-eq b ∙ rule-rest page e a g h (unify page) b
+      pub rest-eq : isAlike (kindOf page e) (kindOf page a) ≡ false → unify page e a b ≡ said (knownMatches page e a) b
+      rest-eq h = unify-eq b ∙ rule-rest page e a g h (unify page) b
 
-      pub unify-alike : (both isArray page e a && isAdopted page e a) ≡ false → isAlike (kindOf page e) (kindOf page a) ≡ true
+      pub alike-eq : (both isArray page e a && isAdopted page e a) ≡ false → isAlike (kindOf page e) (kindOf page a) ≡ true
           → unify page e a b ≡ allPairs (unify page) page e a b
-      unify-alike n h = unify-eq b ∙ rule-alike page e a g f u v n h (unify page) b
+      alike-eq n h = unify-eq b ∙ rule-alike page e a g f u v n h (unify page) b
 
 -- what holds of a number if it holds of every lower one holds of each
 strong : (P : ℕ → Type 0) → ((n : ℕ) → ((m : ℕ) → m < n → P m) → P n) → (n : ℕ) → P n
@@ -299,14 +299,24 @@ module _ (page : List ℕ) (f : Formed page) where
           children : (i : ℕ) → i < arity page e → i < arity page a → Grows page (unify page) e a (typesIn page) i × Repeats page (unify page) e a (typesIn page) i
           children i p q =
               let m = child-lower page f e u i p in
-              let n = child-lower page f a v i q in
-              (unify-grown page f (childOf page e i) (childOf page a i) (omega arith) (omega arith),
-              ih (childOf page e i) m (childOf page a i) (omega arith) (omega arith))
+              let n = child-lower page f a v i q in (
+                unify-grown page f (childOf page e i) (childOf page a i) (omega arith) (omega arith),
+                ih (childOf page e i) m (childOf page a i) (omega arith) (omega arith),
+              )
 
           go : Cases page f e a u v → unify page e a d ≡ unified Yes d
           go (inl k) = same (genericUnify page (nameOf page e) a) (k (unify page)) (generic-again page f (nameOf page e) a v b g d)
           go (inr (inl (answer, k))) = same (said answer) (k (unify page)) (λ h z. rw (said-yes answer b h) refl)
           go (inr (inr k)) = same (allPairs (unify page) page e a) (k (unify page)) (all-again page (unify page) e a (typesIn page) children b d g)
+
+-- arrays have an element type
+pub one-element : (page : List ℕ) → Formed page → (e a : ℕ) → e < typesIn page → a < typesIn page → both isArray page e a ≡ true
+    → (0 < arity page e) × (0 < arity page a)
+one-element page f e a u v h =
+    let z = and-true (isArray (kindOf page e)) (isArray (kindOf page a)) h in (
+      omega (arith, one-child page f e u 19 20 (omega arith) (omega arith) (z .0)),
+      omega (arith, one-child page f a v 19 20 (omega arith) (omega arith) (z .1)),
+    )
 
 -- ---- an expected generic name: one law for each return
 

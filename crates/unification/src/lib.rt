@@ -16,16 +16,15 @@ use types::arity;
 use types::child_of;
 use types::kind_of;
 use types::name_of;
-
 ghost use mathlib.Core.Path.{_≡_};
-ghost use mathlib.Core.Bool.{true, _||_, _&&_};
-ghost use Prim.Native.Nat.{_≤_, _<_};
-ghost use Rattle.kinds.specs.Kinds.{isArray, isSet, isResult, isMap, isTuple};
-ghost use Rattle.types.specs.Types.{typesIn, kindOf, arity, Held};
+ghost use mathlib.Core.Bool.{true, _&&_};
+ghost use Prim.Native.Nat.{_<_};
+ghost use Rattle.kinds.specs.Kinds.{isArray};
+ghost use Rattle.types.specs.Types.{typesIn, Held};
 ghost use Rattle.matching.specs.Matching.{both, inUse};
 ghost use Rattle.matching.specs.Memo.{Noted, Found};
 ghost use Rattle.bindings.specs.Bindings.{Usable};
-ghost use Rattle.unification.specs.Unification.{unified, said, genericUnify, isAdopted, isAlike, allPairs, unify, unifyArg, Settled};
+ghost use Rattle.unification.specs.Unification.{said, genericUnify, isAdopted, isAlike, allPairs, unify, unifyArg, Settled};
 
 // An answer, and the bindings beside it.
 pub struct Unified {
@@ -70,7 +69,13 @@ fn unify_generic(
 {
     if bindings::is_bound(bindings, name) {
         let bound = bindings::bound_or(bindings, name, a);
-        let answer = matches(page, offsets, memo, Checked::Known(bound), Checked::Known(a));
+        let answer = matches(
+            page,
+            offsets,
+            memo,
+            Checked::Known(bound),
+            Checked::Known(a),
+        );
         return say(answer, bindings);
     }
     if bindings.count < BINDINGS {
@@ -89,7 +94,17 @@ fn are_alike(k: Kind, m: Kind) -> bool
     (kinds::is_array(k) & kinds::is_array(m))
         | ((kinds::is_set(k) & kinds::is_set(m))
             | ((kinds::is_result(k) & kinds::is_result(m))
-                | ((kinds::is_map(k) & kinds::is_map(m)) | (kinds::is_tuple(k) & kinds::is_tuple(m)))))
+                | ((kinds::is_map(k) & kinds::is_map(m))
+                    | (kinds::is_tuple(k) & kinds::is_tuple(m)))))
+}
+
+// Whether two types are both arrays.
+fn are_arrays(page: &[u8], offsets: &[usize], e: usize, a: usize) -> bool
+    requires { ⌜ Held (now page) (now offsets) ⌝ }
+    requires { ⌜ (e < typesIn (now page)) × (a < typesIn (now page)) ⌝ }
+    ensures { λ r. ⌜ r ≡ both isArray (now (page .entry)) e a ⌝ }
+{
+    kinds::is_array(kind_of(page, offsets, e)) & kinds::is_array(kind_of(page, offsets, a))
 }
 
 // Whether an array is taken as it is: one of no element, or of Int where Byte is expected.
@@ -98,10 +113,7 @@ fn is_adopted(page: &[u8], offsets: &[usize], e: usize, a: usize) -> bool
     requires { ⌜ (e < typesIn (now page)) × (a < typesIn (now page)) ⌝ }
     ensures { λ r. ⌜ r ≡ (both isArray (now (page .entry)) e a && isAdopted (now (page .entry)) e a) ⌝ }
 {
-    if !kinds::is_array(kind_of(page, offsets, e)) {
-        return false;
-    }
-    if !kinds::is_array(kind_of(page, offsets, a)) {
+    if !are_arrays(page, offsets, e, a) {
         return false;
     }
     let element = child_of(page, offsets, a, 0);
@@ -109,7 +121,8 @@ fn is_adopted(page: &[u8], offsets: &[usize], e: usize, a: usize) -> bool
         return true;
     }
     let expected = child_of(page, offsets, e, 0);
-    kinds::is_byte(kind_of(page, offsets, expected)) & kinds::is_int(kind_of(page, offsets, element))
+    kinds::is_byte(kind_of(page, offsets, expected))
+        & kinds::is_int(kind_of(page, offsets, element))
 }
 
 // Whether an actual type fits an expected one, and what generic names it binds on the way.
@@ -183,12 +196,12 @@ fn unify_children(
     while i < n {
         let x = child_of(page, offsets, e, i);
         let y = child_of(page, offsets, a, i);
-        let out = unify(page, offsets, memo, seen, bound, x, y);
-        let answer = out.answer;
+        let pair = unify(page, offsets, memo, seen, bound, x, y);
+        let answer = pair.answer;
         let Answer::Yes = answer else {
-            return out;
+            return pair;
         };
-        bound = out.bindings;
+        bound = pair.bindings;
         i += 1;
     }
     say(true, bound)

@@ -139,9 +139,10 @@ rebuild-substitute-requires : (t : ℕ) → rebuild-lts.Need-substitute-requires
 rebuild-substitute-requires t c κs =
     let a = c .before .before .before .before .before .before .before .before .before .before .before .before .before .before .before .before .before .before .before .args in
     let l = c .before .before .before .before .before .before .before .before .loop in
-    let c-low = child-low (a .bindings) (now (a .page)) _ _ _ (a .t) (c .before .before .before .before .before .before .before .before .before .before .before .before .before .before .before .before .before .before .before .pre .1 .0) (c .before .before .before .before .before .before .before .before .before .arity .result) (c .before .before .before .before .before .before .before .before .before .arity .ensures .0) (l .i) (l .kids) (l .page) (l .offsets) (l .depths) (l .done) (l .inv) (c .before .before .before .before .before .before .before .loop-test .taken) (c .before .before .before .before .child-of .result) (c .before .before .before .before .child-of .ensures .0) in
-    (omega (arith, c-low, c .before .before .before .before .before .before .before .before .before .before .before .before .before .before .before .before .before .before .before .pre .0),
-    child-works (a .bindings) (now (a .page)) _ _ _ (a .t) (c .before .before .before .before .before .before .before .before .before .before .before .before .before .before .before .before .before .before .before .pre .1 .0) (c .before .before .before .before .before .before .before .before .before .arity .result) (c .before .before .before .before .before .before .before .before .before .arity .ensures .0) (l .i) (l .kids) (l .page) (l .offsets) (l .depths) (l .done) (l .inv) (c .before .before .before .before .before .before .before .loop-test .taken) (c .before .before .before .before .child-of .result) (c .before .before .before .before .child-of .ensures .0))
+    let c-low = child-low (a .bindings) (now (a .page)) _ _ _ (a .t) (c .before .before .before .before .before .before .before .before .before .before .before .before .before .before .before .before .before .before .before .pre .1 .0) (c .before .before .before .before .before .before .before .before .before .arity .result) (c .before .before .before .before .before .before .before .before .before .arity .ensures .0) (l .i) (l .kids) (l .page) (l .offsets) (l .depths) (l .done) (l .inv) (c .before .before .before .before .before .before .before .loop-test .taken) (c .before .before .before .before .child-of .result) (c .before .before .before .before .child-of .ensures .0) in (
+      omega (arith, c-low, c .before .before .before .before .before .before .before .before .before .before .before .before .before .before .before .before .before .before .before .pre .0),
+      child-works (a .bindings) (now (a .page)) _ _ _ (a .t) (c .before .before .before .before .before .before .before .before .before .before .before .before .before .before .before .before .before .before .before .pre .1 .0) (c .before .before .before .before .before .before .before .before .before .arity .result) (c .before .before .before .before .before .before .before .before .before .arity .ensures .0) (l .i) (l .kids) (l .page) (l .offsets) (l .depths) (l .done) (l .inv) (c .before .before .before .before .before .before .before .loop-test .taken) (c .before .before .before .before .child-of .result) (c .before .before .before .before .child-of .ensures .0),
+    )
 
 rebuild-enum-known-made : (t : ℕ) → rebuild-lts.Need-enum-known-made (
   kind-of-reads.Asked,
@@ -398,10 +399,11 @@ rebuild-enter-type-requires : (t : ℕ) → rebuild-lts.Need-enter-type-requires
 ) (rebuild-at t) rebuild.Post rebuild-Inv-loop rebuild-μ-loop
 rebuild-enter-type-requires t c κs =
     let a = c .before .before .before .before .before .before .before .before .before .before .before .before .before .before .before .before .before .args in
-    let l = c .before .before .before .before .before .before .loop in
-    (rw (sub-zero (c .before .before .before .before .before .before .before .arity .result)) (few-places (a .bindings) (now (a .page)) _ _ _ (a .t) (c .before .before .before .before .before .before .before .before .before .before .before .before .before .before .before .before .before .pre .1 .0) (c .before .before .before .before .before .before .before .arity .result) (c .before .before .before .before .before .before .before .arity .ensures .0) (l .i) (l .kids) (l .page) (l .offsets) (l .depths) (l .done) (l .inv)),
-    rw (sub-zero (c .before .before .before .before .before .before .before .arity .result)) (parent-ready (a .bindings) (now (a .page)) _ _ _ (a .t) (c .before .before .before .before .before .before .before .before .before .before .before .before .before .before .before .before .before .pre .1 .0) (c .before .before .before .before .before .before .before .arity .result) (c .before .before .before .before .before .before .before .arity .ensures .0) (l .i) (l .kids) (l .page) (l .offsets) (l .depths) (l .done) (l .inv) (c .before .before .before .before .before .loop-test .left)
-    (c .before .before .before .before .before .before .before .before .before .before .before .before .before .before .before .before .before .pre .1 .1) (c .before .before .before .before .before .before .before .before .before .before .kind-of .result) (c .before .before .before .before .before .before .before .before .before .before .kind-of .ensures)))
+    let l = c .before .before .before .before .before .before .loop in (
+      rw (sub-zero (c .before .before .before .before .before .before .before .arity .result)) (few-places (a .bindings) (now (a .page)) _ _ _ (a .t) (c .before .before .before .before .before .before .before .before .before .before .before .before .before .before .before .before .before .pre .1 .0) (c .before .before .before .before .before .before .before .arity .result) (c .before .before .before .before .before .before .before .arity .ensures .0) (l .i) (l .kids) (l .page) (l .offsets) (l .depths) (l .done) (l .inv)),
+      rw (sub-zero (c .before .before .before .before .before .before .before .arity .result)) (parent-ready (a .bindings) (now (a .page)) _ _ _ (a .t) (c .before .before .before .before .before .before .before .before .before .before .before .before .before .before .before .before .before .pre .1 .0) (c .before .before .before .before .before .before .before .arity .result) (c .before .before .before .before .before .before .before .arity .ensures .0) (l .i) (l .kids) (l .page) (l .offsets) (l .depths) (l .done) (l .inv) (c .before .before .before .before .before .loop-test .left)
+          (c .before .before .before .before .before .before .before .before .before .before .before .before .before .before .before .before .before .pre .1 .1) (c .before .before .before .before .before .before .before .before .before .before .kind-of .result) (c .before .before .before .before .before .before .before .before .before .before .kind-of .ensures)),
+    )
 
 rebuild-same-length-5 : (t : ℕ) → rebuild-lts.Need-same-length-5 (
   kind-of-reads.Asked,
@@ -1134,6 +1136,7 @@ pub +rebuild+substitute-spec : {M : Type 1} → statement M
     (substitute-same-length-14 t)
     (substitute-same-length-15 t)
     (substitute-returns-5 t)
+
 abbrev rebuild-claims : ℕ → rebuild-lts.Claims
 rebuild-claims t =
     (kind-of-reads.Asked, kind-of-reads.Learnt, arity-reads.Asked, arity-reads.Learnt, child-of-reads.Asked, child-of-reads.Learnt, substitute-below t, substitute.Post, enter-type-reads.Asked, enter-type-reads.Learnt)
@@ -1149,4 +1152,3 @@ substitute-claims t =
 -- what a need or a place of `substitute` is at the measure t
 abbrev substitute-need : (substitute-lts.Claims → In 4 substitute-kinds.ps → Out 4 substitute-kinds.ps substitute-kinds.r → Type 0) → ℕ → Type 0
 substitute-need N t = N (substitute-claims t) (substitute-at t) substitute.Post
-

@@ -112,9 +112,10 @@ enter-type-requires c κs =
     let u = sym (c .before .before .before .before .before .before .before .before .parts-used .ensures) ∙ not-false (c .before .before .before .before .before .before .before .before .parts-used .result) (c .before .before .before .before .before .before .before .if4 .left) in
     let w = sym (c .before .before .before .before .before .before .is-counted .ensures) ∙ not-false (c .before .before .before .before .before .before .is-counted .result) (c .before .before .before .before .before .if5 .left) in
     let s = sym (c .before .before .before .before .is-stored .ensures) ∙ not-false (c .before .before .before .before .is-stored .result) (c .before .before .before .if6 .left) in
-    let g = c .before .before .before .before .before .before .before .before .before .before .before .before .before .survey .ensures .1 (not-false (c .before .before .before .before .before .before .before .before .before .before .before .before .before .survey .result) (c .before .before .before .before .before .before .before .before .before .before .if3 .left)) in
-    (make-few (now (a .page)) (now (a .names)) (a .lent) (a .kind) (now (a .children)) (a .name) (c .before .before .before .before .before .before .before .before .before .before .before .before .before .before .before .before .before .before .before .before .before .before .if1 .left) l (c .before .before .before .before .before .before .before .before .before .before .before .before .before .before .before .before .before .before .before .in-use .result) (c .before .before .before .before .before .before .before .before .before .before .before .before .before .before .before .before .before .before .before .in-use .ensures .0) f u w s,
-    make-ready (now (a .page)) (now (a .names)) (a .lent) (a .kind) (now (a .children)) (a .name) (c .before .before .before .before .before .before .before .before .before .before .before .before .before .before .before .before .before .before .before .before .before .before .if1 .left) l (c .before .before .before .before .before .before .before .before .before .before .before .before .before .before .before .before .before .before .before .in-use .result) (c .before .before .before .before .before .before .before .before .before .before .before .before .before .before .before .before .before .before .before .in-use .ensures .0) f u w s _ _ g)
+    let g = c .before .before .before .before .before .before .before .before .before .before .before .before .before .survey .ensures .1 (not-false (c .before .before .before .before .before .before .before .before .before .before .before .before .before .survey .result) (c .before .before .before .before .before .before .before .before .before .before .if3 .left)) in (
+      make-few (now (a .page)) (now (a .names)) (a .lent) (a .kind) (now (a .children)) (a .name) (c .before .before .before .before .before .before .before .before .before .before .before .before .before .before .before .before .before .before .before .before .before .before .if1 .left) l (c .before .before .before .before .before .before .before .before .before .before .before .before .before .before .before .before .before .before .before .in-use .result) (c .before .before .before .before .before .before .before .before .before .before .before .before .before .before .before .before .before .before .before .in-use .ensures .0) f u w s,
+      make-ready (now (a .page)) (now (a .names)) (a .lent) (a .kind) (now (a .children)) (a .name) (c .before .before .before .before .before .before .before .before .before .before .before .before .before .before .before .before .before .before .before .before .before .before .if1 .left) l (c .before .before .before .before .before .before .before .before .before .before .before .before .before .before .before .before .before .before .before .in-use .result) (c .before .before .before .before .before .before .before .before .before .before .before .before .before .before .before .before .before .before .before .in-use .ensures .0) f u w s _ _ g,
+    )
 
 same-length-5 : tie.Need-same-length-5
 same-length-5 c = search needs

@@ -37,9 +37,25 @@ is-tuple-requires-2 c κs = search needs
 returns : tie.Need-returns
 unfolding isAlike
 returns c =
+    let is-array = c .before .before .before .before .before .before .before .before .before .is-array in
+    let is-array2 = c .before .before .before .before .before .before .before .before .is-array2 in
+    let is-set = c .before .before .before .before .before .before .before .is-set in
+    let is-set2 = c .before .before .before .before .before .before .is-set2 in
+    let is-result = c .before .before .before .before .before .is-result in
+    let is-result2 = c .before .before .before .before .is-result2 in
+    let is-map = c .before .before .before .is-map in
+    let is-map2 = c .before .before .is-map2 in
     rw (
-      c .before .before .before .before .before .before .before .before .before .is-array .ensures, c .before .before .before .before .before .before .before .before .is-array2 .ensures, c .before .before .before .before .before .before .before .is-set .ensures, c .before .before .before .before .before .before .is-set2 .ensures, c .before .before .before .before .before .is-result .ensures, c .before .before .before .before .is-result2 .ensures,
-      c .before .before .before .is-map .ensures, c .before .before .is-map2 .ensures, c .before .is-tuple .ensures, c .is-tuple2 .ensures,
+      is-array .ensures,
+      is-array2 .ensures,
+      is-set .ensures,
+      is-set2 .ensures,
+      is-result .ensures,
+      is-result2 .ensures,
+      is-map .ensures,
+      is-map2 .ensures,
+      c .before .is-tuple .ensures,
+      c .is-tuple2 .ensures,
     )
 
 pub are-alike-spec : {M : Type 1} → statement M

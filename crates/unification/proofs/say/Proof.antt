@@ -1,6 +1,5 @@
 -- `unification::say` meets its contract. Assumes nothing.
 use mathlib.Core.Path.{refl}
-use borrow.Author.Needs.{needs}
 use Rattle.unification.proofs.say.Statement.{statement}
 use Rattle.unification.proofs.say.Tie as tie
 

@@ -17,10 +17,10 @@ enum-known-actual c = search needs
 
 unify-requires : tie.Need-unify-requires
 unify-requires c κs =
-    let s = c .before .before .before .before .before .before .before .before .before in
+    let start = c .before .before .before .before .before .before .before .before .before in
     let actual = c .before .before .before .actual .given in
-    let u : inUse (now (s .args .page)) (Known (actual .0 .0)) ≡ true = rw (actual .1) at (s .pre .1 .0 .1) in
-    (s .pre .0, ((s .pre .1 .0 .0, known-in-use (now (s .args .page)) (actual .0 .0) u), s .pre .1 .1))
+    let u : inUse (now (start .args .page)) (Known (actual .0 .0)) ≡ true = rw (actual .1) at (start .pre .1 .0 .1) in
+    (start .pre .0, ((start .pre .1 .0 .0, known-in-use (now (start .args .page)) (actual .0 .0) u), start .pre .1 .1))
 
 same-length : tie.Need-same-length
 same-length c = search needs
@@ -30,9 +30,10 @@ same-length-2 c = search needs
 
 returns : tie.Need-returns
 returns c =
+    let unify = c .before .before .before .before .unify in
     let g = c .before .before .before .before .before .before .before .before .before .before .before .before .before .before .args in
     let actual = c .before .before .before .before .before .before .before .before .actual .given in
-    rw (actual .1) (c .before .before .before .before .unify .ensures .0 ∙ arg-known (now (g .page)) (g .e) (g .bindings) (actual .0 .0))
+    rw (actual .1) (unify .ensures .0 ∙ arg-known (now (g .page)) (g .e) (g .bindings) (actual .0 .0))
 
 enum-known-actual-2 : tie.Need-enum-known-actual-2
 enum-known-actual-2 c = search needs
@@ -42,18 +43,19 @@ say-requires c κs = search needs
 
 returns-2 : tie.Need-returns-2
 returns-2 c =
+    let match = c .before .before .match in
     let g = c .before .before .before .before .before .before .before .args in
-    c .say .ensures ∙ arg-unknown (now (g .page)) (g .e) (g .bindings) (g .actual) (c .before .before .match .keys2) (c .before .match2 .keys2)
+    c .say .ensures ∙ arg-unknown (now (g .page)) (g .e) (g .bindings) (g .actual) (match .keys2) (c .before .match2 .keys2)
 
 kind-of-requires : tie.Need-kind-of-requires
 kind-of-requires c κs = search needs
 
 unify-children-requires : tie.Need-unify-children-requires
 unify-children-requires c κs =
-    let s = c .before .before .before .before .before .before .before .before .before .before .before .before in
+    let start = c .before .before .before .before .before .before .before .before .before .before .before .before in
     let actual = c .before .before .before .before .before .actual2 .given in
-    let u : inUse (now (s .args .page)) (Function (actual .0 .0)) ≡ true = rw (actual .1) at (s .pre .1 .0 .1) in
-    (s .pre .0, ((s .pre .1 .0 .0, function-in-use (now (s .args .page)) (actual .0 .0) u), s .pre .1 .1))
+    let u : inUse (now (start .args .page)) (Function (actual .0 .0)) ≡ true = rw (actual .1) at (start .pre .1 .0 .1) in
+    (start .pre .0, ((start .pre .1 .0 .0, function-in-use (now (start .args .page)) (actual .0 .0) u), start .pre .1 .1))
 
 same-length-3 : tie.Need-same-length-3
 same-length-3 c = search needs
@@ -63,18 +65,21 @@ same-length-4 c = search needs
 
 returns-3 : tie.Need-returns-3
 returns-3 c =
+    let kind-of = c .before .before .before .before .before .before .before .before .kind-of in
+    let if1 = c .before .before .before .before .before .before .before .if1 in
+    let unify-children = c .before .before .before .before .unify-children in
     let g = c .before .before .before .before .before .before .before .before .before .before .before .before .before .before .before .before .before .args in
     let page = now (g .page) in
     let actual = c .before .before .before .before .before .before .before .before .before .before .actual2 .given in
-    let k : isKind callback page (g .e) ≡ true = rw (← c .before .before .before .before .before .before .before .before .kind-of .ensures) (eq-eqb (c .before .before .before .before .before .before .before .before .kind-of .result) callback (c .before .before .before .before .before .before .before .if1 .taken)) in
-    rw (actual .1) (c .before .before .before .before .unify-children .ensures .0 ∙ arg-callback page (g .e) (g .bindings) (actual .0 .0) k)
+    let k : isKind callback page (g .e) ≡ true = rw (← kind-of .ensures) (eq-eqb (kind-of .result) callback (if1 .taken)) in
+    rw (actual .1) (unify-children .ensures .0 ∙ arg-callback page (g .e) (g .bindings) (actual .0 .0) k)
 
 matches-requires : tie.Need-matches-requires
 matches-requires c κs =
-    let s = c .before .before .before .before .before .before .before .before .before .before .before in
+    let start = c .before .before .before .before .before .before .before .before .before .before .before in
     let actual = c .before .before .before .before .actual2 .given in
-    let u : inUse (now (s .args .page)) (Function (actual .0 .0)) ≡ true = rw (actual .1) at (s .pre .1 .0 .1) in
-    (s .pre .0, ((u, in-use-known _ (s .args .e) (s .pre .1 .0 .0)), s .pre .1 .1 .1 .0))
+    let u : inUse (now (start .args .page)) (Function (actual .0 .0)) ≡ true = rw (actual .1) at (start .pre .1 .0 .1) in
+    (start .pre .0, ((u, in-use-known _ (start .args .e) (start .pre .1 .0 .0)), start .pre .1 .1 .1 .0))
 
 say-requires-2 : tie.Need-say-requires-2
 say-requires-2 c κs = search needs
@@ -84,12 +89,15 @@ same-length-5 c = search needs
 
 returns-4 : tie.Need-returns-4
 returns-4 c =
+    let kind-of = c .before .before .before .before .before .before .kind-of in
+    let if1 = c .before .before .before .before .before .if1 in
+    let matches = c .before .before .before .matches in
     let g = c .before .before .before .before .before .before .before .before .before .before .before .before .before .before .before .args in
     let page = now (g .page) in
     let actual = c .before .before .before .before .before .before .before .before .actual2 .given in
     let f = actual .0 .0 in
-    let k : isKind callback page (g .e) ≡ false = rw (← c .before .before .before .before .before .before .kind-of .ensures) (ne-eqb (c .before .before .before .before .before .before .kind-of .result) callback (c .before .before .before .before .before .if1 .left)) in
-    let m = c .before .before .before .matches .ensures .0 ∙ sym (from-function page f (Known (g .e))) in
+    let k : isKind callback page (g .e) ≡ false = rw (← kind-of .ensures) (ne-eqb (kind-of .result) callback (if1 .left)) in
+    let m = matches .ensures .0 ∙ sym (from-function page f (Known (g .e))) in
     rw (actual .1) (rw m at (c .say2 .ensures) ∙ arg-function page (g .e) (g .bindings) f k)
 
 pub unify-arg-spec : {M : Type 1} → statement M

@@ -1,0 +1,63 @@
+-- `checked::is_used` meets its contract. Assumes nothing.
+use mathlib.Core.Path.{_≡_, refl, sym, _∙_, ap}
+use mathlib.Core.Bool.{true, false, not}
+use Prim.Native.Nat.{_≤_, _<_}
+use native.Mathlib.Omega.{arith}
+use lib.ListN.{length}
+use denote.Ref.{now}
+use borrow.Author.Tests.{not-true, not-false}
+use Rattle.types.proofs.Types.{whole}
+use Rattle.checked.proofs.Calls.{used-unknown, used-known, used-function, unused-function}
+use borrow.Author.Needs.{needs}
+use Rattle.checked.proofs.is_used.Statement.{statement}
+use Rattle.checked.proofs.is_used.Tie as tie
+
+enum-told : tie.Need-enum-told
+enum-told c = search needs
+
+enum-known-c : tie.Need-enum-known-c
+enum-known-c c = search needs
+
+count-requires : tie.Need-count-requires
+count-requires c κs =
+    let f = c .before .before .before .before .before .pre .sound in
+    whole (now (c .before .before .before .before .before .args .page)) (f .names) (f .form) .two
+
+enum-known-c-2 : tie.Need-enum-known-c-2
+enum-known-c-2 c = search needs
+
+count-requires-2 : tie.Need-count-requires-2
+count-requires-2 c κs =
+    let f = c .before .before .before .before .before .pre .sound in
+    whole (now (c .before .before .before .before .before .args .page)) (f .names) (f .form) .two
+
+kind-of-requires : tie.Need-kind-of-requires
+kind-of-requires c κs = search needs
+
+returns : tie.Need-returns
+returns c = used-unknown (now (c .before .before .before .before .args .page)) (c .before .before .before .before .args .c) (c .enum-told .given .1)
+
+returns-2 : tie.Need-returns-2
+returns-2 c = used-known (now (c .before .before .before .before .before .before .args .page)) (c .before .before .before .before .before .before .args .c) _ (c .count .result) (c .before .before .c .given .1) (c .count .ensures)
+
+returns-3 : tie.Need-returns-3
+returns-3 c =
+    used-function (now (c .before .before .before .before .before .before .before .before .args .page)) (c .before .before .before .before .before .before .before .before .args .c) _ (c .before .before .count2 .result) (c .before .before .before .before .c2 .given .1) (c .before .before .count2 .ensures) (c .before .if1 .taken) (c .kind-of .result) (c .kind-of .ensures)
+
+returns-4 : tie.Need-returns-4
+returns-4 c = unused-function (now (c .before .before .before .before .before .before .before .args .page)) (c .before .before .before .before .before .before .before .args .c) _ (c .before .count2 .result) (c .before .before .before .c2 .given .1) (c .before .count2 .ensures) (c .if1 .left)
+
+pub is-used-spec : {M : Type 1} → statement M
+is-used-spec =
+    tie.close
+    (tie.spec
+    enum-told
+    enum-known-c
+    count-requires
+    enum-known-c-2
+    count-requires-2
+    kind-of-requires
+    returns
+    returns-2
+    returns-3
+    returns-4)
