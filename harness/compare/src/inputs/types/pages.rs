@@ -247,27 +247,41 @@ fn depths(ask: Sink) {
             }
         }
     }
-    for (over, under) in [(1, 31), (1, 32), (16, 16), (16, 17), (31, 1), (31, 2), (15, 16)] {
-        deep_substitutions(over, under, ask);
+    for over in [1, 2, 5, 15, 16, 17, 30, 31] {
+        for total in [31, 32, 33, 34, 47] {
+            if total > over && total - over <= MAX_DEPTH {
+                deep_substitutions(over, total - over, ask);
+            }
+        }
     }
 }
 
-/// A generic so many deep, bound to a type so deep, on pages with room and without:
-/// too deep at the top alone, or farther down, before a type without room or after it.
+/// A type below so many of the kind.
+fn held(kind: u8, times: usize, shape: &Shape) -> Shape {
+    let holder = |shape: Shape| match kind {
+        MAP => of(kind, &[generic(B), shape]),
+        TUPLE => of(kind, &[shape, fixed(INT)]),
+        _ => of(kind, &[shape]),
+    };
+    (0..times).fold(shape.clone(), |shape, _| holder(shape))
+}
+
+/// A generic below so many types, bound to a type so deep, on pages with room and
+/// without: too deep at the top alone or farther down, before a type without room or after it.
 fn deep_substitutions(over: usize, under: usize, ask: Sink) {
-    let holder = below(ARRAY, over - 1, &generic(A));
-    let bound = below(SET, under - 1, &fixed(INT));
-    let wide = of(TUPLE, &[generic(B), below(ARRAY, over.min(30) - 1, &generic(A))]);
-    for (shape, other) in [(&holder, fixed(INT)), (&wide, over_strings())] {
-        let (page, [number, a, b]) = stored([shape, &bound, &other], 0);
+    let to = below(SET, under - 1, &fixed(INT));
+    for kind in [ARRAY, CRESULT, MAP, TUPLE, CALLBACK] {
+        let (page, [number, a, b]) =
+            stored([&held(kind, over, &generic(A)), &to, &over_strings()], 0);
         let bound = bindings(&[(A, a), (B, b)]);
-        for room in [0, 3, 4, 5, 4 * over.saturating_sub(1), 4 * over + 2, 200] {
+        for room in [0, 3, 4, 6, 4 * (over - 1), 4 * over, 6 * over, 250] {
             let page = [&page[..], &vec![0; room]].concat();
             ask(Question::substitute(&page, b"", false, number.into(), &bound));
         }
     }
 }
 
+/// What B is bound to there.
 fn over_strings() -> Shape {
     over(MAP, &[STRING, INT])
 }

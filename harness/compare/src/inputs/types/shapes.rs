@@ -184,7 +184,11 @@ fn two_levels() -> Vec<Shape> {
     }
     shapes.push(of(TUPLE, &[a.clone(), b.clone(), a.clone()]));
     shapes.push(of(TUPLE, &[a.clone(), fixed(BOOL)]));
-    shapes.push(of(MAP, &[a.clone(), of(CTUPLE, &[b, a])]));
+    shapes.push(of(MAP, &[a.clone(), of(CTUPLE, &[b.clone(), a.clone()])]));
+    // Two children and more that substitution makes anew.
+    shapes.push(of(TUPLE, &[array(a.clone()), of(SET, &[a.clone()])]));
+    shapes.push(of(CMAP, &[array(b.clone()), of(RESULT, &[array(a.clone())])]));
+    shapes.push(of(CALLBACK, &[array(a.clone()), array(b), of(CTUPLE, &[a])]));
     shapes.push(of(TUPLE, &[null, int.clone(), of(ANY, &[int, cint, float])]));
     shapes.push(over(CARRAY, &[CBYTE]));
     shapes.push(over(ARRAY, &[FLOAT]));

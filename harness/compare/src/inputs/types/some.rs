@@ -407,6 +407,9 @@ pub fn substitute(random: &mut Random) -> Question {
     within_reach(random, |random, setting| {
         let number = some_number(random, setting);
         let bound = some_bindings(random, setting);
-        Question::substitute(&setting.page, &setting.names, setting.lent, number, &bound)
+        // Often more room than one new type needs.
+        let room = vec![0; *random.pick(&[0, 20, 60, 200])];
+        let page = [&setting.page[..], &room].concat();
+        Question::substitute(&page, &setting.names, setting.lent, number, &bound)
     })
 }
