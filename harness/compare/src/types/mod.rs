@@ -275,3 +275,119 @@ pub fn is_within_reach(question: &Question) -> bool {
     }
     sizes.iter().all(|&size| size <= MAX_NODES) && sizes.iter().product::<usize>() <= MAX_WORK
 }
+
+#[cfg(test)]
+mod tests {
+    use super::*;
+    use crate::inputs::types::shapes::{
+        array, below, bindings, fixed, generic, of, over, stored, Shape, A, ANY, ARRAY, B, BOOL,
+        BYTE, CALLBACK, CARRAY, CINT, FLOAT, INT, NULL, SET, TUPLE,
+    };
+    use crate::limits::{MAX_BINDINGS, NO_ROOM, TOO_DEEP};
+
+    fn asked(actual: &Shape, expected: &Shape) -> u32 {
+        let (page, [actual, expected]) = stored([actual, expected], 0);
+        matches(&page, b"", false, [actual.into(), expected.into()]).unwrap().value
+    }
+
+    /// What `unify` says, and what is bound then.
+    fn unified(expected: &Shape, actual: &Shape, bound: &[(u8, u16)]) -> (u32, Vec<u8>, [u16; 2]) {
+        let (page, numbers) = stored([expected, actual], 0);
+        let given = unify(&page, b"", false, numbers.map(u32::from), &bindings(bound)).unwrap();
+        (given.value, given.out, numbers)
+    }
+
+    #[test]
+    fn document_01s_cases() {
+        assert_eq!(asked(&fixed(NULL), &fixed(INT)), 1);
+        assert_eq!(asked(&fixed(INT), &fixed(NULL)), 0);
+        assert_eq!(asked(&fixed(CINT), &fixed(INT)), 1);
+        assert_eq!(asked(&fixed(INT), &fixed(CINT)), 0);
+        assert_eq!(asked(&over(ARRAY, &[INT]), &over(CARRAY, &[FLOAT])), 1);
+        assert_eq!(asked(&over(ARRAY, &[INT]), &over(ARRAY, &[FLOAT])), 0);
+        assert_eq!(asked(&over(TUPLE, &[]), &over(TUPLE, &[INT])), 1);
+        assert_eq!(asked(&over(TUPLE, &[NULL, INT]), &over(TUPLE, &[INT, INT])), 0);
+    }
+
+    #[test]
+    fn document_01s_cases_of_unify() {
+        let pair = of(TUPLE, &[generic(A), fixed(BOOL)]);
+        let (no, out, _) = unified(&pair, &over(TUPLE, &[INT, FLOAT]), &[]);
+        assert_eq!((no, out), (0, bindings(&[(A, INT.into())]).to_vec()));
+        let (no, out, _) = unified(&pair, &over(TUPLE, &[INT]), &[]);
+        assert_eq!((no, out), (0, bindings(&[]).to_vec()));
+        let (yes, out, _) = unified(&array(generic(A)), &over(ARRAY, &[NULL]), &[]);
+        assert_eq!((yes, out), (1, bindings(&[]).to_vec()));
+        assert_eq!(unified(&over(ARRAY, &[BYTE]), &over(ARRAY, &[INT]), &[]).0, 1);
+        assert_eq!(unified(&fixed(BYTE), &fixed(INT), &[]).0, 0);
+    }
+
+    #[test]
+    fn names_are_bound_in_the_order_of_the_walk() {
+        let expected = of(TUPLE, &[generic(B), array(generic(A)), generic(B)]);
+        let actual = of(TUPLE, &[fixed(INT), over(ARRAY, &[BOOL]), fixed(INT)]);
+        let (yes, out, _) = unified(&expected, &actual, &[(7, 0)]);
+        let bound = [(7, 0), (B, INT.into()), (A, BOOL.into())];
+        assert_eq!((yes, out), (1, bindings(&bound).to_vec()));
+    }
+
+    #[test]
+    fn a_33rd_binding_is_refused() {
+        let (page, [a]) = stored([&generic(A)], 0);
+        let ask = |count: u8, last: u8| {
+            let mut bound: Vec<(u8, u16)> = (1..count).map(|name| (name, 1)).collect();
+            bound.push((last, 1));
+            unify(&page, b"", false, [a.into(), 1], &bindings(&bound)).map(|given| given.value)
+        };
+        assert_eq!(ask(MAX_BINDINGS as u8 - 1, 200), Ok(1));
+        assert_eq!(ask(MAX_BINDINGS as u8, 200), Err(NO_ROOM));
+        assert_eq!(ask(MAX_BINDINGS as u8, A), Ok(1));
+    }
+
+    #[test]
+    fn substitution_enters_from_left_to_right_and_no_union() {
+        let shape = of(CALLBACK, &[array(generic(A)), of(ANY, &[generic(A)]), generic(A)]);
+        let (page, [number]) = stored([&shape], 12);
+        let bound = bindings(&[(A, FLOAT.into())]);
+        let given = substitute(&page, b"", false, number.into(), &bound).unwrap();
+        let union = number - 1;
+        let entries = [Entry::of(ARRAY, &[5]), Entry::of(CALLBACK, &[number + 1, union, 5])];
+        let own = page.len() - 12;
+        assert_eq!(given.value, u32::from(number) + 2);
+        assert_eq!(given.page[own..], entries.map(|entry| entry.bytes()).concat());
+        let short = substitute(&page[..own + 11], b"", false, number.into(), &bound);
+        assert_eq!(short.unwrap_err(), NO_ROOM);
+    }
+
+    #[test]
+    fn the_first_type_refused_decides() {
+        let shape = of(TUPLE, &[array(generic(B)), of(SET, &[generic(A)])]);
+        let (page, [number, deep]) = stored([&shape, &below(ARRAY, 31, &fixed(INT))], 0);
+        let ask = |b: u8, room: usize| {
+            let page = [&page[..], &vec![0; room]].concat();
+            let bound = bindings(&[(A, deep), (B, b.into())]);
+            substitute(&page, b"", false, number.into(), &bound).unwrap_err()
+        };
+        // Array Int is there already: nothing needs room before the set, which is too deep.
+        assert_eq!(ask(INT, 0), TOO_DEEP);
+        assert_eq!(ask(FLOAT, 0), NO_ROOM);
+        assert_eq!(ask(FLOAT, 4), TOO_DEEP);
+    }
+
+    #[test]
+    fn the_lowest_refusal_comes_first() {
+        let page = stored([&array(fixed(INT))], 0).0;
+        let ask = |kind: u8, children: &[u16], name: u8| {
+            let entry = Entry { kind, children: children.to_vec(), name };
+            make_type(&page, b"\x00\x01\x01a", true, entry).map(|given| given.value)
+        };
+        assert_eq!(ask(38, &[99], 9), Err(UNDEFINED_KIND));
+        assert_eq!(ask(ARRAY, &[1, 20], 9), Err(NOT_IN_USE));
+        assert_eq!(ask(32, &[1], 1), Err(NOT_IN_USE));
+        assert_eq!(ask(32, &[1], 0), Err(WRONG_CHILD_COUNT));
+        assert_eq!(ask(INT, &[1], 0), Err(WRONG_CHILD_COUNT));
+        assert_eq!(ask(SET, &[19], 9), Err(NO_ROOM));
+        assert_eq!(ask(ARRAY, &[1], 9), Ok(19));
+        assert_eq!(ask(INT, &[], 9), Ok(1));
+    }
+}

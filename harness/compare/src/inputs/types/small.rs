@@ -15,9 +15,6 @@ const NO_NAMES: &[u8] = b"";
 /// Of so many actual types one is asked with nearly all bindings taken.
 const FULL_STEP: usize = 6;
 
-/// And with a known type as an argument.
-const KNOWN_STEP: usize = 5;
-
 pub fn questions(ask: Sink) {
     let shapes = small();
     for (place, expected) in shapes.iter().enumerate() {
@@ -28,11 +25,8 @@ pub fn questions(ask: Sink) {
             functions(&page, [expected, actual], [e.into(), a.into()], ask);
             let few = (place + other) % FULL_STEP == 0;
             unify(&page, [expected, actual], [e, a], few, ask);
-            if (place + other) % KNOWN_STEP == 0 {
-                let bound = bindings(&[(A, a)]);
-                let numbers = [e.into(), a.into()];
-                ask(Question::unify_arg(&page, NO_NAMES, false, numbers, &bound));
-            }
+            let bound = bindings(&[(A, a)]);
+            ask(Question::unify_arg(&page, NO_NAMES, false, [e.into(), a.into()], &bound));
         }
     }
 }
