@@ -134,11 +134,9 @@ impl Call {
 
     /// Whether the page is lent for writing.
     pub fn writes_page(self) -> bool {
-        match self {
-            Call::EmptyNames | Call::AddName | Call::EmptyPairs | Call::InsertPair => true,
-            Call::EmptyTypes | Call::MakeType | Call::IntoConst | Call::Substitute => true,
-            _ => false,
-        }
+        let of_types = [Call::EmptyTypes, Call::MakeType, Call::IntoConst, Call::Substitute];
+        matches!(self, Call::EmptyNames | Call::AddName | Call::EmptyPairs | Call::InsertPair)
+            || of_types.contains(&self)
     }
 
     /// Whether `out` is the bindings, lent for writing.

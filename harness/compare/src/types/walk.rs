@@ -15,7 +15,7 @@ fn coerces(expected: u16, actual: u16) -> bool {
 
 /// Whether both kinds are arrays, sets, results, maps or tuples, const or not.
 fn same_family(expected: u8, actual: u8) -> bool {
-    let family = |kind: u8| (19..=28).contains(&kind).then_some((kind + 1) / 2);
+    let family = |kind: u8| (19..=28).contains(&kind).then(|| (kind - 19) / 2);
     family(expected).is_some() && family(expected) == family(actual)
 }
 

@@ -87,12 +87,14 @@ fn short_pages(ask: Sink) {
 fn every_kind(ask: Sink) {
     let names = table_on(&["a", "b"], 0);
     let broken = table_on(&["a", "a"], 0);
-    let (store, unused) = (&small_stores()[3], 22);
+    let store = &small_stores()[3];
     let with_room = [&store[..], &[0; 40]].concat();
     let out_of_form = [&store[..], &[1]].concat();
     for kind in (0..=40).chain([127, 128, 255]) {
         for count in (0..=4).chain([15, 16, 17, 18, 256, 257]) {
             let children: Vec<u16> = (0..count).map(|place| [1, 19, 5, 21][place % 4]).collect();
+            // The first that is not in use, the last, and one whose low byte alone would be.
+            let unused = [22, u16::MAX, 256 + 1][(usize::from(kind) + count) % 3];
             for place in [None, Some(0), Some(count / 2), count.checked_sub(1)] {
                 let mut children = children.clone();
                 if let Some(child) = place.and_then(|place| children.get_mut(place)) {

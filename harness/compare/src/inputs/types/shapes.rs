@@ -59,8 +59,13 @@ pub fn generic(name: u8) -> Shape {
     named(GENERIC, name)
 }
 
+/// A type with that child alone.
+pub fn holding(kind: u8, child: &Shape) -> Shape {
+    Shape { kind, children: vec![child.clone()], name: 0 }
+}
+
 pub fn array(child: Shape) -> Shape {
-    of(ARRAY, &[child])
+    holding(ARRAY, &child)
 }
 
 /// Such types over fixed ones.
@@ -168,27 +173,33 @@ fn two_levels() -> Vec<Shape> {
         over(CMAP, &[STRING, INT]),
         over(SET, &[INT]),
         over(ANY, &[INT]),
-        of(ANY, &[a.clone()]),
+        holding(ANY, &a),
         over(CANY, &[]),
         over(CALLBACK, &[INT]),
         named(RECORD, A),
     ];
     for child in &inner {
-        shapes.extend([ARRAY, CARRAY, SET, CRESULT].map(|kind| of(kind, &[child.clone()])));
+        shapes.extend([ARRAY, CARRAY, SET, CRESULT].map(|kind| holding(kind, child)));
         shapes.push(of(MAP, &[child.clone(), int.clone()]));
         shapes.push(of(CMAP, &[fixed(STRING), child.clone()]));
         shapes.push(of(TUPLE, &[child.clone(), cint.clone()]));
-        shapes.push(of(ANY, &[child.clone()]));
+        shapes.push(holding(ANY, child));
         shapes.push(of(CANY, &[float.clone(), child.clone()]));
         shapes.push(of(CALLBACK, &[child.clone(), a.clone()]));
     }
     shapes.push(of(TUPLE, &[a.clone(), b.clone(), a.clone()]));
     shapes.push(of(TUPLE, &[a.clone(), fixed(BOOL)]));
     shapes.push(of(MAP, &[a.clone(), of(CTUPLE, &[b.clone(), a.clone()])]));
+    // Maps below maps, which Null elides on either side.
+    for inner in [over(MAP, &[NULL, INT]), over(CMAP, &[INT, NULL]), over(MAP, &[INT, INT])] {
+        shapes.push(of(MAP, &[null.clone(), inner.clone()]));
+        shapes.push(of(MAP, &[inner.clone(), int.clone()]));
+        shapes.push(of(CMAP, &[inner, null.clone()]));
+    }
     // Two children and more that substitution makes anew.
-    shapes.push(of(TUPLE, &[array(a.clone()), of(SET, &[a.clone()])]));
+    shapes.push(of(TUPLE, &[array(a.clone()), holding(SET, &a)]));
     shapes.push(of(CMAP, &[array(b.clone()), of(RESULT, &[array(a.clone())])]));
-    shapes.push(of(CALLBACK, &[array(a.clone()), array(b), of(CTUPLE, &[a])]));
+    shapes.push(of(CALLBACK, &[array(a.clone()), array(b), holding(CTUPLE, &a)]));
     shapes.push(of(TUPLE, &[null, int.clone(), of(ANY, &[int, cint, float])]));
     shapes.push(over(CARRAY, &[CBYTE]));
     shapes.push(over(ARRAY, &[FLOAT]));

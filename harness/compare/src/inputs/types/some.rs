@@ -57,9 +57,14 @@ fn depth(shape: &Shape) -> usize {
     1 + shape.children.iter().map(depth).max().unwrap_or(0)
 }
 
-/// The type below others, up to a depth of 32.
+/// The type below others, often as many as the depth of 32 allows, or one fewer.
 fn deepened(random: &mut Random, shape: Shape) -> Shape {
-    let more = random.below(MAX_DEPTH + 1 - depth(&shape));
+    let most = MAX_DEPTH - depth(&shape);
+    let more = match random.below(3) {
+        0 => most,
+        1 => most.saturating_sub(1),
+        _ => random.below(most + 1),
+    };
     let kinds = [ARRAY, ARRAY + 1, CRESULT, TUPLE, CTUPLE, ANY, CALLBACK];
     (0..more).fold(shape, |shape, _| of(*random.pick(&kinds), &[shape]))
 }

@@ -8,9 +8,9 @@ mod rules;
 use crate::call::Question;
 use crate::inputs::names::{shortest_names, table, table_on};
 use crate::inputs::types::shapes::{
-    array, below, bindings, fixed, generic, named, of, over, stored, used, Shape, A, ANY, ARRAY, B,
-    CALLBACK, CANY, CARRAY, CMAP, CRESULT, CSET, CTUPLE, FN, GENERIC, HANDLE, INT, MAP, NULL,
-    RECORD, RESULT, SET, STRING, TUPLE,
+    array, below, bindings, fixed, generic, holding, named, of, over, stored, used, Shape, A, ANY,
+    ARRAY, B, CALLBACK, CANY, CARRAY, CMAP, CRESULT, CSET, CTUPLE, FN, GENERIC, HANDLE, INT, MAP,
+    NULL, RECORD, RESULT, SET, STRING, TUPLE,
 };
 use crate::limits::{FIXED_TYPES, FUNCTION, MAX_CHILDREN, MAX_DEPTH, MAX_NAMES, UNKNOWN};
 use crate::types::store::{page_of, Entry};
@@ -194,6 +194,7 @@ fn children() -> Vec<Question> {
         Entry::of(ARRAY, &[21]),
         Entry::of(ARRAY, &[22]),
         Entry::of(ARRAY, &[65_535]),
+        Entry::of(ARRAY, &[256 + 1]),
         Entry::of(ARRAY, &[1, 22]),
         Entry::of(TUPLE, &[1, 22, 1]),
         Entry::of(CALLBACK, &[22]),
@@ -302,7 +303,7 @@ fn generics() -> Vec<Question> {
     shapes.push(of(TUPLE, &[int.clone(), int.clone(), array(a.clone())]));
     shapes.push(of(CALLBACK, &[a.clone(), int.clone()]));
     shapes.push(of(CALLBACK, &[int, a.clone()]));
-    shapes.push(array(of(ANY, &[a.clone()])));
+    shapes.push(array(holding(ANY, &a)));
     shapes.push(below(RESULT, MAX_DEPTH - 1, &a));
     shapes.iter().map(ask).collect()
 }
@@ -340,17 +341,17 @@ fn substitutions() -> Vec<Question> {
         named(RECORD, A),
         array(a.clone()),
         of(CARRAY, &[array(a.clone())]),
-        of(SET, &[b.clone()]),
-        of(CSET, &[a.clone()]),
-        of(RESULT, &[a.clone()]),
-        of(CRESULT, &[b.clone()]),
+        holding(SET, &b),
+        holding(CSET, &a),
+        holding(RESULT, &a),
+        holding(CRESULT, &b),
         of(MAP, &[b.clone(), a.clone()]),
         of(CMAP, &[array(a.clone()), array(b.clone())]),
         of(TUPLE, &[a.clone(), int.clone(), array(b.clone()), a.clone()]),
-        of(CTUPLE, &[a.clone()]),
+        holding(CTUPLE, &a),
         of(CALLBACK, &[array(b.clone()), array(a.clone())]),
-        of(ANY, &[a.clone()]),
-        of(TUPLE, &[of(CANY, &[a.clone()]), b]),
+        holding(ANY, &a),
+        of(TUPLE, &[holding(CANY, &a), b]),
     ];
     let mut questions = Vec::new();
     for (place, shape) in shapes.iter().enumerate() {
@@ -360,7 +361,7 @@ fn substitutions() -> Vec<Question> {
         let bound = bindings(&[(B, first), (A, second)]);
         questions.push(Question::substitute(&page, NO_NAMES, false, number.into(), &bound));
     }
-    let (page, [number]) = stored([&of(TUPLE, &[array(a.clone()), of(SET, &[a])])], 12);
+    let (page, [number]) = stored([&of(TUPLE, &[array(a.clone()), holding(SET, &a)])], 12);
     for bound in [bindings(&[]), bindings(&[(A, 19)]), bindings(&[(B, 1)])] {
         questions.push(Question::substitute(&page, NO_NAMES, false, number.into(), &bound));
     }
@@ -371,7 +372,7 @@ fn substitutions() -> Vec<Question> {
 /// Three types to enter on a page with room for none, one, two or all, to the byte.
 fn cramped_substitutions() -> Vec<Question> {
     let a = generic(A);
-    let (page, [number]) = stored([&of(TUPLE, &[array(a.clone()), of(SET, &[a])])], 0);
+    let (page, [number]) = stored([&of(TUPLE, &[array(a.clone()), holding(SET, &a)])], 0);
     let own = used(&page);
     let ask = |room: usize| {
         let page = [&page[..], &vec![0; room]].concat();

@@ -5,9 +5,9 @@ use super::NO_NAMES;
 use crate::call::Question;
 use crate::inputs::names::table_on;
 use crate::inputs::types::shapes::{
-    array, bindings, fixed, generic, named, of, over, stored, Shape, A, ANY, ARRAY, B, BOOL, BYTE,
-    CALLBACK, CANY, CARRAY, CBYTE, CINT, CMAP, CRESULT, CSET, CTUPLE, FLOAT, FN, HANDLE,
-    HANDLE_INFER, INT, MAP, NULL, RECORD, RESULT, SET, STRING, TUPLE,
+    array, bindings, fixed, generic, holding, named, of, over, stored, Shape, A, ANY, ARRAY, B,
+    BOOL, BYTE, CALLBACK, CANY, CARRAY, CBYTE, CINT, CMAP, CRESULT, CSET, CTUPLE, FLOAT, FN,
+    HANDLE, HANDLE_INFER, INT, MAP, NULL, RECORD, RESULT, SET, STRING, TUPLE,
 };
 use crate::limits::{BINDINGS_BYTES, FUNCTION, MAX_BINDINGS, UNKNOWN};
 use crate::types::bindings::{name_at, type_at};
@@ -84,7 +84,7 @@ fn const_matches() -> Vec<Question> {
 
 /// Null below arrays, tuples and maps of one kind, where it stands for any type.
 fn elisions() -> Vec<Question> {
-    let arrays = |child: &Shape| [array(child.clone()), of(CARRAY, &[child.clone()])];
+    let arrays = |child: &Shape| [array(child.clone()), holding(CARRAY, child)];
     let [null, int] = [NULL, INT].map(fixed);
     let [of_null, of_int] = [&null, &int].map(|child| array(child.clone()));
     let mut pairs = vec![
@@ -105,7 +105,9 @@ fn elisions() -> Vec<Question> {
         (over(MAP, &[STRING, NULL]), over(MAP, &[INT, INT])),
         (of(MAP, &[fixed(NULL), of_null]), of(MAP, &[fixed(INT), of_int])),
     ];
-    let maps = [over(MAP, &[NULL, NULL]), over(MAP, &[INT, INT])]
+    pairs.push((array(over(ARRAY, &[NULL])), array(over(CARRAY, &[INT]))));
+    pairs.push((array(over(TUPLE, &[NULL])), array(over(CTUPLE, &[INT]))));
+    let maps = [over(MAP, &[NULL, NULL]), over(CMAP, &[INT, INT])]
         .map(|inner| of(MAP, &[fixed(NULL), inner]));
     let [first, second] = maps;
     pairs.push((first, second));
@@ -181,7 +183,7 @@ fn functions() -> Vec<Question> {
         questions.push(Question::matches(&page, NO_NAMES, false, UNKNOWN, o));
         questions.push(Question::matches(&page, NO_NAMES, false, o, u32::MAX));
     }
-    let (page, [union, f]) = stored([&of(ANY, &[callback.clone()]), &callback], 0);
+    let (page, [union, f]) = stored([&holding(ANY, &callback), &callback], 0);
     questions.push(Question::matches(
         &page,
         NO_NAMES,
@@ -212,9 +214,9 @@ fn unified() -> Vec<Question> {
         (over(ARRAY, &[NULL]), over(ARRAY, &[FLOAT])),
         (over(ARRAY, &[INT]), over(CARRAY, &[FLOAT])),
         (array(array(over(ARRAY, &[BYTE]))), array(array(over(ARRAY, &[INT])))),
-        (of(SET, &[a.clone()]), over(CSET, &[NULL])),
+        (holding(SET, &a), over(CSET, &[NULL])),
         (over(SET, &[BYTE]), over(SET, &[INT])),
-        (of(CRESULT, &[a.clone()]), over(RESULT, &[FLOAT])),
+        (holding(CRESULT, &a), over(RESULT, &[FLOAT])),
         (over(RESULT, &[INT]), over(CRESULT, &[FLOAT])),
         (of(MAP, &[a.clone(), b.clone()]), over(CMAP, &[STRING, INT])),
         (of(MAP, &[a.clone(), a.clone()]), over(MAP, &[STRING, INT])),
@@ -225,7 +227,7 @@ fn unified() -> Vec<Question> {
         (of(TUPLE, &[a.clone(), a.clone()]), over(TUPLE, &[CINT, INT])),
         (of(TUPLE, &[a.clone(), b.clone()]), over(TUPLE, &[INT])),
         (over(TUPLE, &[]), over(TUPLE, &[])),
-        (of(ANY, &[a.clone()]), over(ANY, &[INT])),
+        (holding(ANY, &a), over(ANY, &[INT])),
         (of(CALLBACK, &[a.clone(), b.clone()]), over(CALLBACK, &[INT, BOOL])),
         (fixed(FN), over(CALLBACK, &[INT])),
         (named(RECORD, A), named(RECORD + 1, A)),
@@ -268,13 +270,13 @@ fn arguments() -> Vec<Question> {
         of(CALLBACK, &[a.clone(), b.clone()]),
         of(CALLBACK, &[a.clone(), a.clone()]),
         of(CALLBACK, &[a.clone(), int.clone()]),
-        of(CALLBACK, &[b]),
+        holding(CALLBACK, &b),
         of(CALLBACK, &[a.clone(), a.clone(), a.clone()]),
         function.clone(),
         fixed(FN),
         fixed(NULL),
         a.clone(),
-        of(ANY, &[function.clone()]),
+        holding(ANY, &function),
         array(a),
     ];
     let mut questions = Vec::new();
