@@ -160,9 +160,7 @@ fn one_level() -> Vec<Shape> {
 
 /// Types over types that have children themselves, for each rule that looks below.
 fn two_levels() -> Vec<Shape> {
-    let (a, b) = (generic(A), generic(B));
-    let [null, int, cint, float] = [NULL, INT, CINT, FLOAT].map(fixed);
-    let mut shapes = Vec::new();
+    let a = generic(A);
     let inner = [
         over(ARRAY, &[NULL]),
         over(CARRAY, &[INT]),
@@ -178,35 +176,41 @@ fn two_levels() -> Vec<Shape> {
         over(CALLBACK, &[INT]),
         named(RECORD, A),
     ];
+    let mut shapes = vec![over(CARRAY, &[CBYTE]), over(ARRAY, &[FLOAT])];
     for child in &inner {
         shapes.extend([ARRAY, CARRAY, SET, CRESULT].map(|kind| holding(kind, child)));
-        shapes.push(of(MAP, &[child.clone(), int.clone()]));
+        shapes.push(of(MAP, &[child.clone(), fixed(INT)]));
         shapes.push(of(CMAP, &[fixed(STRING), child.clone()]));
-        shapes.push(of(TUPLE, &[child.clone(), cint.clone()]));
+        shapes.push(of(TUPLE, &[child.clone(), fixed(CINT)]));
         shapes.push(holding(ANY, child));
-        shapes.push(of(CANY, &[float.clone(), child.clone()]));
+        shapes.push(of(CANY, &[fixed(FLOAT), child.clone()]));
         shapes.push(of(CALLBACK, &[child.clone(), a.clone()]));
     }
-    shapes.push(of(TUPLE, &[a.clone(), b.clone(), a.clone()]));
-    shapes.push(of(TUPLE, &[a.clone(), fixed(BOOL)]));
-    shapes.push(of(MAP, &[a.clone(), of(CTUPLE, &[b.clone(), a.clone()])]));
     // Maps below maps, which Null elides on either side.
     for inner in [over(MAP, &[NULL, INT]), over(CMAP, &[INT, NULL]), over(MAP, &[INT, INT])] {
-        shapes.push(of(MAP, &[null.clone(), inner.clone()]));
-        shapes.push(of(MAP, &[inner.clone(), int.clone()]));
-        shapes.push(of(CMAP, &[inner, null.clone()]));
+        shapes.push(of(MAP, &[fixed(NULL), inner.clone()]));
+        shapes.push(of(MAP, &[inner.clone(), fixed(INT)]));
+        shapes.push(of(CMAP, &[inner, fixed(NULL)]));
     }
-    // Two children and more that substitution makes anew.
-    shapes.push(of(TUPLE, &[array(a.clone()), holding(SET, &a)]));
-    shapes.push(of(CMAP, &[array(b.clone()), of(RESULT, &[array(a.clone())])]));
-    shapes.push(of(CALLBACK, &[array(a.clone()), array(b), holding(CTUPLE, &a)]));
-    shapes.push(of(TUPLE, &[null, int.clone(), of(ANY, &[int, cint, float])]));
-    shapes.push(over(CARRAY, &[CBYTE]));
-    shapes.push(over(ARRAY, &[FLOAT]));
     shapes
+}
+
+/// Types with both generics, with one twice, and with several children that
+/// substitution makes anew.
+fn generics() -> Vec<Shape> {
+    let (a, b) = (generic(A), generic(B));
+    vec![
+        of(TUPLE, &[a.clone(), b.clone(), a.clone()]),
+        of(TUPLE, &[a.clone(), fixed(BOOL)]),
+        of(TUPLE, &[fixed(NULL), a.clone(), over(ANY, &[INT, CINT, FLOAT])]),
+        of(MAP, &[a.clone(), of(CTUPLE, &[b.clone(), a.clone()])]),
+        of(TUPLE, &[array(a.clone()), holding(SET, &a)]),
+        of(CMAP, &[array(b.clone()), holding(RESULT, &array(a.clone()))]),
+        of(CALLBACK, &[array(a.clone()), array(b), holding(CTUPLE, &a)]),
+    ]
 }
 
 /// Every small type.
 pub fn small() -> Vec<Shape> {
-    [one_level(), two_levels()].concat()
+    [one_level(), two_levels(), generics()].concat()
 }

@@ -65,7 +65,7 @@ fn some(place: usize, page: &[u8], names: &[u8], lent: bool) -> [Question; 2] {
     [place, place + 3].map(|place| calls[place % calls.len()].clone())
 }
 
-/// A page with Array A and Int, and so many bytes of room.
+/// A page with Array A and Array Int, and so many bytes of room.
 fn arrays(room: usize) -> Vec<u8> {
     stored([&array(generic(A)), &array(fixed(INT))], room).0
 }
