@@ -28,7 +28,7 @@ use Rattle.types.proofs.Calls.{broken-names, broken-store, unbroken}
 
 -- ---- numbers of types, one after another in n places
 
-list-length : (n : ℕ) (f : ℕ → ℕ) → length (listTo n f) ≡ n
+pub list-length : (n : ℕ) (f : ℕ → ℕ) → length (listTo n f) ≡ n
 list-length zero f = refl
 list-length (suc n) f = length-append (listTo n f) (f n ∷ []) ∙ rw (list-length n f) (omega arith)
 

@@ -46,7 +46,7 @@ type Offsets = [usize; ENTRIES + 1];
 const HEAD_BYTES: usize = 2;
 
 // How many bytes a child takes.
-const CHILD_BYTES: usize = 2;
+pub const CHILD_BYTES: usize = 2;
 
 // How many bytes a name takes.
 const NAME_BYTES: usize = 1;
