@@ -3,8 +3,8 @@
 use std::path::{Path, PathBuf};
 use std::{env, fs};
 
-/// The files that are compared so far, each a module of the same name.
-const MODULES: [&str; 1] = ["units"];
+/// The files that are compared so far, each a module of the same name; `structs` has what `types` is about.
+const MODULES: [&str; 3] = ["structs", "types", "units"];
 
 fn main() {
     println!("cargo:rerun-if-env-changed=RL_CHECKER_SRC");

@@ -1,2 +1,4 @@
 -- Laws that the proofs of this crate cite.
 pub mod Sums
+pub mod Types
+pub mod Bindings

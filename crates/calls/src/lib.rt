@@ -1,16 +1,28 @@
 // The entry calls as functions on numbers and byte slices, for callers in other languages. An answer is one number: the
-// refusal's (0 for none) in the upper half, the value in the lower. A unit passes as its bytes in a value node.
+// refusal's (0 for none) in the upper half, the value in the lower. A unit passes as its bytes in a value node, a checked
+// type as one number, and bindings as 97 bytes.
+use bindings::BINDINGS;
+use bindings::Bindings;
+use kinds::Kind;
+use matching::Checked;
 use names::Added;
 use names::Found;
 use names::NAME_BYTES;
 use names::symbol_index;
 use pages::LONG_BYTES;
+use pages::index;
 use pairs::Factor;
 use pairs::Root;
+use refusals::Answer;
 use refusals::Verdict;
 use sums::Conversion;
 use sums::Sums;
 use text::TEXT_BYTES;
+use types::CHILD_BYTES;
+use types::ENTRY_BYTES;
+use types::Made;
+use types::Shape;
+use unification::Unified;
 use units::MaybeUnit;
 use units::PLACES;
 use units::Power;
@@ -19,7 +31,8 @@ use units::Unitless;
 use values::UNIT_BYTES;
 use values::UnitBytes;
 ghost use mathlib.Core.Path.{_≡_};
-ghost use Prim.Native.Nat.{_≤_};
+ghost use Prim.Native.Nat.{_≤_, _<_};
+ghost use lib.ListN.{length, replicate};
 ghost use Rattle.refusals.specs.Lowest.{unlessRefused};
 ghost use Rattle.names.specs.Calls.{emptyVerdict, emptyPage, addAnswer, pageAfter, findAnswer, readAnswer};
 ghost use Rattle.units.specs.Unit.{placesMax};
@@ -27,6 +40,12 @@ ghost use Rattle.units.specs.Calls.{formVerdict, exponentAnswer};
 ghost use Rattle.groups.specs.Groups.{pair};
 ghost use Rattle.pairs.specs.Calls.{pairVerdict, rootAnswer, factorAnswer};
 ghost use Rattle.pairs.specs.Calls as tables;
+ghost use Rattle.kinds.specs.Kinds.{childrenMax};
+ghost use Rattle.types.specs.Calls.{makeAnswer, makePage, listTo};
+ghost use Rattle.types.specs.Calls as store;
+ghost use Rattle.bindings.specs.Bindings.{bindingsMax};
+ghost use Rattle.checked.specs.Calls.{matchesAnswer, genericAnswer, intoConst, intoConstPage, substituteAnswer, substitutePage};
+ghost use Rattle.calls.specs.Types.{madeCode, typeBytes, bytesOfType, checkedOf, bindingBytes, boundIn, bindingsIn, bytesOfBindings, answerCode, numberIn, constCode, bindingsAfter, unifyIn, unifyArgIn};
 ghost use Rattle.calls.specs.Codes.{packed, addedCode, foundCode, powerCode, unitlessCode, brokenUnit, unitOrBroken, unitlessIn, productIn, textIn, bytesOfUnit, rootCode, factorCode, outAfterFactor, groupSumsIn, bytesOfSums, maybeOrBroken, convertibleIn, conversionCode};
 
 // What a name or a factor that the table does not have is answered with, which is no name's number and no symbol.
@@ -314,4 +333,315 @@ pub extern "C" fn riddlepoppy_is_convertible_to(
         Conversion::No => packed_as(Verdict::Passed, 0),
         Conversion::Refused(r) => packed_as(Verdict::Refused(r), 0),
     }
+}
+
+// Makes the page a store of the fixed types alone.
+#[no_mangle]
+pub extern "C" fn riddlepoppy_empty_types(page: &mut [u8]) -> u32
+    ensures { λ r. ⌜ (r ≡ packed (store.emptyVerdict (now (page .entry))) 0) × (now (page .exit) ≡ store.emptyPage (now (page .entry))) ⌝ }
+{
+    packed_as(types::empty_types(page), 0)
+}
+
+// The number of a type that was made, or the refusal, as one number.
+fn made_code(made: Made) -> u32
+    ensures { λ r. ⌜ r ≡ madeCode made ⌝ }
+{
+    match made {
+        Made::At(t) => packed_as(Verdict::Passed, t),
+        Made::Refused(r) => packed_as(Verdict::Refused(r), 0),
+    }
+}
+
+// The number of a type, which is made if it is new.
+#[no_mangle]
+pub extern "C" fn riddlepoppy_make_type(
+    page: &mut [u8],
+    names: &[u8],
+    lent: bool,
+    kind: Kind,
+    children: &[u16],
+    name: u8,
+) -> u32
+    ensures { λ r. ⌜ (r ≡ madeCode (makeAnswer (now (page .entry)) (now (names .entry)) lent kind (now (children .entry)) name)) × (now (page .exit) ≡ makePage (now (page .entry)) (now (names .entry)) lent kind (now (children .entry)) name) ⌝ }
+{
+    made_code(types::make_type(page, names, lent, kind, children, name))
+}
+
+// How many bytes a type takes that is read: its depth, and its entry.
+pub const TYPE_BYTES: usize = 1 + ENTRY_BYTES;
+
+// The places of those bytes.
+type TypeBytes = [u8; TYPE_BYTES];
+
+// No byte of a type yet.
+fn no_type_bytes() -> TypeBytes
+    ensures { λ r. ⌜ r ≡ replicate typeBytes 0 ⌝ }
+{
+    [0; TYPE_BYTES]
+}
+
+// A type's depth and entry, and zeros after them.
+fn type_bytes(shape: Shape) -> TypeBytes
+    requires { ⌜ (shape .depth < 256) × (shape .count ≤ childrenMax) ⌝ }
+    ensures { λ r. ⌜ r ≡ bytesOfType shape ⌝ }
+{
+    let children = shape.children;
+    let count = shape.count;
+    let entry = types::entry_of(shape.kind, &children[..count], shape.name);
+    let depth = [shape.depth as u8];
+    let body = entry.bytes;
+    let mut bytes = no_type_bytes();
+    pages::put_bytes(&mut bytes, 0, &depth);
+    pages::put_bytes(&mut bytes, 1, &body);
+    bytes
+}
+
+// The type with number t: its depth, and its entry.
+#[no_mangle]
+pub extern "C" fn riddlepoppy_read_type(
+    page: &[u8],
+    names: &[u8],
+    lent: bool,
+    t: u32,
+    out: &mut [u8; TYPE_BYTES],
+) -> u32
+    ensures { λ r. ⌜ (r ≡ packed (store.readAnswer (now (page .entry)) (now (names .entry)) lent t .verdict) 0) × (now (out .exit) ≡ unlessRefused (store.readAnswer (now (page .entry)) (now (names .entry)) lent t .verdict) (bytesOfType (store.readAnswer (now (page .entry)) (now (names .entry)) lent t .shape)) (now (out .entry))) ⌝ }
+{
+    let result = types::read_type(page, names, lent, t as usize);
+    let verdict = result.verdict;
+    if refusals::is_refused(verdict) {
+        return packed_as(verdict, 0);
+    }
+    let shape = result.shape;
+    *out = type_bytes(shape);
+    packed_as(verdict, 0)
+}
+
+// From which number on a checked type is a Function, and from which one none is known.
+const FUNCTIONS: usize = 65536;
+
+const UNKNOWN: usize = 131072;
+
+// The checked type that a number says.
+fn checked_of(c: u32) -> Checked
+    ensures { λ r. ⌜ r ≡ checkedOf c ⌝ }
+{
+    let n = c as usize;
+    if n < FUNCTIONS {
+        return Checked::Known(n);
+    }
+    if n < UNKNOWN {
+        return Checked::Function(n - FUNCTIONS);
+    }
+    Checked::Unknown
+}
+
+// How many bytes bindings take: their count, the names, and the types as two bytes each.
+pub const BINDING_BYTES: usize = 1 + 3 * BINDINGS;
+
+// Where the types begin.
+const TYPES_AT: usize = 1 + BINDINGS;
+
+// The places of the bytes, of the names, and of the types.
+type BindingBytes = [u8; BINDING_BYTES];
+
+type BoundNames = [u8; BINDINGS];
+
+type BoundTypes = [u16; BINDINGS];
+
+// No byte yet.
+fn no_binding_bytes() -> BindingBytes
+    ensures { λ r. ⌜ r ≡ replicate bindingBytes 0 ⌝ }
+{
+    [0; BINDING_BYTES]
+}
+
+// No name yet.
+fn no_names() -> BoundNames
+    ensures { λ r. ⌜ r ≡ replicate bindingsMax 0 ⌝ }
+{
+    [0; BINDINGS]
+}
+
+// No type yet.
+fn no_types() -> BoundTypes
+    ensures { λ r. ⌜ r ≡ replicate bindingsMax 0 ⌝ }
+{
+    [0; BINDINGS]
+}
+
+// The types of the bindings that the bytes say.
+fn types_in(bytes: &[u8]) -> BoundTypes
+    requires { ⌜ length (now bytes) ≡ bindingBytes ⌝ }
+    ensures { λ r. ⌜ r ≡ listTo bindingsMax (boundIn (now (bytes .entry))) ⌝ }
+{
+    let mut types = no_types();
+    let mut i: usize = 0;
+    while i < BINDINGS {
+        let t = pages::word_at(bytes, TYPES_AT + CHILD_BYTES * i);
+        types::set_type(&mut types, i, t);
+        i += 1;
+    }
+    types
+}
+
+// The bindings that the bytes say.
+fn bindings_in(bytes: BindingBytes) -> Bindings
+    ensures { λ r. ⌜ (r ≡ bindingsIn bytes) × (r .count < 256) × (length (r .names) ≡ bindingsMax) × (length (r .types) ≡ bindingsMax) ⌝ }
+{
+    let mut names = no_names();
+    pages::put_bytes(&mut names, 0, &bytes[1..TYPES_AT]);
+    Bindings {
+        count: index(bytes[0]),
+        names,
+        types: types_in(&bytes),
+    }
+}
+
+// The bytes of bindings.
+fn binding_bytes(bindings: Bindings) -> BindingBytes
+    requires { ⌜ bindings .count < 256 ⌝ }
+    ensures { λ r. ⌜ r ≡ bytesOfBindings bindings ⌝ }
+{
+    let count = [bindings.count as u8];
+    let names = bindings.names;
+    let types = bindings.types;
+    let mut bytes = no_binding_bytes();
+    pages::put_bytes(&mut bytes, 0, &count);
+    pages::put_bytes(&mut bytes, 1, &names);
+    types::put_types(&mut bytes, TYPES_AT, &types);
+    bytes
+}
+
+// A plain answer as one number: 1 for yes.
+fn answer_code(answer: Answer) -> u32
+    ensures { λ r. ⌜ r ≡ answerCode answer ⌝ }
+{
+    match answer {
+        Answer::Yes => packed_as(Verdict::Passed, 1),
+        Answer::No => packed_as(Verdict::Passed, 0),
+        Answer::Refused(r) => packed_as(Verdict::Refused(r), 0),
+    }
+}
+
+// Whether a checked type stands for another: 1 for yes.
+#[no_mangle]
+pub extern "C" fn riddlepoppy_matches(
+    page: &[u8],
+    names: &[u8],
+    lent: bool,
+    actual: u32,
+    expected: u32,
+) -> u32
+    ensures { λ r. ⌜ r ≡ answerCode (matchesAnswer (now (page .entry)) (now (names .entry)) lent (checkedOf actual) (checkedOf expected)) ⌝ }
+{
+    let a = checked_of(actual);
+    let e = checked_of(expected);
+    answer_code(checked::matches(page, names, lent, a, e))
+}
+
+// Whether a generic name stands in a type: 1 for yes.
+#[no_mangle]
+pub extern "C" fn riddlepoppy_has_generic(page: &[u8], names: &[u8], lent: bool, t: u32) -> u32
+    ensures { λ r. ⌜ r ≡ answerCode (genericAnswer (now (page .entry)) (now (names .entry)) lent t) ⌝ }
+{
+    answer_code(checked::has_generic(page, names, lent, t as usize))
+}
+
+// The number of a checked type's type, or 65,535 where none is known.
+fn number_of(c: Checked) -> usize
+    ensures { λ r. ⌜ r ≡ numberIn c ⌝ }
+{
+    match c {
+        Checked::Known(t) => t,
+        Checked::Function(t) => t,
+        Checked::Unknown => ABSENT,
+    }
+}
+
+// The number of a checked type's const form, which is made if it is new.
+#[no_mangle]
+pub extern "C" fn riddlepoppy_into_const(page: &mut [u8], names: &[u8], lent: bool, c: u32) -> u32
+    ensures { λ r. ⌜ (r ≡ constCode (intoConst (now (page .entry)) (now (names .entry)) lent (checkedOf c))) × (now (page .exit) ≡ intoConstPage (now (page .entry)) (now (names .entry)) lent (checkedOf c)) ⌝ }
+{
+    let result = checked::into_const(page, names, lent, checked_of(c));
+    let verdict = result.verdict;
+    if refusals::is_refused(verdict) {
+        return packed_as(verdict, 0);
+    }
+    let checked = result.checked;
+    packed_as(verdict, number_of(checked))
+}
+
+// A plain answer as one number, and the bindings beside it written back unless it is a refusal.
+fn written_back(result: Unified, bytes: &mut [u8; BINDING_BYTES]) -> u32
+    requires { ⌜ result .bindings .count < 256 ⌝ }
+    ensures { λ r. ⌜ (r ≡ answerCode (result .answer)) × (now (bytes .exit) ≡ bindingsAfter (result .answer) (result .bindings) (now (bytes .entry))) ⌝ }
+{
+    let answer = result.answer;
+    match answer {
+        Answer::Yes => {
+            *bytes = binding_bytes(result.bindings);
+            packed_as(Verdict::Passed, 1)
+        }
+        Answer::No => {
+            *bytes = binding_bytes(result.bindings);
+            packed_as(Verdict::Passed, 0)
+        }
+        Answer::Refused(r) => packed_as(Verdict::Refused(r), 0),
+    }
+}
+
+// Whether an actual type fits an expected one, 1 for yes, and the bindings then.
+#[no_mangle]
+pub extern "C" fn riddlepoppy_unify(
+    page: &[u8],
+    names: &[u8],
+    lent: bool,
+    expected: u32,
+    actual: u32,
+    bindings: &mut [u8; BINDING_BYTES],
+) -> u32
+    ensures { λ r. ⌜ (r ≡ answerCode (unifyIn (now (page .entry)) (now (names .entry)) lent (now (bindings .entry)) expected actual .answer)) × (now (bindings .exit) ≡ bindingsAfter (unifyIn (now (page .entry)) (now (names .entry)) lent (now (bindings .entry)) expected actual .answer) (unifyIn (now (page .entry)) (now (names .entry)) lent (now (bindings .entry)) expected actual .bindings) (now (bindings .entry))) ⌝ }
+{
+    let bytes = *bindings;
+    let bound = bindings_in(bytes);
+    let result = checked::unify(page, names, lent, bound, expected as usize, actual as usize);
+    written_back(result, bindings)
+}
+
+// Whether an argument fits a parameter, 1 for yes, and the bindings then.
+#[no_mangle]
+pub extern "C" fn riddlepoppy_unify_arg(
+    page: &[u8],
+    names: &[u8],
+    lent: bool,
+    expected: u32,
+    actual: u32,
+    bindings: &mut [u8; BINDING_BYTES],
+) -> u32
+    ensures { λ r. ⌜ (r ≡ answerCode (unifyArgIn (now (page .entry)) (now (names .entry)) lent (now (bindings .entry)) expected actual .answer)) × (now (bindings .exit) ≡ bindingsAfter (unifyArgIn (now (page .entry)) (now (names .entry)) lent (now (bindings .entry)) expected actual .answer) (unifyArgIn (now (page .entry)) (now (names .entry)) lent (now (bindings .entry)) expected actual .bindings) (now (bindings .entry))) ⌝ }
+{
+    let bytes = *bindings;
+    let bound = bindings_in(bytes);
+    let c = checked_of(actual);
+    let result = checked::unify_arg(page, names, lent, bound, expected as usize, c);
+    written_back(result, bindings)
+}
+
+// The number of a type with its generic names replaced by what they are bound to.
+#[no_mangle]
+pub extern "C" fn riddlepoppy_substitute(
+    page: &mut [u8],
+    names: &[u8],
+    lent: bool,
+    t: u32,
+    bindings: &[u8; BINDING_BYTES],
+) -> u32
+    ensures { λ r. ⌜ (r ≡ madeCode (substituteAnswer (now (page .entry)) (now (names .entry)) lent (bindingsIn (now (bindings .entry))) t)) × (now (page .exit) ≡ substitutePage (now (page .entry)) (now (names .entry)) lent (bindingsIn (now (bindings .entry))) t) ⌝ }
+{
+    let bytes = *bindings;
+    let bound = bindings_in(bytes);
+    made_code(checked::substitute(page, names, lent, bound, t as usize))
 }

@@ -20,7 +20,7 @@ use Rattle.types.specs.Store.{headBytes, childBytes, nameBytes, children
 use Rattle.types.specs.Making.{words, entryOf, entryMax}
 use Rattle.types.specs.Calls.{allBelow}
 
--- ---- children's numbers, two bytes each
+-- ---- numbers of types, two bytes each
 
 pub words-length : (cs : List ℕ) → length (words cs) ≡ childBytes * length cs
 unfolding words
@@ -41,23 +41,23 @@ words-at (c ∷ cs) (suc i) h =
     let b : suc (suc (childBytes * i)) + 1 ≡ suc (suc (childBytes * i + 1)) = omega arith in
     rw (a, b) (words-at cs i (le-of-suc-le-suc h))
 
--- written one after another behind the head
+-- written one after another from an index on
 
-module _ (l cs : List ℕ) (room : headBytes + childBytes * length cs ≤ length l) where
-  pub words-none : l ≡ put l headBytes (words (take 0 cs))
+module _ (l : List ℕ) (at : ℕ) (cs : List ℕ) (room : at + childBytes * length cs ≤ length l) where
+  pub words-none : l ≡ put l at (words (take 0 cs))
   unfolding words
-  words-none = sym (put-none l headBytes)
+  words-none = sym (put-none l at)
 
   pub words-more : (i : ℕ) → i < length cs
-      → put (put l headBytes (words (take i cs))) (headBytes + childBytes * i) (bytesOf (getD cs i 0)) ≡ put l headBytes (words (take (i + 1) cs))
+      → put (put l at (words (take i cs))) (at + childBytes * i) (bytesOf (getD cs i 0)) ≡ put l at (words (take (i + 1) cs))
   unfolding words
   words-more i h =
       let k : length (words (take i cs)) ≡ childBytes * i = words-length (take i cs) ∙ ap (λ (x : ℕ). childBytes * x) (length-take-le i cs (omega arith)) in
       let e : take (i + 1) cs ≡ take i cs ++ (getD cs i 0 ∷ []) = rw add-one (take-suc cs i 0 h) in
       let f : words (take (i + 1) cs) ≡ words (take i cs) ++ bytesOf (getD cs i 0) = ap words e ∙ words-append (take i cs) (getD cs i 0 ∷ []) in
-      rw (f, ← k) (put-append l headBytes (words (take i cs)) (bytesOf (getD cs i 0)) (omega (arith, k)))
+      rw (f, ← k) (put-append l at (words (take i cs)) (bytesOf (getD cs i 0)) (omega (arith, k)))
 
-  pub words-all : (i : ℕ) → i ≡ length cs → put l headBytes (words (take i cs)) ≡ put l headBytes (words cs)
+  pub words-all : (i : ℕ) → i ≡ length cs → put l at (words (take i cs)) ≡ put l at (words cs)
   words-all i e = rw (e, take-length cs) refl
 
 -- ---- children below t

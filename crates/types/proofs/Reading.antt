@@ -26,23 +26,23 @@ use Rattle.types.proofs.Form.{depth-same}
 use Rattle.types.proofs.Types.{whole}
 use Rattle.types.proofs.Calls.{broken-names, broken-store, unbroken}
 
--- ---- children, one after another
+-- ---- numbers of types, one after another in n places
 
-list-length : (n : ℕ) (f : ℕ → ℕ) → length (listTo n f) ≡ n
+pub list-length : (n : ℕ) (f : ℕ → ℕ) → length (listTo n f) ≡ n
 list-length zero f = refl
 list-length (suc n) f = length-append (listTo n f) (f n ∷ []) ∙ rw (list-length n f) (omega arith)
 
-module _ (f : ℕ → ℕ) where
-  pub children-none : replicate childrenMax 0 ≡ pad childrenMax 0 (listTo 0 f)
-  children-none = sym (pad-none childrenMax)
+module _ (n : ℕ) (f : ℕ → ℕ) where
+  pub numbers-none : replicate n 0 ≡ pad n 0 (listTo 0 f)
+  numbers-none = sym (pad-none n)
 
-  pub children-places : (l : List ℕ) (i : ℕ) → l ≡ pad childrenMax 0 (listTo i f) → length l ≡ childrenMax
-  children-places l i e = ap length e ∙ length-pad childrenMax 0 (listTo i f)
+  pub numbers-places : (l : List ℕ) (i : ℕ) → l ≡ pad n 0 (listTo i f) → length l ≡ n
+  numbers-places l i e = ap length e ∙ length-pad n 0 (listTo i f)
 
-  pub children-more : (i : ℕ) → i < childrenMax → set (pad childrenMax 0 (listTo i f)) i (f i) ≡ pad childrenMax 0 (listTo (i + 1) f)
-  children-more i h =
+  pub numbers-more : (i : ℕ) → i < n → set (pad n 0 (listTo i f)) i (f i) ≡ pad n 0 (listTo (i + 1) f)
+  numbers-more i h =
       let e : length (listTo i f) ≡ i = list-length i f in
-      rw (add-one i) (rw e at (pad-more childrenMax 0 (listTo i f) (f i) (rw e h)))
+      rw (add-one i) (rw e at (pad-more n 0 (listTo i f) (f i) (rw e h)))
 
 -- ---- a type
 

@@ -46,13 +46,13 @@ type Offsets = [usize; ENTRIES + 1];
 const HEAD_BYTES: usize = 2;
 
 // How many bytes a child takes.
-const CHILD_BYTES: usize = 2;
+pub const CHILD_BYTES: usize = 2;
 
 // How many bytes a name takes.
 const NAME_BYTES: usize = 1;
 
 // How many bytes an entry takes at most.
-const ENTRY_BYTES: usize = HEAD_BYTES + CHILD_BYTES * CHILDREN;
+pub const ENTRY_BYTES: usize = HEAD_BYTES + CHILD_BYTES * CHILDREN;
 
 // The places of an entry's bytes.
 type EntryBytes = [u8; ENTRY_BYTES];
@@ -390,15 +390,15 @@ fn no_bytes() -> EntryBytes
     [0; ENTRY_BYTES]
 }
 
-// Writes the numbers of children behind an entry's head.
-fn put_children(bytes: &mut [u8], children: &[u16])
-    requires { ⌜ headBytes + childBytes * length (now children) ≤ length (now bytes) ⌝ }
-    ensures { λ _. ⌜ now (bytes .exit) ≡ put (now (bytes .entry)) headBytes (words (now (children .entry))) ⌝ }
+// Writes the numbers of types from index at on.
+pub fn put_types(bytes: &mut [u8], at: usize, types: &[u16])
+    requires { ⌜ at + childBytes * length (now types) ≤ length (now bytes) ⌝ }
+    ensures { λ _. ⌜ now (bytes .exit) ≡ put (now (bytes .entry)) at (words (now (types .entry))) ⌝ }
 {
     let mut i: usize = 0;
-    while i < children.len() {
-        let word = pages::count_bytes(type_index(children[i]));
-        pages::put_bytes(bytes, HEAD_BYTES + CHILD_BYTES * i, &word);
+    while i < types.len() {
+        let word = pages::count_bytes(type_index(types[i]));
+        pages::put_bytes(bytes, at + CHILD_BYTES * i, &word);
         i += 1;
     }
 }
@@ -419,7 +419,7 @@ pub fn entry_of(kind: Kind, children: &[u16], name: u8) -> Entry
     }
     let head = [children.len() as u8, kind];
     pages::put_bytes(&mut bytes, 0, &head);
-    put_children(&mut bytes, children);
+    put_types(&mut bytes, HEAD_BYTES, children);
     Entry {
         bytes,
         size: HEAD_BYTES + CHILD_BYTES * children.len(),
@@ -522,12 +522,12 @@ fn no_children() -> Children
     [0; CHILDREN]
 }
 
-// Writes down a child.
-fn set_child(children: &mut [u16], i: usize, child: usize)
-    requires { ⌜ (i < length (now children)) × (child < 65536) ⌝ }
-    ensures { λ _. ⌜ now (children .exit) ≡ set (now (children .entry)) i child ⌝ }
+// Writes down the number of a type.
+pub fn set_type(types: &mut [u16], i: usize, t: usize)
+    requires { ⌜ (i < length (now types)) × (t < 65536) ⌝ }
+    ensures { λ _. ⌜ now (types .exit) ≡ set (now (types .entry)) i t ⌝ }
 {
-    children[i] = child as u16;
+    types[i] = t as u16;
 }
 
 // The children of a type, with zeros after them.
@@ -541,7 +541,7 @@ fn children_of(page: &[u8], offsets: &[usize], t: usize) -> Children
     let mut i: usize = 0;
     while i < count {
         let child = child_of(page, offsets, t, i);
-        set_child(&mut children, i, child);
+        set_type(&mut children, i, child);
         i += 1;
     }
     children

@@ -1,11 +1,12 @@
 //! The expected answer to any question, from the oracle and the model alone.
 
 use crate::call::{Answer, Call, Question};
-use crate::{names, pairs, units};
+use crate::{names, pairs, types, units};
 
 pub fn expected(question: &Question) -> Answer {
     let Question { call, argument, page, first, second, names } = question;
     let (symbol, lent) = (question.symbol(), question.lent());
+    let bindings = || question.bindings().expect("bindings");
     let outcome = match call {
         Call::EmptyNames => names::empty_names(page),
         Call::AddName => names::add_name(page, first),
@@ -22,6 +23,15 @@ pub fn expected(question: &Question) -> Answer {
         Call::Factor => pairs::factor(page, names, lent, symbol),
         Call::Canonicalize => pairs::canonicalize(page, names, lent, first),
         Call::IsConvertibleTo => pairs::is_convertible_to(page, names, lent, first, second),
+        Call::EmptyTypes => types::empty_types(page),
+        Call::MakeType => types::make_type(page, names, lent, question.entry()),
+        Call::ReadType => types::read_type(page, names, lent, question.number()),
+        Call::Matches => types::matches(page, names, lent, question.two_numbers()),
+        Call::HasGeneric => types::has_generic(page, names, lent, question.number()),
+        Call::IntoConst => types::into_const(page, names, lent, question.number()),
+        Call::Unify => types::unify(page, names, lent, question.two_numbers(), bindings()),
+        Call::UnifyArg => types::unify_arg(page, names, lent, question.two_numbers(), bindings()),
+        Call::Substitute => types::substitute(page, names, lent, question.number(), bindings()),
     };
     Answer::new(question, outcome)
 }

@@ -74,4 +74,79 @@ extern "C" {
         right: *const u8,
         r: usize,
     ) -> u32;
+    pub fn riddlepoppy_empty_types(page: *mut u8, n: usize) -> u32;
+    pub fn riddlepoppy_make_type(
+        page: *mut u8,
+        n: usize,
+        names: *const u8,
+        m: usize,
+        lent: bool,
+        kind: u8,
+        children: *const u16,
+        l: usize,
+        name: u8,
+    ) -> u32;
+    pub fn riddlepoppy_read_type(
+        page: *const u8,
+        n: usize,
+        names: *const u8,
+        m: usize,
+        lent: bool,
+        number: u32,
+        out: *mut u8,
+    ) -> u32;
+    pub fn riddlepoppy_matches(
+        page: *const u8,
+        n: usize,
+        names: *const u8,
+        m: usize,
+        lent: bool,
+        actual: u32,
+        expected: u32,
+    ) -> u32;
+    pub fn riddlepoppy_has_generic(
+        page: *const u8,
+        n: usize,
+        names: *const u8,
+        m: usize,
+        lent: bool,
+        number: u32,
+    ) -> u32;
+    pub fn riddlepoppy_into_const(
+        page: *mut u8,
+        n: usize,
+        names: *const u8,
+        m: usize,
+        lent: bool,
+        checked: u32,
+    ) -> u32;
+    pub fn riddlepoppy_unify(
+        page: *const u8,
+        n: usize,
+        names: *const u8,
+        m: usize,
+        lent: bool,
+        expected: u32,
+        actual: u32,
+        bindings: *mut u8,
+    ) -> u32;
+    pub fn riddlepoppy_unify_arg(
+        page: *const u8,
+        n: usize,
+        names: *const u8,
+        m: usize,
+        lent: bool,
+        expected: u32,
+        actual: u32,
+        bindings: *mut u8,
+    ) -> u32;
+    pub fn riddlepoppy_substitute(
+        page: *mut u8,
+        n: usize,
+        names: *const u8,
+        m: usize,
+        lent: bool,
+        number: u32,
+        bindings: *const u8,
+    ) -> u32;
 }

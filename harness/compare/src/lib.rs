@@ -2,7 +2,7 @@
 //!
 //! - `call`: the calls, a question put to one of them, and its answer
 //! - `limits`: document 01's limits and refusal numbers
-//! - `names`, `units`, `pairs`: the expected answers, one file per module of the translation
+//! - `names`, `units`, `pairs`, `types`: the expected answers, one file per module of the translation
 //! - `inputs`: the questions of a comparison, one file per module
 //! - `comparison`: asks both sides and counts where they differ
 //! - `sample`: the stored sample, its chosen rows and its format
@@ -21,4 +21,5 @@ pub mod names;
 pub mod pairs;
 pub mod random;
 pub mod sample;
+pub mod types;
 pub mod units;

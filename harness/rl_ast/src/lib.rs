@@ -3,3 +3,6 @@
 //! It has just what the files name, so that they compile unchanged.
 
 pub mod statements;
+
+/// The syntax tree, of which only a checker's field is made.
+pub struct Ast;

@@ -8,7 +8,7 @@ use Rattle.kinds.specs.Kinds.{childrenMax}
 use Rattle.types.specs.Types.{childOf}
 use Rattle.types.specs.Calls.{listTo}
 use Rattle.types.proofs.Types.{whole}
-use Rattle.types.proofs.Reading.{children-none, children-places, children-more}
+use Rattle.types.proofs.Reading.{numbers-none, numbers-places, numbers-more}
 use borrow.Author.Needs.{needs}
 use Rattle.types.proofs.children_of.Statement.{statement}
 use Rattle.types.proofs.children_of.Tie as tie
@@ -28,27 +28,26 @@ arity-requires c κs = search needs
 loop-holds : tie.Need-loop-holds Inv-loop μ-loop
 loop-holds c =
     let start = c .before .before .before .before in
-    (omega arith, c .before .no-children .ensures ∙ children-none (childOf (now (start .args .page)) (start .args .t)))
+    (omega arith, c .before .no-children .ensures ∙ numbers-none childrenMax (childOf (now (start .args .page)) (start .args .t)))
 
 child-of-requires : tie.Need-child-of-requires Inv-loop μ-loop
 child-of-requires c κs =
     let start = c .before .before .before .before .before .before in
     (start .pre .0, (start .pre .1, omega (arith, c .before .before .arity .ensures .0, c .loop-test .taken)))
 
-slice-aggregate-set-child : tie.Need-slice-aggregate-set-child Inv-loop μ-loop
-slice-aggregate-set-child c =
+slice-aggregate-set-type : tie.Need-slice-aggregate-set-type Inv-loop μ-loop
+slice-aggregate-set-type c =
     let a = c .before .before .before .before .before .before .before .before .args in
     let loop = c .before .before .before .loop in
-    search (needs, children-places (childOf (now (a .page)) (a .t)) (loop .children) (loop .i) (loop .inv .1))
+    search (needs, numbers-places childrenMax (childOf (now (a .page)) (a .t)) (loop .children) (loop .i) (loop .inv .1))
 
-set-child-requires : tie.Need-set-child-requires Inv-loop μ-loop
-set-child-requires c κs =
+set-type-requires : tie.Need-set-type-requires Inv-loop μ-loop
+set-type-requires c κs =
     let arity = c .before .before .before .before .arity in
     let loop = c .before .before .before .loop in
     let loop-test = c .before .before .loop-test in
     let start = c .before .before .before .before .before .before .before .before in
-    let loop = loop in
-    let n = children-places (childOf (now (start .args .page)) (start .args .t)) (loop .children) (loop .i) (loop .inv .1) in
+    let n = numbers-places childrenMax (childOf (now (start .args .page)) (start .args .t)) (loop .children) (loop .i) (loop .inv .1) in
     let w = whole (now (start .args .page)) (start .pre .0 .sound .names) (start .pre .0 .sound .form) .few in
     (omega (arith, n, arity .ensures .1, loop-test .taken), omega (arith, c .before .child-of .ensures .1, start .pre .1, w))
 
@@ -65,11 +64,9 @@ loop-again c =
     let loop-test = c .before .before .before .before .loop-test in
     let child-of = c .before .before .before .child-of in
     let start = c .before .before .before .before .before .before .before .before .before .before in
-    let loop = loop in
-    let child-of = child-of in
     let l : loop .i < childrenMax = omega (arith, arity .ensures .1, loop-test .taken) in (
       omega (arith, loop-test .taken),
-      c .before .set-child .ensures ∙ rw (loop .inv .1, child-of .ensures .0) (children-more (childOf (now (start .args .page)) (start .args .t)) (loop .i) l),
+      c .before .set-type .ensures ∙ rw (loop .inv .1, child-of .ensures .0) (numbers-more childrenMax (childOf (now (start .args .page)) (start .args .t)) (loop .i) l),
     )
 
 returns : tie.Need-returns Inv-loop μ-loop
@@ -87,8 +84,8 @@ children-of-spec =
     arity-requires
     loop-holds
     child-of-requires
-    slice-aggregate-set-child
-    set-child-requires
+    slice-aggregate-set-type
+    set-type-requires
     add-i
     loop-less
     loop-again

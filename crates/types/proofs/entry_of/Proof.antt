@@ -50,11 +50,11 @@ slice-aggregate-put-bytes-4 c = search needs
 put-bytes-requires-2 : tie.Need-put-bytes-requires-2
 put-bytes-requires-2 c κs = search needs
 
-slice-aggregate-put-children : tie.Need-slice-aggregate-put-children
-slice-aggregate-put-children c = search needs
+slice-aggregate-put-types : tie.Need-slice-aggregate-put-types
+slice-aggregate-put-types c = search needs
 
-put-children-requires : tie.Need-put-children-requires
-put-children-requires c κs = search needs
+put-types-requires : tie.Need-put-types-requires
+put-types-requires c κs = search needs
 
 mul-t25 : tie.Need-mul-t25
 mul-t25 c = search needs
@@ -71,7 +71,7 @@ returns-2 c =
     let put-bytes2 = c .before .before .before .before .put-bytes2 in
     let a = start .args in
     let h = sym (is-named .ensures) ∙ if1 .left in (
-      c .before .put-children .ensures ∙ rw (put-bytes2 .ensures, no-bytes .ensures) (other-made (a .kind) (now (a .children)) (a .name) h (start .pre)),
+      c .before .put-types .ensures ∙ rw (put-bytes2 .ensures, no-bytes .ensures) (other-made (a .kind) (now (a .children)) (a .name) h (start .pre)),
       other-size (a .kind) (now (a .children)) (a .name) h,
       omega (arith, start .pre),
     )
@@ -91,8 +91,8 @@ entry-of-spec =
     slice-aggregate-put-bytes-3
     slice-aggregate-put-bytes-4
     put-bytes-requires-2
-    slice-aggregate-put-children
-    put-children-requires
+    slice-aggregate-put-types
+    put-types-requires
     mul-t25
     add-t26
     returns-2)

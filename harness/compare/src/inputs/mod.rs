@@ -3,6 +3,7 @@
 
 pub mod names;
 pub mod pairs;
+pub mod types;
 pub mod units;
 
 use crate::call::{Answer, Question};
@@ -18,6 +19,7 @@ pub fn questions(seed: u64, rounds: usize, ask: Sink) {
     names::questions(&mut random, rounds, ask);
     units::questions(&mut random, rounds, ask);
     pairs::questions(&mut random, rounds, ask);
+    types::questions(&mut random, rounds, ask);
 }
 
 /// Good bytes harmed in every place: each byte changed in several ways, the

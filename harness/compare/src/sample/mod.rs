@@ -4,24 +4,28 @@
 pub mod names;
 pub mod pairs;
 pub mod rows;
+pub mod types;
 pub mod units;
 
 use crate::call::{Call, Question};
 use crate::expected::expected;
 use crate::inputs;
-use crate::limits::EMPTY_PAIRS_BYTES;
+use crate::limits::{BINDINGS_BYTES, EMPTY_PAIRS_BYTES};
 use crate::random::Random;
 use rows::Row;
 use std::collections::{BTreeMap, BTreeSet};
 
 /// The most bytes that a stored sample may have.
-pub const MAX_BYTES: usize = 400_000;
+pub const MAX_BYTES: usize = 520_000;
 
 /// A random question larger than this is left out, since it would crowd out others.
 const MAX_QUESTION: usize = 60;
 
 /// The same of a question about pairs.
 const MAX_PAIR_QUESTION: usize = EMPTY_PAIRS_BYTES + 120;
+
+/// And of a question about types.
+const MAX_TYPE_QUESTION: usize = BINDINGS_BYTES + 60;
 
 /// The rows of the sample.
 pub fn rows(seed: u64) -> Vec<Row> {
@@ -47,6 +51,17 @@ pub fn rows(seed: u64) -> Vec<Row> {
     rows.fill(random, 20, inputs::pairs::factor);
     rows.fill(random, 32, inputs::pairs::canonicalize);
     rows.fill(random, 48, inputs::pairs::is_convertible_to);
+
+    types::chosen().into_iter().for_each(|question| rows.put(question));
+    rows.fill(random, 2, inputs::types::empty_types);
+    rows.fill(random, 16, inputs::types::make_type);
+    rows.fill(random, 6, inputs::types::read_type);
+    rows.fill(random, 24, inputs::types::matches);
+    rows.fill(random, 8, inputs::types::has_generic);
+    rows.fill(random, 8, inputs::types::into_const);
+    rows.fill(random, 16, inputs::types::unify);
+    rows.fill(random, 12, inputs::types::unify_arg);
+    rows.fill(random, 12, inputs::types::substitute);
     rows.rows
 }
 
@@ -93,7 +108,11 @@ impl Rows {
 
 fn fits(question: &Question) -> bool {
     let Question { call, page, first, second, names, .. } = question;
-    let most = if call.is_about_pairs() { MAX_PAIR_QUESTION } else { MAX_QUESTION };
+    let most = match call {
+        _ if call.is_about_pairs() => MAX_PAIR_QUESTION,
+        _ if call.is_about_types() => MAX_TYPE_QUESTION,
+        _ => MAX_QUESTION,
+    };
     let size = page.len() + first.len() + second.len() + names.len();
     size <= most && question.argument <= u16::MAX.into()
 }
@@ -114,7 +133,7 @@ mod tests {
             let bytes = bytes(&rows);
             assert_eq!(bytes, super::bytes(&super::rows(seed)));
             assert!(bytes.len() <= MAX_BYTES, "{} bytes", bytes.len());
-            assert!((1_200..=2_000).contains(&rows.len()), "{} rows", rows.len());
+            assert!((2_000..=2_400).contains(&rows.len()), "{} rows", rows.len());
             assert_eq!(outcomes(&rows), all_outcomes());
             assert_eq!(rows::read_rows(&bytes), Some(rows));
             assert_eq!(rows::read_rows(&bytes[..bytes.len() - 1]), None);
@@ -128,6 +147,7 @@ mod tests {
             .into_iter()
             .chain(units::chosen())
             .chain(pairs::chosen())
+            .chain(types::chosen())
             .for_each(|question| chosen.put(question));
         assert_eq!(outcomes(&chosen.rows), all_outcomes());
     }

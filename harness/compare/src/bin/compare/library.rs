@@ -3,6 +3,7 @@
 use compare::call::{Answer, Call, Question};
 use compare::exports::*;
 use compare::limits::ABSENT;
+use compare::types::store::Entry;
 
 /// What fills `out` before a call, so that a byte left unwritten shows, and one that a refused call wrote.
 const RUBBISH: u8 = 0xA5;
@@ -13,16 +14,20 @@ pub fn ask(question: &Question) -> Result<Answer, String> {
     let mut first = Lent::new(&question.first);
     let mut second = Lent::new(&question.second);
     let mut names = Lent::new(&question.names);
-    let rubbish = vec![RUBBISH; question.call.out_length()];
-    let mut out = Lent::new(&rubbish);
+    let before = out_before(question);
+    let mut out = Lent::new(&before);
 
-    let returned = call(question, &mut page, &mut first, &mut second, &mut names, &mut out);
+    let returned = if question.call.is_about_types() {
+        call_types(question, &mut page, &mut second, &mut names, &mut out)?
+    } else {
+        call(question, &mut page, &mut first, &mut second, &mut names, &mut out)
+    };
 
     first.unchanged("first", &question.first)?;
     second.unchanged("second", &question.second)?;
     names.unchanged("names", &question.names)?;
     let page_afterwards = if question.call.writes_page() {
-        page.bytes("page")?
+        page.elements("page")?
     } else {
         page.unchanged("page", &question.page)?;
         Vec::new()
@@ -30,21 +35,37 @@ pub fn ask(question: &Question) -> Result<Answer, String> {
     let (refusal, value) = (returned >> 16, returned & 0xFFFF);
     let absent = question.call == Call::Factor && value == ABSENT;
     let written = if refusal == 0 && !absent {
-        out.bytes("out")?
+        out.elements("out")?
     } else {
-        out.unchanged("out", &rubbish)?;
-        vec![0; rubbish.len()]
+        out.unchanged("out", &before)?;
+        unwritten(question)
     };
     Ok(Answer { refusal, value, out: written, page: page_afterwards })
 }
 
+/// What `out` holds before the call: the bindings, or rubbish.
+fn out_before(question: &Question) -> Vec<u8> {
+    match question.call.writes_bindings() {
+        true => question.second.clone(),
+        false => vec![RUBBISH; question.call.out_length()],
+    }
+}
+
+/// What an answer says of an `out` that was left as it was: the bindings, or zeros.
+fn unwritten(question: &Question) -> Vec<u8> {
+    match question.call.writes_bindings() {
+        true => question.second.clone(),
+        false => vec![0; question.call.out_length()],
+    }
+}
+
 fn call(
     question: &Question,
-    page: &mut Lent,
-    first: &mut Lent,
-    second: &mut Lent,
-    names: &mut Lent,
-    out: &mut Lent,
+    page: &mut Lent<u8>,
+    first: &mut Lent<u8>,
+    second: &mut Lent<u8>,
+    names: &mut Lent<u8>,
+    out: &mut Lent<u8>,
 ) -> u32 {
     let (argument, symbol, lent) = (question.argument, question.symbol(), question.lent());
     let (p, n) = (page.start(), page.length);
@@ -74,41 +95,95 @@ fn call(
             Call::Factor => riddlepoppy_first_factor(p, n, t, k, lent, symbol, out),
             Call::Canonicalize => riddlepoppy_canonicalize(p, n, t, k, lent, a, m, out),
             Call::IsConvertibleTo => riddlepoppy_is_convertible_to(p, n, t, k, lent, a, m, b, l),
+            _ => unreachable!("a call about types"),
         }
     }
 }
 
-/// Bytes lent to the library between two guards, so that a write beside them shows.
-struct Lent {
-    guarded: Vec<u8>,
+/// The same of a call about types, which is given numbers, or a kind, a name and children.
+fn call_types(
+    question: &Question,
+    page: &mut Lent<u8>,
+    bindings: &mut Lent<u8>,
+    names: &mut Lent<u8>,
+    out: &mut Lent<u8>,
+) -> Result<u32, String> {
+    if question.call == Call::MakeType {
+        return make_type(question, page, names);
+    }
+    let lent = question.lent();
+    let (p, n) = (page.start(), page.length);
+    let (t, k) = (names.start(), names.length);
+    let (bindings, out) = (bindings.start(), out.start());
+    let mut numbers = question.numbers();
+    let mut number = || numbers.next().expect("a number");
+    // SAFETY: as above; the bindings have their length, and so has `out`.
+    let returned = unsafe {
+        match question.call {
+            Call::EmptyTypes => riddlepoppy_empty_types(p, n),
+            Call::ReadType => riddlepoppy_read_type(p, n, t, k, lent, number(), out),
+            Call::Matches => riddlepoppy_matches(p, n, t, k, lent, number(), number()),
+            Call::HasGeneric => riddlepoppy_has_generic(p, n, t, k, lent, number()),
+            Call::IntoConst => riddlepoppy_into_const(p, n, t, k, lent, number()),
+            Call::Unify => riddlepoppy_unify(p, n, t, k, lent, number(), number(), out),
+            Call::UnifyArg => riddlepoppy_unify_arg(p, n, t, k, lent, number(), number(), out),
+            Call::Substitute => riddlepoppy_substitute(p, n, t, k, lent, number(), bindings),
+            _ => unreachable!("no call about types"),
+        }
+    };
+    Ok(returned)
+}
+
+fn make_type(
+    question: &Question,
+    page: &mut Lent<u8>,
+    names: &mut Lent<u8>,
+) -> Result<u32, String> {
+    let Entry { kind, children, name } = question.entry();
+    let mut lent_children = Lent::new(&children);
+    let (p, n) = (page.start(), page.length);
+    let (t, k) = (names.start(), names.length);
+    let (c, l) = (lent_children.start(), lent_children.length);
+    // SAFETY: each pointer goes with its length and points to elements of its own.
+    let returned = unsafe { riddlepoppy_make_type(p, n, t, k, question.lent(), kind, c, l, name) };
+    lent_children.unchanged("children", &children)?;
+    Ok(returned)
+}
+
+/// Elements lent to the library between two guards, so that a write beside them shows.
+struct Lent<T> {
+    guarded: Vec<T>,
     length: usize,
 }
 
-const GUARD: [u8; 16] = [0xC7; 16];
+/// How many elements a guard has, and what each is.
+const GUARDS: usize = 16;
+const GUARD: u8 = 0xC7;
 
-impl Lent {
-    fn new(bytes: &[u8]) -> Self {
-        Self { guarded: [&GUARD, bytes, &GUARD].concat(), length: bytes.len() }
+impl<T: Copy + PartialEq + From<u8>> Lent<T> {
+    fn new(elements: &[T]) -> Self {
+        let guard = [T::from(GUARD); GUARDS];
+        Self { guarded: [&guard, elements, &guard].concat(), length: elements.len() }
     }
 
-    fn start(&mut self) -> *mut u8 {
-        self.guarded[GUARD.len()..].as_mut_ptr()
+    fn start(&mut self) -> *mut T {
+        self.guarded[GUARDS..].as_mut_ptr()
     }
 
-    /// The bytes as the call left them.
-    fn bytes(&self, name: &str) -> Result<Vec<u8>, String> {
-        let (before, rest) = self.guarded.split_at(GUARD.len());
-        let (bytes, after) = rest.split_at(self.length);
-        if before == GUARD && after == GUARD {
-            Ok(bytes.to_vec())
+    /// The elements as the call left them.
+    fn elements(&self, name: &str) -> Result<Vec<T>, String> {
+        let (before, rest) = self.guarded.split_at(GUARDS);
+        let (elements, after) = rest.split_at(self.length);
+        if before.iter().chain(after).all(|&guard| guard == T::from(GUARD)) {
+            Ok(elements.to_vec())
         } else {
             Err(format!("a write beside {name}"))
         }
     }
 
     /// Holds the call to what it was lent for reading only.
-    fn unchanged(&self, name: &str, bytes: &[u8]) -> Result<(), String> {
-        if self.bytes(name)? == bytes {
+    fn unchanged(&self, name: &str, elements: &[T]) -> Result<(), String> {
+        if self.elements(name)? == elements {
             Ok(())
         } else {
             Err(format!("a write into {name}, which the call must leave as it was"))

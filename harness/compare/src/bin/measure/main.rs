@@ -1,6 +1,7 @@
 //! `measure`: how long the static library and the Rust take for the same work, side by side in one run.
 
 mod pairs;
+mod types;
 mod units;
 
 use compare::exports::riddlepoppy_add_name;
@@ -14,6 +15,7 @@ fn main() {
     let mut names = full_names();
     units::measure(&mut names);
     pairs::measure(&names);
+    types::measure();
 }
 
 /// Nanoseconds for one call.

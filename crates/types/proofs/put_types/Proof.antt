@@ -1,27 +1,26 @@
--- `types::put_children` meets its contract. Assumes nothing.
+-- `types::put_types` meets its contract. Assumes nothing.
 use mathlib.Core.Path.{_≡_, refl, _∙_}
 use Prim.Native.Nat.{_-_, _≤_}
 use native.Mathlib.Omega.{arith}
 use lib.ListN.{length, take}
 use denote.Ref.{now}
 use Rattle.pages.specs.Bytes.{put}
-use Rattle.types.specs.Store.{headBytes}
 use Rattle.types.specs.Making.{words}
 use Rattle.types.proofs.Entries.{words-none, words-more, words-all}
 use borrow.Author.Needs.{needs}
-use Rattle.types.proofs.put_children.Statement.{statement}
-use Rattle.types.proofs.put_children.Tie as tie
+use Rattle.types.proofs.put_types.Statement.{statement}
+use Rattle.types.proofs.put_types.Tie as tie
 
 abbrev Inv-loop : tie.InvT-loop
-Inv-loop bytes₀ children i₀ bytes i = (i ≤ length children) × (bytes ≡ put bytes₀ headBytes (words (take i children))) × (length bytes ≡ length bytes₀)
+Inv-loop bytes₀ at types i₀ bytes i = (i ≤ length types) × (bytes ≡ put bytes₀ at (words (take i types))) × (length bytes ≡ length bytes₀)
 
 abbrev μ-loop : tie.MeasureT-loop
-μ-loop bytes₀ children i₀ bytes i = length children - i
+μ-loop bytes₀ at types i₀ bytes i = length types - i
 
 loop-holds : tie.Need-loop-holds Inv-loop μ-loop
 loop-holds c =
     let start = c .before .before in
-    (omega arith, words-none (now (start .args .bytes)) (now (start .args .children)) (start .pre), refl)
+    (omega arith, words-none (now (start .args .bytes)) (start .args .at) (now (start .args .types)) (start .pre), refl)
 
 mul-type-index : tie.Need-mul-type-index Inv-loop μ-loop
 mul-type-index c = search needs
@@ -63,7 +62,7 @@ loop-again c =
     let put-bytes = c .before .before .put-bytes in (
       omega arith,
       put-bytes .ensures ∙ rw (loop .inv .1, count-bytes .ensures, type-index .ensures .0)
-          (words-more (now (start .args .bytes)) (now (start .args .children)) (start .pre) (loop .i) (loop-test .taken)),
+          (words-more (now (start .args .bytes)) (start .args .at) (now (start .args .types)) (start .pre) (loop .i) (loop-test .taken)),
       put-bytes .kept .0 ∙ loop .inv .2,
     )
 
@@ -73,10 +72,10 @@ same-length c = search needs
 returns : tie.Need-returns Inv-loop μ-loop
 returns c =
     let start = c .before .before .before .before in
-    c .before .loop .inv .1 ∙ words-all (now (start .args .bytes)) (now (start .args .children)) (start .pre) (c .before .loop .i) (omega arith)
+    c .before .loop .inv .1 ∙ words-all (now (start .args .bytes)) (start .args .at) (now (start .args .types)) (start .pre) (c .before .loop .i) (omega arith)
 
-pub put-children-spec : {M : Type 1} → statement M
-put-children-spec =
+pub put-types-spec : {M : Type 1} → statement M
+put-types-spec =
     tie.close
     (tie.spec
     Inv-loop

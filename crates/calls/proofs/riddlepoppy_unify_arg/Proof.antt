@@ -1,0 +1,39 @@
+-- `calls::riddlepoppy_unify_arg` meets its contract. Assumes nothing.
+use mathlib.Core.Path.{_≡_, ap, _∙_}
+use denote.Ref.{now}
+use Rattle.unification.specs.declared.Unified.{Unified}
+use Rattle.calls.specs.Types.{answerCode, bindingsAfter, unifyArgIn}
+use Rattle.calls.proofs.Bindings.{unify-arg-few}
+use borrow.Author.Needs.{needs}
+use Rattle.calls.proofs.riddlepoppy_unify_arg.Statement.{statement}
+use Rattle.calls.proofs.riddlepoppy_unify_arg.Tie as tie
+
+bindings-in-requires : tie.Need-bindings-in-requires
+bindings-in-requires c κs = search needs
+
+checked-of-requires : tie.Need-checked-of-requires
+checked-of-requires c κs = search needs
+
+unify-arg-requires : tie.Need-unify-arg-requires
+unify-arg-requires c κs = search needs
+
+written-back-requires : tie.Need-written-back-requires
+written-back-requires c κs =
+    let a = c .before .before .before .before .before .before .before .args in
+    let b = c .before .before .before .bindings-in .ensures in
+    let u = c .before .unify-arg .result in
+    unify-arg-few (now (a .page)) (now (a .names)) (a .lent) (c .before .before .before .bindings-in .result) (b .1) (b .2) (b .3) (a .expected) u (c .before .before .checked-of .result) (c .before .unify-arg .ensures)
+
+returns : tie.Need-returns
+returns c =
+    let a = c .before .before .before .before .before .before .before .before .args in
+    let u : c .before .before .unify-arg .result ≡ unifyArgIn (now (a .page)) (now (a .names)) (a .lent) (now (a .bindings)) (a .expected) (a .actual) =
+    rw (c .before .before .before .before .bindings-in .ensures .0, c .before .before .before .checked-of .ensures) at (c .before .before .unify-arg .ensures) in (
+      c .written-back .ensures .0 ∙ ap (λ (r : Unified). answerCode (r .answer)) u,
+      c .written-back .ensures .1 ∙ ap (λ (r : Unified). bindingsAfter (r .answer) (r .bindings) (now (a .bindings))) u,
+    )
+
+pub riddlepoppy-unify-arg-spec : {M : Type 1} → statement M
+riddlepoppy-unify-arg-spec =
+    tie.close
+    (tie.spec bindings-in-requires checked-of-requires unify-arg-requires written-back-requires returns)
