@@ -38,8 +38,11 @@ array-share-prefix-children c = search needs
 
 slice-aggregate-riddlepoppy-make-type : tie.Need-slice-aggregate-riddlepoppy-make-type
 slice-aggregate-riddlepoppy-make-type c =
-    let n = length (now (c .before .before .before .before .before .before .before .before .before .before .before .before .args .body)) / 2 in
-    sym (length-take-le n (c .before .before .before .before .before .put-children .last .0) (omega (arith, c .before .before .before .before .before .put-children .kept .0, c .before .before .before .before .before .before .before .before .if1 .left)))
+    let start = c .before .before .before .before .before .before .before .before .before .before .before .before in
+    let if1 = c .before .before .before .before .before .before .before .before .if1 in
+    let put-children = c .before .before .before .before .before .put-children in
+    let n = length (now (start .args .body)) / 2 in
+    sym (length-take-le n (put-children .last .0) (omega (arith, put-children .kept .0, if1 .left)))
 
 shared-slice-read-riddlepoppy-make-type : tie.Need-shared-slice-read-riddlepoppy-make-type
 shared-slice-read-riddlepoppy-make-type c = search needs

@@ -26,7 +26,12 @@ word-at-requires : tie.Need-word-at-requires Inv-loop μ-loop
 word-at-requires c κs = omega (arith, c .before .before .before .before .pre .1, c .loop-test .taken)
 
 set-type-requires : tie.Need-set-type-requires Inv-loop μ-loop
-set-type-requires c κs = (omega (arith, c .before .before .before .before .before .before .pre .0, c .before .before .before .loop .inv .1, c .before .before .loop-test .taken), c .before .word-at .ensures .1)
+set-type-requires c κs =
+    let start = c .before .before .before .before .before .before in
+    let loop = c .before .before .before .loop in
+    let loop-test = c .before .before .loop-test in
+    let word-at = c .before .word-at in
+    (omega (arith, start .pre .0, loop .inv .1, loop-test .taken), word-at .ensures .1)
 
 add-i : tie.Need-add-i Inv-loop μ-loop
 add-i c = search needs
@@ -35,7 +40,11 @@ loop-less : tie.Need-loop-less Inv-loop μ-loop
 loop-less c = search needs
 
 loop-again : tie.Need-loop-again Inv-loop μ-loop
-loop-again c = (omega (arith, c .before .before .before .before .before .loop-test .taken), c .before .before .set-type .kept .0 ∙ c .before .before .before .before .before .before .loop .inv .1)
+loop-again c =
+    let loop = c .before .before .before .before .before .before .loop in
+    let loop-test = c .before .before .before .before .before .loop-test in
+    let set-type = c .before .before .set-type in
+    (omega (arith, loop-test .taken), set-type .kept .0 ∙ loop .inv .1)
 
 same-length : tie.Need-same-length Inv-loop μ-loop
 same-length c = search needs
