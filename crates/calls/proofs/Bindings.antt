@@ -2,7 +2,7 @@
 use mathlib.Core.Path.{_≡_, refl, sym, _∙_, ap}
 use mathlib.Core.Bool.{Bool, _&&_, _||_, not}
 use mathlib.Core.List.{List, [], _∷_, _++_}
-use Prim.Native.Nat.{ℕ, _+_, _*_, _<_, _≤_}
+use Prim.Native.Nat.{ℕ, _+_, _*_, _<_}
 use native.Mathlib.Nat.{le-refl}
 use native.Mathlib.Omega.{arith}
 use mathlib.Mathlib.Data.Bool.Basic.{or-eq-false-eq-eq-false-and-eq-false}
@@ -42,7 +42,7 @@ use Rattle.unification.proofs.Growth.{Given}
 use Rattle.unification.proofs.Arguments.{unify-arg-grown}
 use Rattle.checked.specs.Calls.{verdictOf, bindingsVerdict, keptBy, unifiedOr, unifyArgAnswer, unifyAnswer}
 use Rattle.checked.proofs.Calls.{unify-known}
-use Rattle.calls.specs.Types.{typesFrom, bindingBytes, boundIn, bindingsIn, bytesOfBindings}
+use Rattle.calls.specs.Types.{typesFrom, bindingBytes, boundIn, bytesOfBindings}
 
 -- ---- read
 
@@ -84,7 +84,8 @@ kept-few answer.Yes new old h k = h
 kept-few answer.No new old h k = h
 kept-few (answer.Refused r) new old h k = k
 
-arg-few : (page names : List ℕ) (lent : Bool) (b : Bindings) (e : ℕ) (c : Checked) → b .count < 256 → length (b .names) ≡ bindingsMax → length (b .types) ≡ bindingsMax
+arg-few : (page names : List ℕ) (lent : Bool) (b : Bindings) (e : ℕ) (c : Checked) → b .count < 256
+    → length (b .names) ≡ bindingsMax → length (b .types) ≡ bindingsMax
     → unifyArgAnswer page names lent b e c .bindings .count < 256
 unfolding unifyArgAnswer bindingsVerdict verdictOf
 arg-few page names lent b e c few n t = go (bindingsVerdict page names lent b used) refl

@@ -1,10 +1,14 @@
 // Replays the stored sample of the oracle's answers (harness/README.md has its format): each row is asked of the entry calls,
 // and what they answer is compared with what the oracle answered.
+use calls::BINDING_BYTES;
+use calls::TYPE_BYTES;
 use pages::LONG_BYTES;
 use pages::index;
 use pages::same;
 use pages::word_at;
-ghost use Prim.Native.Nat.{_+_, _≤_, _<_};
+use types::CHILD_BYTES;
+ghost use mathlib.Core.Path.{_≡_};
+ghost use Prim.Native.Nat.{_+_, _*_, _≤_, _<_};
 ghost use lib.ListN.{length};
 
 // How many bytes the sample has at most.
@@ -15,6 +19,14 @@ const PAGE_BYTES: usize = 8192;
 
 // How many bytes the base of a pair takes.
 const BASE_BYTES: usize = 1;
+
+// How many bytes a type's name takes, and how many children follow it at most.
+const NAME_BYTES: usize = 1;
+
+const CHILDREN: usize = 32;
+
+// How many bytes the number of a type or of a checked type takes.
+const NUMBER_BYTES: usize = 4;
 
 // What no call answers, nor any row says.
 const NO_ANSWER: u32 = 4294967295;
@@ -51,7 +63,7 @@ fn field(s: &[u8], at: usize) -> Span
     }
 }
 
-// The symbol that an argument's low byte says.
+// The symbol or the kind that an argument's low byte says.
 fn symbol_in(argument: usize) -> u8 {
     (argument % 256) as u8
 }
@@ -72,13 +84,87 @@ fn insertion(page: &mut [u8], argument: usize, pair: &[u8], names: &[u8]) -> u32
     calls::riddlepoppy_insert_pair(page, names, lent, symbol_in(argument), factor, base)
 }
 
+// The number of a type or of a checked type that four bytes from index at on say.
+fn number_at(numbers: &[u8], at: usize) -> u32
+    requires { ⌜ at + 4 ≤ length (now numbers) ⌝ }
+{
+    (word_at(numbers, at) * 65536 + word_at(numbers, at + 2)) as u32
+}
+
+// Writes down the children that follow a name's number.
+fn put_children(children: &mut [u16], n: usize, body: &[u8])
+    requires { ⌜ (n ≤ length (now children)) × (1 + 2 * n ≤ length (now body)) ⌝ }
+{
+    let mut i: usize = 0;
+    while i < n {
+        let child = word_at(body, NAME_BYTES + CHILD_BYTES * i);
+        types::set_type(children, i, child);
+        i += 1;
+    }
+}
+
+// What make_type answers, with the name and the children in a field; no answer where the field has another length.
+fn making(page: &mut [u8], argument: usize, body: &[u8], names: &[u8]) -> u32 {
+    let n = body.len() / CHILD_BYTES;
+    if CHILDREN < n {
+        return NO_ANSWER;
+    }
+    if body.len() != NAME_BYTES + CHILD_BYTES * n {
+        return NO_ANSWER;
+    }
+    let mut children = [0u16; CHILDREN];
+    put_children(&mut children, n, body);
+    let lent = is_lent(argument);
+    let kind = symbol_in(argument);
+    calls::riddlepoppy_make_type(page, names, lent, kind, &children[..n], body[0])
+}
+
+// What into_const answers, with the number in a field; no answer where the field has another length.
+fn constancy(page: &mut [u8], argument: usize, number: &[u8], names: &[u8]) -> u32 {
+    if number.len() != NUMBER_BYTES {
+        return NO_ANSWER;
+    }
+    calls::riddlepoppy_into_const(page, names, is_lent(argument), number_at(number, 0))
+}
+
+// What substitute answers, with the number and the bindings in a field each; no answer where one has another length.
+fn substitution(
+    page: &mut [u8],
+    argument: usize,
+    number: &[u8],
+    bindings: &[u8],
+    names: &[u8],
+) -> u32 {
+    if number.len() != NUMBER_BYTES {
+        return NO_ANSWER;
+    }
+    if bindings.len() != BINDING_BYTES {
+        return NO_ANSWER;
+    }
+    let mut bytes = [0u8; BINDING_BYTES];
+    pages::put_bytes(&mut bytes, 0, bindings);
+    let lent = is_lent(argument);
+    calls::riddlepoppy_substitute(page, names, lent, number_at(number, 0), &bytes)
+}
+
 // What a call answers that writes the page that it is lent.
-fn written(call: u8, argument: usize, page: &mut [u8], first: &[u8], names: &[u8]) -> u32 {
+fn written(
+    call: u8,
+    argument: usize,
+    page: &mut [u8],
+    first: &[u8],
+    second: &[u8],
+    names: &[u8],
+) -> u32 {
     match call {
         1 => calls::riddlepoppy_empty_names(page),
         2 => calls::riddlepoppy_add_name(page, first),
         10 => calls::riddlepoppy_empty_pairs(page),
-        _ => insertion(page, argument, first, names),
+        11 => insertion(page, argument, first, names),
+        16 => calls::riddlepoppy_empty_types(page),
+        17 => making(page, argument, first, names),
+        21 => constancy(page, argument, first, names),
+        _ => substitution(page, argument, first, second, names),
     }
 }
 
@@ -88,11 +174,12 @@ fn is_page_same(
     argument: usize,
     page: &mut [u8],
     first: &[u8],
+    second: &[u8],
     names: &[u8],
     code: usize,
     after: &[u8],
 ) -> bool {
-    if written(call, argument, page, first, names) as usize != code {
+    if written(call, argument, page, first, second, names) as usize != code {
         return false;
     }
     same(page, after)
@@ -104,6 +191,7 @@ fn is_copy_same(
     argument: usize,
     page: &[u8],
     first: &[u8],
+    second: &[u8],
     names: &[u8],
     code: usize,
     after: &[u8],
@@ -114,7 +202,16 @@ fn is_copy_same(
     }
     let mut copy = [0u8; PAGE_BYTES];
     pages::put_bytes(&mut copy, 0, page);
-    is_page_same(call, argument, &mut copy[..n], first, names, code, after)
+    is_page_same(
+        call,
+        argument,
+        &mut copy[..n],
+        first,
+        second,
+        names,
+        code,
+        after,
+    )
 }
 
 fn is_name(name: &[u8; names::NAME_BYTES], out: &[u8]) -> bool {
@@ -185,6 +282,97 @@ fn are_sums_same(
     is_unit(&sums, out)
 }
 
+fn is_type(bytes: &[u8; TYPE_BYTES], out: &[u8]) -> bool {
+    same(bytes, out)
+}
+
+fn is_type_same(
+    argument: usize,
+    page: &[u8],
+    number: &[u8],
+    names: &[u8],
+    code: usize,
+    out: &[u8],
+) -> bool {
+    if number.len() != NUMBER_BYTES {
+        return false;
+    }
+    let mut bytes = [0u8; TYPE_BYTES];
+    let lent = is_lent(argument);
+    let t = number_at(number, 0);
+    if calls::riddlepoppy_read_type(page, names, lent, t, &mut bytes) as usize != code {
+        return false;
+    }
+    is_type(&bytes, out)
+}
+
+// What unify or unify_arg answers.
+fn unifying(
+    call: u8,
+    argument: usize,
+    page: &[u8],
+    numbers: &[u8],
+    names: &[u8],
+    bindings: &mut [u8; BINDING_BYTES],
+) -> u32
+    requires { ⌜ length (now numbers) ≡ 8 ⌝ }
+{
+    let lent = is_lent(argument);
+    let e = number_at(numbers, 0);
+    let a = number_at(numbers, NUMBER_BYTES);
+    if call == 22 {
+        return calls::riddlepoppy_unify(page, names, lent, e, a, bindings);
+    }
+    calls::riddlepoppy_unify_arg(page, names, lent, e, a, bindings)
+}
+
+fn are_bindings(bindings: &[u8; BINDING_BYTES], out: &[u8]) -> bool {
+    same(bindings, out)
+}
+
+fn are_bindings_same(
+    call: u8,
+    argument: usize,
+    page: &[u8],
+    numbers: &[u8],
+    bindings: &[u8],
+    names: &[u8],
+    code: usize,
+    out: &[u8],
+) -> bool {
+    if numbers.len() != 2 * NUMBER_BYTES {
+        return false;
+    }
+    if bindings.len() != BINDING_BYTES {
+        return false;
+    }
+    let mut bytes = [0u8; BINDING_BYTES];
+    pages::put_bytes(&mut bytes, 0, bindings);
+    if unifying(call, argument, page, numbers, names, &mut bytes) as usize != code {
+        return false;
+    }
+    are_bindings(&bytes, out)
+}
+
+// What matches answers, with the numbers in a field; no answer where the field has another length.
+fn matching(argument: usize, page: &[u8], numbers: &[u8], names: &[u8]) -> u32 {
+    if numbers.len() != 2 * NUMBER_BYTES {
+        return NO_ANSWER;
+    }
+    let lent = is_lent(argument);
+    let a = number_at(numbers, 0);
+    let e = number_at(numbers, NUMBER_BYTES);
+    calls::riddlepoppy_matches(page, names, lent, a, e)
+}
+
+// What has_generic answers, with the number in a field; no answer where the field has another length.
+fn generic(argument: usize, page: &[u8], number: &[u8], names: &[u8]) -> u32 {
+    if number.len() != NUMBER_BYTES {
+        return NO_ANSWER;
+    }
+    calls::riddlepoppy_has_generic(page, names, is_lent(argument), number_at(number, 0))
+}
+
 // What a call answers that answers a number and writes nothing.
 fn number(
     call: u8,
@@ -202,7 +390,9 @@ fn number(
         7 => calls::riddlepoppy_exponent(first, symbol),
         8 => calls::riddlepoppy_is_dimensionless(first),
         12 => calls::riddlepoppy_canonical(page, names, lent, symbol),
-        _ => calls::riddlepoppy_is_convertible_to(page, names, lent, first, second),
+        15 => calls::riddlepoppy_is_convertible_to(page, names, lent, first, second),
+        19 => matching(argument, page, first, names),
+        _ => generic(argument, page, first, names),
     }
 }
 
@@ -221,13 +411,17 @@ fn is_answer(
     requires { ⌜ argument < 65536 ⌝ }
 {
     match call {
-        1 | 2 | 10 | 11 => is_copy_same(call, argument, page, first, names, code, after),
+        1 | 2 | 10 | 11 | 16 | 17 | 21 | 24 => {
+            is_copy_same(call, argument, page, first, second, names, code, after)
+        }
         4 => is_name_same(page, argument, code, out),
         6 => is_product_same(first, second, argument == 1, code, out),
         9 => is_text_same(page, first, code, out),
         13 => is_factor_same(argument, page, names, code, out),
         14 => are_sums_same(argument, page, first, names, code, out),
-        3 | 5 | 7 | 8 | 12 | 15 => {
+        18 => is_type_same(argument, page, first, names, code, out),
+        22 | 23 => are_bindings_same(call, argument, page, first, second, names, code, out),
+        3 | 5 | 7 | 8 | 12 | 15 | 19 | 20 => {
             number(call, argument, page, first, second, names) as usize == code
         }
         _ => false,

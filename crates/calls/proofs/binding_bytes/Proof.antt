@@ -31,8 +31,10 @@ slice-aggregate-put-bytes-4 c = search needs
 
 put-bytes-requires-2 : tie.Need-put-bytes-requires-2
 put-bytes-requires-2 c κs =
-    let n : length (c .before .before .before .before .before .before .before .before .before .before .args .bindings .names) ≡ bindingsMax = search needs in
-    omega (arith, n, c .before .before .before .put-bytes .kept .0)
+    let start = c .before .before .before .before .before .before .before .before .before .before in
+    let put-bytes = c .before .before .before .put-bytes in
+    let n : length (start .args .bindings .names) ≡ bindingsMax = search needs in
+    omega (arith, n, put-bytes .kept .0)
 
 slice-aggregate-put-types : tie.Need-slice-aggregate-put-types
 slice-aggregate-put-types c = search needs
@@ -42,15 +44,23 @@ slice-aggregate-put-types-2 c = search needs
 
 put-types-requires : tie.Need-put-types-requires
 put-types-requires c κs =
-    let t : length (c .before .before .before .before .before .before .before .before .before .before .before .before .before .before .args .bindings .types) ≡ bindingsMax = search needs in
-    omega (arith, t, c .before .before .before .put-bytes2 .kept .0 ∙ c .before .before .before .before .before .before .before .put-bytes .kept .0)
+    let start = c .before .before .before .before .before .before .before .before .before .before .before .before .before .before in
+    let put-bytes = c .before .before .before .before .before .before .before .put-bytes in
+    let put-bytes2 = c .before .before .before .put-bytes2 in
+    let t : length (start .args .bindings .types) ≡ bindingsMax = search needs in
+    omega (arith, t, put-bytes2 .kept .0 ∙ put-bytes .kept .0)
 
 returns : tie.Need-returns
 returns c =
-    let b = c .before .before .before .before .before .before .before .before .before .before .before .before .before .before .before .before .args .bindings in
+    let start = c .before .before .before .before .before .before .before .before .before .before .before .before .before .before .before .before in
+    let no-binding-bytes = c .before .before .before .before .before .before .before .before .before .before .before .before .no-binding-bytes in
+    let put-bytes = c .before .before .before .before .before .before .before .before .before .put-bytes in
+    let put-bytes2 = c .before .before .before .before .before .put-bytes2 in
+    let put-types = c .before .put-types in
+    let b = start .args .bindings in
     let n : length (b .names) ≡ bindingsMax = search needs in
     let t : length (b .types) ≡ bindingsMax = search needs in
-    c .before .put-types .ensures ∙ rw (c .before .before .before .before .before .put-bytes2 .ensures, c .before .before .before .before .before .before .before .before .before .put-bytes .ensures, c .before .before .before .before .before .before .before .before .before .before .before .before .no-binding-bytes .ensures) (bindings-made b n t)
+    put-types .ensures ∙ rw (put-bytes2 .ensures, put-bytes .ensures, no-binding-bytes .ensures) (bindings-made b n t)
 
 pub binding-bytes-spec : {M : Type 1} → statement M
 binding-bytes-spec =

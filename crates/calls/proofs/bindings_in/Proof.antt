@@ -41,11 +41,15 @@ types-in-requires c κs = search needs
 returns : tie.Need-returns
 unfolding bindingsIn
 returns c =
-    let p = c .before .before .before .before .before .before .before .before .before .args .t1 in
+    let start = c .before .before .before .before .before .before .before .before .before in
+    let no-names = c .before .before .before .before .before .before .before .before .no-names in
+    let put-bytes = c .before .before .before .before .put-bytes in
+    let index = c .before .before .index in
+    let p = start .args .t1 in
     let n : length p ≡ bindingBytes = search needs in
-    let e : c .before .before .before .before .put-bytes .last .0 ≡ take bindingsMax (drop 1 p) = c .before .before .before .before .put-bytes .ensures ∙ rw (c .before .before .before .before .before .before .before .before .no-names .ensures) (names-read p n) in (
-      rw (c .before .before .index .ensures .0, e, c .types-in .ensures) refl,
-      c .before .before .index .ensures .1,
+    let e : put-bytes .last .0 ≡ take bindingsMax (drop 1 p) = put-bytes .ensures ∙ rw (no-names .ensures) (names-read p n) in (
+      rw (index .ensures .0, e, c .types-in .ensures) refl,
+      index .ensures .1,
       ap length e ∙ names-length p n,
       ap length (c .types-in .ensures) ∙ types-length p,
     )
@@ -53,4 +57,15 @@ returns c =
 pub bindings-in-spec : {M : Type 1} → statement M
 bindings-in-spec =
     tie.close
-    (tie.spec no-names-requires slice-aggregate-put-bytes sub-put-bytes part-put-bytes-start part-put-bytes-end put-bytes-requires array-read-index index-requires slice-aggregate-types-in types-in-requires returns)
+    (tie.spec
+    no-names-requires
+    slice-aggregate-put-bytes
+    sub-put-bytes
+    part-put-bytes-start
+    part-put-bytes-end
+    put-bytes-requires
+    array-read-index
+    index-requires
+    slice-aggregate-types-in
+    types-in-requires
+    returns)

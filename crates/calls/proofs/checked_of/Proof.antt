@@ -1,7 +1,6 @@
 -- `calls::checked_of` meets its contract. Assumes nothing.
 use borrow.Author.Tests.{lt-ltb, le-ltb}
 use Rattle.calls.specs.Types.{functionsFrom, unknownFrom, checkedOf}
-use borrow.Author.Needs.{needs}
 use Rattle.calls.proofs.checked_of.Statement.{statement}
 use Rattle.calls.proofs.checked_of.Tie as tie
 

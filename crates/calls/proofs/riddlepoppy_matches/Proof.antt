@@ -21,9 +21,13 @@ answer-code-requires c κs = search needs
 
 returns : tie.Need-returns
 returns c =
-    let a = c .before .before .before .before .before .before .args in
-    let e = ap₂ (matchesAnswer (now (a .page)) (now (a .names)) (a .lent)) (c .before .before .before .checked-of .ensures) (c .before .before .checked-of2 .ensures) in
-    c .answer-code .ensures ∙ ap answerCode (c .before .matches .ensures ∙ e)
+    let start = c .before .before .before .before .before .before in
+    let checked-of = c .before .before .before .checked-of in
+    let checked-of2 = c .before .before .checked-of2 in
+    let matches = c .before .matches in
+    let a = start .args in
+    let e = ap₂ (matchesAnswer (now (a .page)) (now (a .names)) (a .lent)) (checked-of .ensures) (checked-of2 .ensures) in
+    c .answer-code .ensures ∙ ap answerCode (matches .ensures ∙ e)
 
 pub riddlepoppy-matches-spec : {M : Type 1} → statement M
 riddlepoppy-matches-spec =

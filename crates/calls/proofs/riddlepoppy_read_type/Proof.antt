@@ -24,16 +24,22 @@ packed-as-requires c κs = search needs
 
 returns : tie.Need-returns
 returns c =
-    let a = c .before .before .before .before .before .before .args in
+    let start = c .before .before .before .before .before .before in
+    let read-type = c .before .before .before .read-type in
+    let is-refused = c .before .before .is-refused in
+    let if1 = c .before .if1 in
+    let a = start .args in
     let s = readAnswer (now (a .page)) (now (a .names)) (a .lent) (a .t) in
-    let e : c .before .before .before .read-type .result ≡ s = c .before .before .before .read-type .ensures in
-    let h : isRefused (s .verdict) ≡ true = ap (λ (r : TypeRead). isRefused (r .verdict)) (sym e) ∙ sym (c .before .before .is-refused .ensures) ∙ c .before .if1 .taken in
+    let e : read-type .result ≡ s = read-type .ensures in
+    let h : isRefused (s .verdict) ≡ true = ap (λ (r : TypeRead). isRefused (r .verdict)) (sym e) ∙ sym (is-refused .ensures) ∙ if1 .taken in
     (c .packed-as .ensures ∙ ap (λ (r : TypeRead). packed (r .verdict) 0) e, kept (s .verdict) (bytesOfType (s .shape)) (now (a .out)) h)
 
 type-bytes-requires : tie.Need-type-bytes-requires
 type-bytes-requires c κs =
-    let a = c .before .before .before .before .before .before .args in
-    let e : c .before .before .before .read-type .result ≡ readAnswer (now (a .page)) (now (a .names)) (a .lent) (a .t) = c .before .before .before .read-type .ensures in
+    let start = c .before .before .before .before .before .before in
+    let read-type = c .before .before .before .read-type in
+    let a = start .args in
+    let e : read-type .result ≡ readAnswer (now (a .page)) (now (a .names)) (a .lent) (a .t) = read-type .ensures in
     rw e (read-small (now (a .page)) (now (a .names)) (a .lent) (a .t))
 
 packed-as-requires-2 : tie.Need-packed-as-requires-2
@@ -41,12 +47,17 @@ packed-as-requires-2 c κs = search needs
 
 returns-2 : tie.Need-returns-2
 returns-2 c =
-    let a = c .before .before .before .before .before .before .before .before .args in
+    let start = c .before .before .before .before .before .before .before .before in
+    let read-type = c .before .before .before .before .before .read-type in
+    let is-refused = c .before .before .before .before .is-refused in
+    let if1 = c .before .before .before .if1 in
+    let type-bytes = c .before .type-bytes in
+    let a = start .args in
     let s = readAnswer (now (a .page)) (now (a .names)) (a .lent) (a .t) in
-    let e : c .before .before .before .before .before .read-type .result ≡ s = c .before .before .before .before .before .read-type .ensures in
-    let h : isRefused (s .verdict) ≡ false = ap (λ (r : TypeRead). isRefused (r .verdict)) (sym e) ∙ sym (c .before .before .before .before .is-refused .ensures) ∙ c .before .before .before .if1 .left in (
+    let e : read-type .result ≡ s = read-type .ensures in
+    let h : isRefused (s .verdict) ≡ false = ap (λ (r : TypeRead). isRefused (r .verdict)) (sym e) ∙ sym (is-refused .ensures) ∙ if1 .left in (
       c .packed-as2 .ensures ∙ ap (λ (r : TypeRead). packed (r .verdict) 0) e,
-      c .before .type-bytes .ensures ∙ ap (λ (r : TypeRead). bytesOfType (r .shape)) e ∙ changed (s .verdict) (bytesOfType (s .shape)) (now (a .out)) h,
+      type-bytes .ensures ∙ ap (λ (r : TypeRead). bytesOfType (r .shape)) e ∙ changed (s .verdict) (bytesOfType (s .shape)) (now (a .out)) h,
     )
 
 pub riddlepoppy-read-type-spec : {M : Type 1} → statement M

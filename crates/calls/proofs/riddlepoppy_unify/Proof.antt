@@ -16,9 +16,12 @@ unify-requires c κs = search needs
 
 written-back-requires : tie.Need-written-back-requires
 written-back-requires c κs =
-    let a = c .before .before .before .before .before .before .args in
-    let b = c .before .before .bindings-in .ensures in
-    unify-few (now (a .page)) (now (a .names)) (a .lent) (c .before .before .bindings-in .result) (b .1) (b .2) (b .3) (a .expected) (c .before .unify .result) (a .actual) (c .before .unify .ensures)
+    let start = c .before .before .before .before .before .before in
+    let bindings-in = c .before .before .bindings-in in
+    let unify = c .before .unify in
+    let a = start .args in
+    let b = bindings-in .ensures in
+    unify-few (now (a .page)) (now (a .names)) (a .lent) (bindings-in .result) (b .1) (b .2) (b .3) (a .expected) (unify .result) (a .actual) (unify .ensures)
 
 returns : tie.Need-returns
 returns c =

@@ -19,16 +19,24 @@ unify-arg-requires c κs = search needs
 
 written-back-requires : tie.Need-written-back-requires
 written-back-requires c κs =
-    let a = c .before .before .before .before .before .before .before .args in
-    let b = c .before .before .before .bindings-in .ensures in
-    let u = c .before .unify-arg .result in
-    unify-arg-few (now (a .page)) (now (a .names)) (a .lent) (c .before .before .before .bindings-in .result) (b .1) (b .2) (b .3) (a .expected) u (c .before .before .checked-of .result) (c .before .unify-arg .ensures)
+    let start = c .before .before .before .before .before .before .before in
+    let bindings-in = c .before .before .before .bindings-in in
+    let checked-of = c .before .before .checked-of in
+    let unify-arg = c .before .unify-arg in
+    let a = start .args in
+    let b = bindings-in .ensures in
+    let u = unify-arg .result in
+    unify-arg-few (now (a .page)) (now (a .names)) (a .lent) (bindings-in .result) (b .1) (b .2) (b .3) (a .expected) u (checked-of .result) (unify-arg .ensures)
 
 returns : tie.Need-returns
 returns c =
-    let a = c .before .before .before .before .before .before .before .before .args in
-    let u : c .before .before .unify-arg .result ≡ unifyArgIn (now (a .page)) (now (a .names)) (a .lent) (now (a .bindings)) (a .expected) (a .actual) =
-    rw (c .before .before .before .before .bindings-in .ensures .0, c .before .before .before .checked-of .ensures) at (c .before .before .unify-arg .ensures) in (
+    let start = c .before .before .before .before .before .before .before .before in
+    let bindings-in = c .before .before .before .before .bindings-in in
+    let checked-of = c .before .before .before .checked-of in
+    let unify-arg = c .before .before .unify-arg in
+    let a = start .args in
+    let u : unify-arg .result ≡ unifyArgIn (now (a .page)) (now (a .names)) (a .lent) (now (a .bindings)) (a .expected) (a .actual) =
+    rw (bindings-in .ensures .0, checked-of .ensures) at (unify-arg .ensures) in (
       c .written-back .ensures .0 ∙ ap (λ (r : Unified). answerCode (r .answer)) u,
       c .written-back .ensures .1 ∙ ap (λ (r : Unified). bindingsAfter (r .answer) (r .bindings) (now (a .bindings))) u,
     )

@@ -1,6 +1,5 @@
 -- `calls::type_bytes` meets its contract. Assumes nothing.
 use mathlib.Core.Path.{_≡_, sym, ap, _∙_}
-use Prim.Native.Nat.{_≤_}
 use native.Mathlib.Omega.{arith}
 use lib.ListN.{length, take}
 use lib.Seq.{length-take-le}
@@ -53,16 +52,24 @@ slice-aggregate-put-bytes-4 c = search needs
 
 put-bytes-requires-2 : tie.Need-put-bytes-requires-2
 put-bytes-requires-2 c κs =
-    let s = c .before .before .before .before .before .before .before .before .before .before .before .before .args .shape in
-    let n = ap length (c .before .before .before .before .before .before .before .before .before .entry-of .ensures .0) ∙ length-pad entryMax 0 (entryOf (s .kind) (take (s .count) (s .children)) (s .name)) in
-    omega (arith, n, c .before .before .before .put-bytes .kept .0)
+    let start = c .before .before .before .before .before .before .before .before .before .before .before .before in
+    let entry-of = c .before .before .before .before .before .before .before .before .before .entry-of in
+    let put-bytes = c .before .before .before .put-bytes in
+    let s = start .args .shape in
+    let n = ap length (entry-of .ensures .0) ∙ length-pad entryMax 0 (entryOf (s .kind) (take (s .count) (s .children)) (s .name)) in
+    omega (arith, n, put-bytes .kept .0)
 
 returns : tie.Need-returns
 unfolding bytesOfType
 returns c =
-    let s = c .before .before .before .before .before .before .before .before .before .before .before .before .before .before .args .shape in
-    c .before .put-bytes2 .ensures ∙ rw (c .before .before .before .before .before .put-bytes .ensures, c .before .before .before .before .before .before .before .before .no-type-bytes .ensures)
-    (type-made (s .depth) (entryOf (s .kind) (take (s .count) (s .children)) (s .name)) (c .before .before .before .before .before .before .before .before .before .before .before .entry-of .result .bytes) (c .before .before .before .before .before .before .before .before .before .before .before .entry-of .ensures .0))
+    let start = c .before .before .before .before .before .before .before .before .before .before .before .before .before .before in
+    let entry-of = c .before .before .before .before .before .before .before .before .before .before .before .entry-of in
+    let no-type-bytes = c .before .before .before .before .before .before .before .before .no-type-bytes in
+    let put-bytes = c .before .before .before .before .before .put-bytes in
+    let put-bytes2 = c .before .put-bytes2 in
+    let s = start .args .shape in
+    put-bytes2 .ensures ∙ rw (put-bytes .ensures, no-type-bytes .ensures)
+    (type-made (s .depth) (entryOf (s .kind) (take (s .count) (s .children)) (s .name)) (entry-of .result .bytes) (entry-of .ensures .0))
 
 pub type-bytes-spec : {M : Type 1} → statement M
 type-bytes-spec =

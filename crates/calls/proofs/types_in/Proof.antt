@@ -35,12 +35,19 @@ word-at-requires : tie.Need-word-at-requires Inv-loop μ-loop
 word-at-requires c κs = omega (arith, c .before .before .before .before .pre, c .loop-test .taken)
 
 slice-aggregate-set-type : tie.Need-slice-aggregate-set-type Inv-loop μ-loop
-slice-aggregate-set-type c = search (needs, numbers-places bindingsMax (boundIn (now (c .before .before .before .before .before .before .args .bytes))) (c .before .before .before .loop .types) (c .before .before .before .loop .i) (c .before .before .before .loop .inv .1))
+slice-aggregate-set-type c =
+    let start = c .before .before .before .before .before .before in
+    let loop = c .before .before .before .loop in
+    search (needs, numbers-places bindingsMax (boundIn (now (start .args .bytes))) (loop .types) (loop .i) (loop .inv .1))
 
 set-type-requires : tie.Need-set-type-requires Inv-loop μ-loop
 set-type-requires c κs =
-    let n = numbers-places bindingsMax (boundIn (now (c .before .before .before .before .before .before .args .bytes))) (c .before .before .before .loop .types) (c .before .before .before .loop .i) (c .before .before .before .loop .inv .1) in
-    (omega (arith, n, c .before .before .loop-test .taken), c .before .word-at .ensures .1)
+    let start = c .before .before .before .before .before .before in
+    let loop = c .before .before .before .loop in
+    let loop-test = c .before .before .loop-test in
+    let word-at = c .before .word-at in
+    let n = numbers-places bindingsMax (boundIn (now (start .args .bytes))) (loop .types) (loop .i) (loop .inv .1) in
+    (omega (arith, n, loop-test .taken), word-at .ensures .1)
 
 add-i : tie.Need-add-i Inv-loop μ-loop
 add-i c = search needs
@@ -49,13 +56,21 @@ loop-less : tie.Need-loop-less Inv-loop μ-loop
 loop-less c = search needs
 
 loop-again : tie.Need-loop-again Inv-loop μ-loop
-loop-again c = (
-  omega (arith, c .before .before .before .before .loop-test .taken),
-  c .before .set-type .ensures ∙ rw (c .before .before .before .before .before .loop .inv .1, c .before .before .before .word-at .ensures .0) (numbers-more bindingsMax (boundIn (now (c .before .before .before .before .before .before .before .before .args .bytes))) (c .before .before .before .before .before .loop .i) (c .before .before .before .before .loop-test .taken)),
-)
+loop-again c =
+    let start = c .before .before .before .before .before .before .before .before in
+    let loop = c .before .before .before .before .before .loop in
+    let loop-test = c .before .before .before .before .loop-test in
+    let word-at = c .before .before .before .word-at in
+    let set-type = c .before .set-type in (
+      omega (arith, loop-test .taken),
+      set-type .ensures ∙ rw (loop .inv .1, word-at .ensures .0) (numbers-more bindingsMax (boundIn (now (start .args .bytes))) (loop .i) (loop-test .taken)),
+    )
 
 returns : tie.Need-returns Inv-loop μ-loop
-returns c = c .before .loop .inv .1 ∙ types-read (now (c .before .before .before .before .args .bytes)) (c .before .loop .i) (omega (arith, c .before .loop .inv .0, c .loop-test .left))
+returns c =
+    let start = c .before .before .before .before in
+    let loop = c .before .loop in
+    loop .inv .1 ∙ types-read (now (start .args .bytes)) (loop .i) (omega (arith, loop .inv .0, c .loop-test .left))
 
 pub types-in-spec : {M : Type 1} → statement M
 types-in-spec =
