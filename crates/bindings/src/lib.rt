@@ -183,8 +183,11 @@ pub fn has_generic(page: &[u8], offsets: &[usize], t: usize) -> bool
     generic_in(page, offsets, &found, t)
 }
 
+// What each type was substituted by.
+type Done = [usize; TYPES];
+
 // Nothing substituted yet.
-pub fn none_done() -> [usize; TYPES]
+pub fn none_done() -> Done
     ensures { λ r. ⌜ r ≡ replicate typesMax 0 ⌝ }
 {
     [0; TYPES]
