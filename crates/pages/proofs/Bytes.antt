@@ -1,9 +1,10 @@
 -- Bytes compared and tested from an index on, one step at a time. Assumes nothing.
 use mathlib.Core.Path.{_≡_, refl, sym, _∙_, ap}
 use mathlib.Core.Bool.{Bool, true, false, _&&_}
+use mathlib.Core.Logic.{⊎-elim}
 use mathlib.Core.List.{List, [], _∷_}
 use Prim.Native.Nat.{ℕ, zero, suc, _+_, _-_, _*_, _/_, _%_, _^_, _<_, _≤_}
-use native.Mathlib.Nat.{add-zero, pow-suc, div-one, div-eq-of-lt, div-div-eq-div-mul, sub-zero, not-suc-le-zero, le-of-suc-le-suc}
+use native.Mathlib.Nat.{add-zero, pow-suc, div-one, mod-eq-of-lt, div-eq-of-lt, div-div-eq-div-mul, sub-zero, not-suc-le-zero, le-of-suc-le-suc, eq-or-lt-of-le}
 use native.Mathlib.Numerals.{add-one}
 use native.Mathlib.Omega.{arith}
 use lib.ListN.{length, getD, drop, replicate, drop-of-length-le}
@@ -103,18 +104,65 @@ getD-big (suc k) n (suc i) l =
     rw e (getD-big k n i (le-of-suc-le-suc l))
 
 -- the first k of w bytes that say a number
-front : (bytes : List ℕ) (at n w : ℕ) → n < 256 ^ w → ((i : ℕ) → i < w → getD bytes (at + i) 0 ≡ getD (bigEndian w n) i 0) → (k : ℕ) → k ≤ w → numberAt bytes at k ≡ n / 256 ^ (w - k)
+front : (bytes : List ℕ) (at n w : ℕ) → n < 256 ^ w
+    → ((i : ℕ) → i < w → getD bytes (at + i) 0 ≡ getD (bigEndian w n) i 0) → (k : ℕ) → k ≤ w → numberAt bytes at k ≡ n / 256 ^ (w - k)
 front bytes at n w h e zero l = sym (rw sub-zero (div-eq-of-lt h))
 front bytes at n w h e (suc k) l =
     let m : w - k ≡ suc (w - 1 - k) = omega arith in
     let o : w - suc k ≡ w - 1 - k = omega arith in
     rw (e k l, getD-big w n k l, front bytes at n w h e k (omega arith), m, pow-suc, o) (next-byte n (256 ^ (w - 1 - k)))
 
+-- and say no more than it, however few they are
+front-most : (bytes : List ℕ) (at n w : ℕ)
+    → ((i : ℕ) → i < w → getD bytes (at + i) 0 ≡ getD (bigEndian w n) i 0) → (k : ℕ) → k ≤ w → numberAt bytes at k ≤ n / 256 ^ (w - k)
+front-most bytes at n w e zero l = omega arith
+front-most bytes at n w e (suc k) l =
+    let m : w - k ≡ suc (w - 1 - k) = omega arith in
+    let o : w - suc k ≡ w - 1 - k = omega arith in
+    let before : numberAt bytes at k ≤ n / (256 ^ (w - 1 - k) * 256) = rw (m, pow-suc) at (front-most bytes at n w e k (omega arith)) in
+    rw (e k l, getD-big w n k l, o) (omega (arith, before, next-byte n (256 ^ (w - 1 - k))))
+
+pub number-most : (bytes : List ℕ) (at n w : ℕ)
+    → ((i : ℕ) → i < w → getD bytes (at + i) 0 ≡ getD (bigEndian w n) i 0) → numberAt bytes at w ≤ n
+number-most bytes at n w e =
+    let z : w - w ≡ 0 = omega arith in
+    rw (z, div-one n) at (front-most bytes at n w e w (omega arith))
+
+-- the bytes of a number are as many as were asked for
+pub big-length : (k n : ℕ) → length (bigEndian k n) ≡ k
+big-length zero n = refl
+big-length (suc k) n = ap suc (big-length k n)
+
+-- equal bytes say equal numbers
+pub number-alike : (l m : List ℕ) (a b w : ℕ) → ((i : ℕ) → i < w → getD l (a + i) 0 ≡ getD m (b + i) 0) → numberAt l a w ≡ numberAt m b w
+number-alike l m a b zero h = refl
+number-alike l m a b (suc w) h = rw (h w (omega arith), number-alike l m a b w (λ i k. h i (omega arith))) refl
+
+-- and equal numbers are said by equal bytes
+pub number-same : (l : List ℕ) → ((i : ℕ) → getD l i 0 < 256) → (a b w : ℕ) → numberAt l a w ≡ numberAt l b w
+    → (i : ℕ) → i < w → getD l (a + i) 0 ≡ getD l (b + i) 0
+number-same l bytes a b zero e i h = absurd (not-suc-le-zero h)
+number-same l bytes a b (suc w) e i h =
+    let x = bytes (a + w) in
+    let y = bytes (b + w) in
+    let front : numberAt l a w ≡ numberAt l b w = omega arith in
+    ⊎-elim (λ (k : i ≡ w). rw k (omega arith)) (λ (k : i < w). number-same l bytes a b w front i k) (eq-or-lt-of-le (le-of-suc-le-suc h))
+
 -- the bytes of a number, read from an index on, say it again
 pub number-back : (bytes : List ℕ) (at n w : ℕ) → n < 256 ^ w → ((i : ℕ) → i < w → getD bytes (at + i) 0 ≡ getD (bigEndian w n) i 0) → numberAt bytes at w ≡ n
 number-back bytes at n w h e =
     let z : w - w ≡ 0 = omega arith in
     front bytes at n w h e w (omega arith) ∙ rw z (div-one n)
+
+-- one byte is itself, two are a word
+pub number-one : (bytes : List ℕ) (at : ℕ) → numberAt bytes at 1 ≡ getD bytes at 0
+number-one bytes at = rw add-zero (omega arith)
+
+pub number-two : (bytes : List ℕ) (at : ℕ) → numberAt bytes at 2 ≡ wordAt bytes at
+number-two bytes at = rw add-zero (omega arith)
+
+pub big-one : (n : ℕ) → n < 256 → bigEndian 1 n ≡ n ∷ []
+big-one n h = rw (div-one n, mod-eq-of-lt h) refl
 
 -- eight bytes are four words
 pub four-words : (bytes : List ℕ) (at : ℕ)

@@ -4,7 +4,7 @@
 use mathlib.Core.Path.{_≡_, refl, sym, _∙_, ap, ap₂}
 use mathlib.Core.Bool.{Bool, true, false, cond}
 use mathlib.Core.List.{List}
-use Prim.Native.Nat.{ℕ, zero, suc, _+_, _*_, _^_, _<_, _≤_}
+use Prim.Native.Nat.{ℕ, suc, _+_, _*_, _^_, _<_, _≤_}
 use native.Mathlib.Nat.{add-zero, le-refl}
 use native.Mathlib.Numerals.{add-one}
 use native.Mathlib.Decide.{decLt}
@@ -16,7 +16,7 @@ use borrow.Author.Tests.{lt-ltb, le-ltb, ltb-false, eq-eqb, ne-eqb}
 use Rattle.pages.specs.Quant.{anyTo, firstTo}
 use Rattle.pages.specs.Bytes.{countOf, bigEndian, numberAt, longBytes}
 use Rattle.pages.proofs.Quant.{any-cong, first-cong, first-none, first-le, first-below}
-use Rattle.pages.proofs.Bytes.{number-back}
+use Rattle.pages.proofs.Bytes.{number-alike, number-back}
 use Rattle.names.specs.Calls.{usedOf}
 use Rattle.pairs.specs.Table.{pairBytes, baseAt, factorAt}
 use Rattle.pairs.specs.Page.{bodiesIn, formed}
@@ -28,18 +28,13 @@ use Rattle.pairs.proofs.Run.{accepted-formed, added-bodies, added-count
 
 -- ---- bodies with one more behind them
 
--- bytes that agree say the same number
-number-same : (l m : List ℕ) (at w : ℕ) → ((i : ℕ) → i < w → getD l (at + i) 0 ≡ getD m (at + i) 0) → numberAt l at w ≡ numberAt m at w
-number-same l m at zero h = refl
-number-same l m at (suc w) h = rw (number-same l m at w (λ i lt. h i (omega arith)), h w (omega arith))
-
 module _ (l m : List ℕ) (k s : ℕ) (agree : (i : ℕ) → i < pairBytes * k → getD l i 0 ≡ getD m i 0) where
   is-same : (i : ℕ) → i < k → isOf l s i ≡ isOf m s i
   is-same i lt = ap (λ (x : ℕ). eqb x s) (agree (pairBytes * i) (omega arith))
 
   factor-same : (i : ℕ) → i < k → factorOf l i ≡ factorOf m i
   factor-same i lt =
-      ap₂ Factor.Of (number-same l m (pairBytes * i + factorAt) longBytes (λ j o. agree (pairBytes * i + factorAt + j) (omega arith)))
+      ap₂ Factor.Of (number-alike l m (pairBytes * i + factorAt) (pairBytes * i + factorAt) longBytes (λ j o. agree (pairBytes * i + factorAt + j) (omega arith)))
       (agree (pairBytes * i + baseAt) (omega arith))
 
   -- a symbol that was found is found where it was

@@ -13,15 +13,17 @@ use Rattle.pages.specs.Quant.{allTo}
 use Rattle.pages.specs.Bytes.{within, put}
 use Rattle.pages.specs.Pad.{pad}
 use Rattle.pages.proofs.Quant.{and-true, all-each}
+use Rattle.pages.proofs.Bytes.{number-alike}
 use Rattle.pages.proofs.Pad.{put-pad}
 use Rattle.kinds.specs.Kinds.{fixedMax, isNamed, isStored, fewest, most, constVariant}
 use Rattle.kinds.proofs.Const.{Keeps, variant-keeps}
-use Rattle.types.specs.Store.{headBytes, childBytes, childrenAt, kindAt, childAt, nameAt, sizeAt, entryAt, isBelow, childrenBelow, partsAt, Formed}
+use Rattle.types.specs.Store.{headBytes, childBytes, nameBytes, childrenAt, kindAt, childAt, nameAt, sizeAt, entryAt, isBelow, childrenBelow, partsAt, Formed}
 use Rattle.types.specs.Types.{typesIn, placeOf, kindOf, Measured}
 use Rattle.types.specs.Making.{entryMax, Enterable, Ready, enterAnswer, enterPage}
 use Rattle.types.specs.Calls.{constEntry, constAnswer, constPage}
 use Rattle.types.specs.declared.Made.{Made}
 use Rattle.types.proofs.Store.{size-head, size-named, size-children, child-below, entry-part}
+use Rattle.types.proofs.Width.{name-width}
 use Rattle.types.proofs.Types.{all-good, kind-entry, arity-entry, few-children, entry-inside}
 use Rattle.types.proofs.Grown.{kind-alike, size-alike, parts-alike}
 
@@ -47,10 +49,13 @@ module _ (e : List ℕ) (two : headBytes ≤ length e) (g : Keeps (kindAt e 0)) 
   child-turned i =
       ap₂ (λ (x y : ℕ). x * 256 + y) (same (0 + headBytes + childBytes * i) (omega arith)) (same (0 + headBytes + childBytes * i + 1) (omega arith))
 
+  name-turned : nameAt turned 0 ≡ nameAt e 0
+  name-turned = number-alike turned e (0 + headBytes) (0 + headBytes) nameBytes (λ i l. same (0 + headBytes + i) (omega arith))
+
   parts-turned : (n t u : ℕ) → t ≤ u → partsAt e n t 0 ≡ true → partsAt turned n u 0 ≡ true
   unfolding partsAt
   parts-turned n t u h p =
-      rw (kind-turned, g .stored, g .named, g .few, g .many, same 0 (omega arith), same 2 (omega arith))
+      rw (kind-turned, g .stored, g .named, g .few, g .many, same 0 (omega arith), name-turned)
       (go (isNamed (kindAt e 0)) (and-true (isStored (kindAt e 0)) _ p .1))
     where
       lower : (i : ℕ) → childAt e 0 i < t → childAt e 0 i < u
@@ -116,7 +121,7 @@ module _ (page : List ℕ) (f : Formed page) (t : ℕ) (l : fixedMax ≤ t) (u :
   const-small = go (isNamed (kindAt page (placeOf page t))) refl
     where
       go : (b : Bool) → isNamed (kindAt page (placeOf page t)) ≡ b → sizeAt page (placeOf page t) ≤ entryMax
-      go true h = omega (arith, size-named page (placeOf page t) h)
+      go true h = omega (arith, size-named page (placeOf page t) h, name-width)
       go false h = omega (arith, size-children page (placeOf page t) h, arity-entry page t l, few-children page f t u)
 
   -- the part of the page that it is copied from

@@ -2,23 +2,25 @@
 use mathlib.Core.Path.{_≡_, refl, sym, _∙_, ap}
 use mathlib.Core.Bool.{Bool, true, false, _&&_, _||_, not, cond}
 use mathlib.Core.List.{List, [], _∷_, _++_}
-use Prim.Native.Nat.{ℕ, zero, suc, _+_, _-_, _*_, _<_, _≤_}
+use Prim.Native.Nat.{ℕ, zero, suc, _+_, _-_, _*_, _^_, _<_, _≤_}
 use native.Mathlib.Nat.{sub-zero, not-suc-le-zero, le-of-suc-le-suc, div-add-mod'}
 use native.Mathlib.Numerals.{add-one}
 use native.Mathlib.Omega.{arith}
 use lib.Dec.{ltb, eqb}
 use lib.ListN.{length, getD, take, drop, replicate, drop-of-length-le}
 use lib.Seq.{drop-cons, take-suc, take-length, length-take-le}
-use borrow.Author.Tests.{lt-ltb, le-ltb}
-use Rattle.pages.specs.Bytes.{within, wordAt, bytesOf, put}
+use borrow.Author.Tests.{lt-ltb, le-ltb, ltb-true}
+use Rattle.pages.specs.Bytes.{within, wordAt, bytesOf, bigEndian, put}
 use Rattle.pages.specs.Pad.{pad}
 use Rattle.pages.proofs.Quant.{and-true, all-each}
+use Rattle.pages.proofs.Bytes.{big-length, number-back, number-most}
 use Rattle.pages.proofs.Put.{put-none, put-append}
 use Rattle.pages.proofs.Pad.{length-pad, put-pad, pad-front}
 use Rattle.kinds.specs.Kinds.{childrenMax, isNamed, isStored, fewest, most}
 use Rattle.types.specs.Store.{headBytes, childBytes, nameBytes, childrenAt, kindAt, childAt, nameAt, sizeAt, isBelow, childrenBelow, partsAt}
 use Rattle.types.specs.Making.{words, entryOf, entryMax}
 use Rattle.types.specs.Calls.{allBelow}
+use Rattle.types.proofs.Width.{byte-name}
 
 -- ---- numbers of types, two bytes each
 
@@ -91,26 +93,33 @@ module _ (k : ℕ) (cs : List ℕ) (m : ℕ) where
   unfolding entryOf
   entry-kind = go (isNamed k)
     where
-      go : (b : Bool) → getD (cond b (0 ∷ k ∷ m ∷ []) (length cs ∷ k ∷ words cs)) 1 0 ≡ k
+      go : (b : Bool) → getD (cond b (0 ∷ k ∷ bigEndian nameBytes m) (length cs ∷ k ∷ words cs)) 1 0 ≡ k
       go true = refl
       go false = refl
 
   module _ (h : isNamed k ≡ true) where
-    named-is : entryOf k cs m ≡ 0 ∷ k ∷ m ∷ []
+    named-is : entryOf k cs m ≡ 0 ∷ k ∷ bigEndian nameBytes m
     unfolding entryOf
     named-is = rw h
 
     pub entry-childless : childrenAt (entryOf k cs m) 0 ≡ 0
     entry-childless = rw named-is
 
-    pub entry-name : nameAt (entryOf k cs m) 0 ≡ m
-    entry-name = rw named-is
+    name-bytes : (i : ℕ) → i < nameBytes → getD (entryOf k cs m) (0 + headBytes + i) 0 ≡ getD (bigEndian nameBytes m) i 0
+    name-bytes i l = let e : 0 + headBytes + i ≡ suc (suc i) = omega arith in rw (named-is, e) refl
+
+    -- a name that fits is read as it was written, and another as a smaller one
+    pub entry-name : m < 256 ^ nameBytes → nameAt (entryOf k cs m) 0 ≡ m
+    entry-name s = number-back (entryOf k cs m) (0 + headBytes) m nameBytes s name-bytes
+
+    name-most : nameAt (entryOf k cs m) 0 ≤ m
+    name-most = number-most (entryOf k cs m) (0 + headBytes) m nameBytes name-bytes
 
     pub named-size : headBytes + nameBytes ≡ length (entryOf k cs m)
-    named-size = rw named-is
+    named-size = rw (named-is, big-length nameBytes m) (omega arith)
 
-    pub named-made : put (replicate entryMax 0) 0 (0 ∷ k ∷ m ∷ []) ≡ pad entryMax 0 (entryOf k cs m)
-    named-made = rw named-is (put-pad entryMax (0 ∷ k ∷ m ∷ []) (omega arith))
+    pub named-made : m < 256 → put (replicate entryMax 0) 0 (0 ∷ k ∷ m ∷ []) ≡ pad entryMax 0 (entryOf k cs m)
+    named-made s = rw (named-is, byte-name m s) (put-pad entryMax (0 ∷ k ∷ m ∷ []) (omega arith))
 
   module _ (h : isNamed k ≡ false) where
     other-is : entryOf k cs m ≡ length cs ∷ k ∷ words cs
@@ -155,7 +164,8 @@ module _ (k : ℕ) (cs : List ℕ) (m : ℕ) where
       where
         go : (b : Bool) → isNamed k ≡ b → cond b (eqb (childrenAt (entryOf k cs m) 0) 0 && ltb (nameAt (entryOf k cs m) 0) n)
             (within (fewest k) (most k) (childrenAt (entryOf k cs m) 0) && childrenBelow (entryOf k cs m) 0 t) ≡ true
-        go true e = rw (entry-childless e, entry-name e) (rw e at v)
+        go true e =
+            rw (entry-childless e, lt-ltb (nameAt (entryOf k cs m) 0) n (omega (arith, name-most e, ltb-true m n (rw e at v)))) refl
         go false e =
             rw (entry-children e, w)
             (all-each (length cs) (isBelow (entryOf k cs m) 0 t) (λ i l. rw (entry-child e i l) (below-at cs t u i l)))

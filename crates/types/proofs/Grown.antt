@@ -14,7 +14,7 @@ use borrow.Author.Tests.{lt-ltb, le-ltb, le-leb, ltb-true, ltb-false, eqb-true}
 use Rattle.pages.specs.Quant.{allTo}
 use Rattle.pages.specs.Bytes.{eqs, zeros, within, countBytes, wordAt, countOf, bytesOf, put}
 use Rattle.pages.proofs.Quant.{and-true, all-cong, all-more, all-each, first-cong}
-use Rattle.pages.proofs.Bytes.{zeros-drop}
+use Rattle.pages.proofs.Bytes.{zeros-drop, number-alike}
 use Rattle.pages.proofs.Put.{put-length, put-before, put-after, put-in, put-drop}
 use Rattle.kinds.specs.Kinds.{fixedMax, isNamed, isStored, fewest, most}
 use Rattle.types.specs.Store.{entriesMax, depthMax, headBytes, childBytes, nameBytes, childrenAt, kindAt, childAt, nameAt, sizeAt, entryAt, offset, depthIn, larger, deepest, depthAt, depths, isBelow, childrenBelow, partsAt, isEntry, equalTo, goodAt, formed, Formed}
@@ -49,7 +49,10 @@ module _ (q p : List ℕ) (o u : ℕ) (same : (i : ℕ) → i < sizeAt p u → g
       rw (a, b, d, e) (ap₂ (λ (x y : ℕ). x * 256 + y) (same (headBytes + childBytes * i) (omega arith)) (same (headBytes + childBytes * i + 1) (omega arith)))
 
   pub name-alike : isNamed (kindAt p u) ≡ true → nameAt q o ≡ nameAt p u
-  name-alike h = same headBytes (omega (arith, size-named p u h))
+  name-alike h = number-alike q p (o + headBytes) (u + headBytes) nameBytes (λ i l.
+      let a : o + headBytes + i ≡ o + (headBytes + i) = omega arith in
+      let b : u + headBytes + i ≡ u + (headBytes + i) = omega arith in
+      rw (a, b) (same (headBytes + i) (omega (arith, size-named p u h))))
 
   pub entry-alike : o + sizeAt p u ≤ length q → u + sizeAt p u ≤ length p → entryAt q o ≡ entryAt p u
   entry-alike lq lp =

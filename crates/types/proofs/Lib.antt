@@ -1,6 +1,7 @@
 -- Laws that the proofs of this crate, and of the crates above it, cite.
 pub mod Recur
 pub mod Store
+pub mod Width
 pub mod Form
 pub mod Types
 pub mod Grown

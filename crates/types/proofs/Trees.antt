@@ -13,7 +13,7 @@ use borrow.Author.Tests.{lt-ltb, le-ltb, ltb-true, ltb-false, leb-true}
 use Rattle.pages.specs.Bytes.{eqs, wordAt, countOf}
 use Rattle.pages.specs.Quant.{anyTo}
 use Rattle.pages.proofs.Quant.{and-true, any-found, first-below, first-missed}
-use Rattle.pages.proofs.Bytes.{eqs-refl}
+use Rattle.pages.proofs.Bytes.{eqs-refl, number-same, number-two}
 use Rattle.kinds.specs.Kinds.{fixedMax, isNamed, isStored}
 use Rattle.types.specs.Store.{headBytes, childBytes, nameBytes, childrenAt, kindAt, childAt, nameAt, sizeAt, entryAt, offset, partsAt, isEntry, equalTo, Formed}
 use Rattle.types.specs.Types.{typesIn, placeOf, kindOf, arity, childOf, nameOf}
@@ -59,12 +59,7 @@ module _ (page : List ℕ) (f : Formed page) where
 
 -- words that are equal have equal bytes
 word-same : (page : List ℕ) → Bytes page → (o u : ℕ) → wordAt page o ≡ wordAt page u → (i : ℕ) → i < 2 → getD page (o + i) 0 ≡ getD page (u + i) 0
-word-same page b o u w zero l =
-    let p : o + 0 ≡ o = omega arith in
-    let q : u + 0 ≡ u = omega arith in
-    rw (p, q) (omega (arith, w, b (o + 1), b (u + 1)))
-word-same page b o u w (suc zero) l = omega (arith, w, b (o + 1), b (u + 1))
-word-same page b o u w (suc (suc i)) l = absurd (omega arith)
+word-same page b o u w = number-same page b o u 2 (number-two page o ∙ w ∙ sym (number-two page u))
 
 words-same : (page : List ℕ) → Bytes page → (o u n : ℕ) → ((j : ℕ) → j < n → wordAt page (o + childBytes * j) ≡ wordAt page (u + childBytes * j))
     → (i : ℕ) → i < childBytes * n → getD page (o + i) 0 ≡ getD page (u + i) 0
@@ -92,11 +87,7 @@ module _ (page : List ℕ) (b : Bytes page) (o u : ℕ) (kind : kindAt page o �
   body-same i l = go (isNamed (kindAt page u)) refl
     where
       go : (x : Bool) → isNamed (kindAt page u) ≡ x → getD page (o + headBytes + i) 0 ≡ getD page (u + headBytes + i) 0
-      go true e =
-          let z : i ≡ 0 = omega (arith, l, size-named page u e) in
-          let p : o + headBytes + 0 ≡ o + headBytes = omega arith in
-          let q : u + headBytes + 0 ≡ u + headBytes = omega arith in
-          rw (z, p, q) (name e)
+      go true e = number-same page b (o + headBytes) (u + headBytes) nameBytes (name e) i (omega (arith, l, size-named page u e))
       go false e = words-same page b (o + headBytes) (u + headBytes) (childrenAt page u) (child e) i (omega (arith, l, size-children page u e))
 
   byte-same : (i : ℕ) → i < sizeAt page u → getD page (o + i) 0 ≡ getD page (u + i) 0

@@ -193,7 +193,7 @@ module _ (page : List ℕ) (f : Formed page) where
               absurd (omega (arith, ltb-true t fixedMax e, leb-true 32 t (and-true (leb 32 t) _ k .0)))
           go false e = ltb-false t fixedMax e
 
-      pub name-inside : placeOf page t + headBytes < length page
+      pub name-inside : placeOf page t + headBytes + nameBytes ≤ length page
       name-inside = omega (arith, entry-inside name-above, size-named page (placeOf page t) (rw (kind-entry page t name-above) h))
 
 -- the offset of an entry stands in the table

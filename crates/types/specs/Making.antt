@@ -9,9 +9,9 @@ use Rattle.refusals.specs.Lowest.{_when_, lowest, unlessRefused}
 use Rattle.refusals.specs.declared.Refusal.the-variants.{Depth, Full}
 use Rattle.refusals.specs.declared.Verdict.{Verdict}
 use Rattle.refusals.specs.declared.Verdict.the-variants.{Passed, Refused}
-use Rattle.pages.specs.Bytes.{countBytes, countOf, bytesOf, put}
+use Rattle.pages.specs.Bytes.{countBytes, countOf, bytesOf, bigEndian, put}
 use Rattle.kinds.specs.Kinds.{fixedMax, childrenMax, isNamed}
-use Rattle.types.specs.Store.{entriesMax, depthMax, headBytes, childBytes, sizeAt, offset, depthAt, depths, partsAt, equalTo, Formed}
+use Rattle.types.specs.Store.{entriesMax, depthMax, headBytes, childBytes, nameBytes, sizeAt, offset, depthAt, depths, partsAt, equalTo, Formed}
 use Rattle.types.specs.Types.{typesIn, Measured}
 use Rattle.types.specs.declared.Made.{Made}
 
@@ -24,7 +24,7 @@ words (c ∷ cs) = c / 256 ∷ c % 256 ∷ words cs
 
 -- "a child-count byte (0 beside a name) and a T body": of a kind with a name that name, of another kind its children
 unfoldable pub entryOf : ℕ → List ℕ → ℕ → List ℕ
-entryOf k children name = cond (isNamed k) (0 ∷ k ∷ name ∷ []) (length children ∷ k ∷ words children)
+entryOf k children name = cond (isNamed k) (0 ∷ k ∷ bigEndian nameBytes name) (length children ∷ k ∷ words children)
 
 -- how many bytes an entry takes at most
 abbrev pub entryMax : ℕ

@@ -7,7 +7,7 @@ use Prim.Native.Nat.{ℕ, zero, suc, _+_, _-_, _*_, _<_, _≤_}
 use lib.Dec.{ltb, leb, eqb}
 use lib.ListN.{length, getD, take, drop}
 use Rattle.pages.specs.Quant.{allTo, firstTo}
-use Rattle.pages.specs.Bytes.{eqs, zeros, within, countBytes, wordAt, countOf}
+use Rattle.pages.specs.Bytes.{eqs, zeros, within, countBytes, wordAt, countOf, numberAt}
 use Rattle.kinds.specs.Kinds.{fixedMax, isNamed, isStored, fewest, most}
 
 -- "At most 4,096", the fixed ones among them
@@ -32,8 +32,8 @@ headBytes = 2
 abbrev pub childBytes : ℕ
 childBytes = 2
 
--- and a name
-abbrev pub nameBytes : ℕ
+-- and a name; a law that does not unfold it holds of every width (#105)
+unfoldable pub nameBytes : ℕ
 nameBytes = 1
 
 -- its child count
@@ -50,7 +50,7 @@ childAt page o i = wordAt page (o + headBytes + childBytes * i)
 
 -- its name's number
 abbrev pub nameAt : List ℕ → ℕ → ℕ
-nameAt page o = getD page (o + headBytes) 0
+nameAt page o = numberAt page (o + headBytes) nameBytes
 
 -- how many bytes it takes
 unfoldable pub sizeAt : List ℕ → ℕ → ℕ

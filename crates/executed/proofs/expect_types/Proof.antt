@@ -4,7 +4,7 @@ use native.Mathlib.Omega.{arith}
 use Rattle.pages.specs.Quant.{allTo, anyTo, firstTo}
 use Rattle.pages.specs.Bytes.{eqs, zeros}
 use Rattle.kinds.specs.Kinds.{fewest, most, constMatches}
-use Rattle.types.specs.Store.{sizeAt, offset, deepest, depths, depthIn, partsAt, goodAt, formed}
+use Rattle.types.specs.Store.{nameBytes, sizeAt, offset, deepest, depths, depthIn, partsAt, goodAt, formed}
 use Rattle.types.specs.Types.{kindOf, arity, childOf}
 use Rattle.types.specs.Recur.{run, cov}
 use Rattle.matching.specs.Matching.{nullArrayElision, arrayElision, nullMapElision, mapElision, recordMatches, enumMatches, setMatches, handleMatches, flatMatches, wild, plainMatches, anyRule, knownMatches}
@@ -35,7 +35,7 @@ slice-aggregate-expect-unified-3 : tie.Need-slice-aggregate-expect-unified-3
 slice-aggregate-expect-unified-3 c = search needs
 
 expect-unified-requires-3 : tie.Need-expect-unified-requires-3
-unfolding formed goodAt partsAt fewest most offset sizeAt depths deepest depthIn eqs zeros allTo anyTo firstTo
+unfolding formed goodAt partsAt fewest most offset sizeAt nameBytes depths deepest depthIn eqs zeros allTo anyTo firstTo
     unify unifyRule allPairs cov run kindOf arity
 expect-unified-requires-3 c κs = (refl, ((omega arith, omega arith), refl))
 

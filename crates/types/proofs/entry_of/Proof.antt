@@ -3,6 +3,7 @@ use mathlib.Core.Path.{sym, _∙_}
 use native.Mathlib.Omega.{arith}
 use denote.Ref.{now}
 use Rattle.types.proofs.Entries.{named-size, named-made, other-size, other-made}
+use Rattle.types.proofs.Width.{name-width}
 use borrow.Author.Needs.{needs}
 use Rattle.types.proofs.entry_of.Statement.{statement}
 use Rattle.types.proofs.entry_of.Tie as tie
@@ -33,8 +34,8 @@ returns c =
     let if1 = c .before .before .before .before .if1 in
     let a = start .args in
     let h = sym (is-named .ensures) ∙ if1 .taken in (
-      c .before .put-bytes .ensures ∙ rw (no-bytes .ensures) (named-made (a .kind) (now (a .children)) (a .name) h),
-      named-size (a .kind) (now (a .children)) (a .name) h,
+      c .before .put-bytes .ensures ∙ rw (no-bytes .ensures) (named-made (a .kind) (now (a .children)) (a .name) h (omega arith)),
+      omega (arith, named-size (a .kind) (now (a .children)) (a .name) h, name-width),
       omega arith,
     )
 

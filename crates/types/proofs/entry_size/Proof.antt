@@ -3,7 +3,7 @@ use mathlib.Core.Path.{sym, _∙_}
 use native.Mathlib.Omega.{arith}
 use denote.Ref.{now}
 use Rattle.types.proofs.Store.{size-named, size-children}
-use borrow.Author.Needs.{needs}
+use Rattle.types.proofs.Width.{name-width}
 use borrow.Author.Needs.{needs}
 use Rattle.types.proofs.entry_size.Statement.{statement}
 use Rattle.types.proofs.entry_size.Tie as tie
@@ -23,7 +23,8 @@ add-result c = search needs
 returns : tie.Need-returns
 returns c =
     let start = c .before .before .before .before in
-    (size-named (now (start .args .page)) (start .args .o) (sym (c .before .is-named .ensures) ∙ c .if1 .taken), omega arith)
+    let e = size-named (now (start .args .page)) (start .args .o) (sym (c .before .is-named .ensures) ∙ c .if1 .taken) in
+    (omega (arith, e, name-width), omega arith)
 
 shared-slice-read-index : tie.Need-shared-slice-read-index
 shared-slice-read-index c = search needs

@@ -4,7 +4,7 @@ use native.Mathlib.Omega.{arith}
 use denote.Ref.{now}
 use borrow.Author.Tests.{not-true, not-false}
 use Rattle.types.proofs.Store.{size-named, size-children, parts-unstored, parts-childful, parts-name, parts-few, parts-many, parts-rest}
-use borrow.Author.Needs.{needs}
+use Rattle.types.proofs.Width.{name-width, name-byte}
 use borrow.Author.Needs.{needs}
 use Rattle.types.proofs.has_parts.Statement.{statement}
 use Rattle.types.proofs.has_parts.Tie as tie
@@ -51,7 +51,7 @@ shared-slice-read-symbol-index : tie.Need-shared-slice-read-symbol-index
 shared-slice-read-symbol-index c =
     let start = c .before .before .before .before .before .before .before .before .before .before in
     let m = sym (c .before .before .before .is-named .ensures) ∙ c .before .before .if2 .taken in
-    omega (arith, size-named (now (start .args .page)) (start .args .o) m, start .pre .1)
+    omega (arith, size-named (now (start .args .page)) (start .args .o) m, name-width, start .pre .1)
 
 symbol-index-requires : tie.Need-symbol-index-requires
 symbol-index-requires c κs = search needs
@@ -66,7 +66,7 @@ returns-3 c =
     let a = start .args in
     let s = sym (is-stored .ensures) ∙ not-false (is-stored .result) (if1 .left) in
     let m = sym (is-named .ensures) ∙ c .before .before .before .if2 .taken in
-    rw (c .symbol-index .ensures .0) (parts-name (now (a .page)) (a .n) (a .t) (a .o) s m (rw (index .ensures .0) at (c .before .before .if3 .left)))
+    rw (c .symbol-index .ensures .0, ← name-byte (now (a .page)) (a .o)) (parts-name (now (a .page)) (a .n) (a .t) (a .o) s m (rw (index .ensures .0) at (c .before .before .if3 .left)))
 
 fewest-requires : tie.Need-fewest-requires
 fewest-requires c κs = search needs
