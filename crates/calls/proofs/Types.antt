@@ -1,15 +1,12 @@
 -- A type that is read, as bytes: how they are made, and that depth and children find their places. Assumes nothing.
 use mathlib.Core.Path.{_≡_, refl, _∙_, ap}
-use mathlib.Core.Bool.{Bool, true, false, not}
+use mathlib.Core.Bool.{Bool, not}
 use mathlib.Core.List.{List, [], _∷_}
-use mathlib.Core.Logic.{⊎-elim}
-use Prim.Native.Nat.{ℕ, zero, suc, _-_, _<_, _≤_}
-use native.Mathlib.Nat.{not-suc-le-zero, eq-or-lt-of-le}
+use Prim.Native.Nat.{ℕ, _<_, _≤_}
 use native.Mathlib.Omega.{arith}
 use lib.Dec.{ltb}
-use lib.ListN.{length, getD, replicate, length-append, List·getD-append}
-use lib.Seq.{getD-at}
-use borrow.Author.Tests.{ltb-true, ltb-false, not-false}
+use lib.ListN.{length, replicate}
+use borrow.Author.Tests.{ltb-true, not-false}
 use Rattle.refusals.specs.Lowest.{_when_}
 use Rattle.refusals.specs.declared.Refusal.the-variants.{Broken, Unused}
 use Rattle.refusals.specs.declared.Verdict.{Verdict}
@@ -20,13 +17,14 @@ use Rattle.pages.specs.Pad.{pad}
 use Rattle.pages.proofs.Pad.{length-pad}
 use Rattle.pages.proofs.Put.{put-append, put-whole}
 use Rattle.names.specs.Calls.{usedOf}
-use Rattle.kinds.specs.Kinds.{fixedMax, childrenMax}
-use Rattle.types.specs.Store.{offset, depthIn, depthAt, depths, Formed}
+use Rattle.kinds.specs.Kinds.{childrenMax}
+use Rattle.types.specs.Store.{depths, Formed}
 use Rattle.types.specs.Types.{typesIn}
 use Rattle.types.specs.Making.{entryMax}
 use Rattle.types.specs.Calls.{storeBroken, typeAt, readVerdict, shown, readAnswer}
-use Rattle.types.proofs.Store.{depth-fixed, depth-entry}
-use Rattle.types.proofs.Types.{arity-fixed, all-good, few-children}
+use Rattle.types.proofs.Store.{depth-fixed}
+use Rattle.types.proofs.Types.{arity-fixed, few-children}
+use Rattle.types.proofs.Depth.{type-flat}
 use Rattle.types.proofs.Calls.{unbroken-both}
 use Rattle.calls.specs.Types.{typeBytes}
 
@@ -38,34 +36,6 @@ type-made d e body is =
     put-append (replicate typeBytes 0) 0 (d ∷ []) body (omega (arith, n))
     ∙ put-whole (replicate typeBytes 0) (d ∷ body) (omega (arith, n))
     ∙ ap (λ (l : List ℕ). d ∷ l) is
-
--- ---- a depth fits in a byte
-
-module _ (page : List ℕ) where
-  depths-length : (n : ℕ) → length (depths page n) ≡ n
-  unfolding depths
-  depths-length zero = refl
-  depths-length (suc n) =
-      length-append (depths page n) (depthAt page (depths page n) (offset page n) ∷ []) ∙ rw (depths-length n) (omega arith)
-
-  depths-at : (n j : ℕ) → j < n → getD (depths page n) j 0 ≡ depthAt page (depths page j) (offset page j)
-  unfolding depths
-  depths-at zero j h = absurd (not-suc-le-zero h)
-  depths-at (suc n) j h =
-      let x = depthAt page (depths page n) (offset page n) in
-      ⊎-elim (λ (e : j ≡ n). rw e (getD-at (depths page n) x [] 0 n (depths-length n)))
-      (λ (l : j < n). List·getD-append (depths page n) (x ∷ []) 0 j (rw (depths-length n) l) ∙ depths-at n j l)
-      (eq-or-lt-of-le {n = j} {m = n} (omega arith))
-
-  depth-few : Formed page → (t : ℕ) → t < typesIn page → depthIn (depths page (countOf page)) t < 256
-  depth-few f t u = go (ltb t fixedMax) refl
-    where
-      go : (b : Bool) → ltb t fixedMax ≡ b → depthIn (depths page (countOf page)) t < 256
-      go true e = omega (arith, depth-fixed (depths page (countOf page)) t (ltb-true t fixedMax e))
-      go false e =
-          let l = ltb-false t fixedMax e in
-          rw (← depth-entry (depths page (countOf page)) t l, depths-at (countOf page) (t - fixedMax) (omega arith))
-          (omega (arith, all-good page f (t - fixedMax) (omega arith) .flat))
 
 -- what is read, Null beside a refusal too, finds its places
 pub read-small : (page names : List ℕ) (lent : Bool) (t : ℕ)
@@ -79,5 +49,5 @@ read-small page names lent t = go (readVerdict page names lent t) refl
         let b = passed-parts Unused (not (ltb t (typesIn page))) [] (a .1) in
         let f : Formed page = record { names = usedOf names lent; form = unbroken-both page names lent (a .0) .1 } in
         let u = ltb-true t (typesIn page) (not-false (ltb t (typesIn page)) (b .0)) in
-        (depth-few page f t u, few-children page f t u)
+        (omega (arith, type-flat page f t u), few-children page f t u)
     go (Refused r) e = (omega (arith, depth-fixed (depths page (countOf page)) 0 (omega arith)), omega (arith, arity-fixed page 0 (omega arith)))

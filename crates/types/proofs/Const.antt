@@ -1,6 +1,6 @@
 -- A type's const form: its entry, and one law for each return. Assumes nothing.
 use mathlib.Core.Path.{_≡_, refl, sym, _∙_, ap, ap₂}
-use mathlib.Core.Bool.{Bool, true, false, _&&_, cond}
+use mathlib.Core.Bool.{Bool, true, false, _&&_, not, cond}
 use mathlib.Core.List.{List, [], _∷_}
 use Prim.Native.Nat.{ℕ, zero, suc, _+_, _-_, _*_, _<_, _≤_}
 use native.Mathlib.Nat.{not-suc-le-zero, le-of-suc-le-suc}
@@ -8,24 +8,29 @@ use native.Mathlib.Omega.{arith}
 use lib.Dec.{ltb, eqb}
 use lib.ListN.{length, getD, take, drop, set, replicate, length-set, length-drop, length-replicate}
 use lib.Seq.{getD-take, getD-drop, getD-set-same, getD-set-other, length-take-le}
-use borrow.Author.Tests.{lt-ltb, le-ltb}
+use borrow.Author.Tests.{lt-ltb, le-ltb, ltb-false}
+use Rattle.refusals.specs.Lowest.{_when_, lowest}
+use Rattle.refusals.specs.declared.Refusal.{Refusal}
+use Rattle.refusals.specs.declared.Refusal.the-variants.{Depth, Full}
 use Rattle.pages.specs.Quant.{allTo}
-use Rattle.pages.specs.Bytes.{within, put}
+use Rattle.pages.specs.Bytes.{within, countOf, put}
 use Rattle.pages.specs.Pad.{pad}
 use Rattle.pages.proofs.Quant.{and-true, all-each}
 use Rattle.pages.proofs.Bytes.{number-alike}
 use Rattle.pages.proofs.Pad.{put-pad}
 use Rattle.kinds.specs.Kinds.{fixedMax, isNamed, isStored, fewest, most, constVariant}
 use Rattle.kinds.proofs.Const.{Keeps, variant-keeps}
-use Rattle.types.specs.Store.{headBytes, childBytes, nameBytes, childrenAt, kindAt, childAt, nameAt, sizeAt, entryAt, isBelow, childrenBelow, partsAt, Formed}
+use Rattle.types.specs.Store.{depthMax, headBytes, childBytes, nameBytes, childrenAt, kindAt, childAt, nameAt, sizeAt, entryAt, depthIn, larger, deepest, depthAt, depths, isBelow, childrenBelow, partsAt, equalTo, Formed}
 use Rattle.types.specs.Types.{typesIn, placeOf, kindOf, Measured}
-use Rattle.types.specs.Making.{entryMax, Enterable, Ready, enterAnswer, enterPage}
+use Rattle.types.specs.Making.{entryMax, Enterable, Ready, isMade, depthOf, roomy, numbered, enterVerdict, enterAnswer, enterPage}
 use Rattle.types.specs.Calls.{constEntry, constAnswer, constPage}
 use Rattle.types.specs.declared.Made.{Made}
 use Rattle.types.proofs.Store.{size-head, size-named, size-children, child-below, entry-part}
 use Rattle.types.proofs.Width.{name-width}
+use Rattle.types.proofs.Form.{parts-children}
 use Rattle.types.proofs.Types.{all-good, kind-entry, arity-entry, few-children, entry-inside}
-use Rattle.types.proofs.Grown.{kind-alike, size-alike, parts-alike}
+use Rattle.types.proofs.Depth.{entry-flat}
+use Rattle.types.proofs.Grown.{kind-alike, size-alike, parts-alike, depth-alike}
 
 -- ---- an entry under another kind that is alike
 
@@ -48,6 +53,14 @@ module _ (e : List ℕ) (two : headBytes ≤ length e) (g : Keeps (kindAt e 0)) 
   child-turned : (i : ℕ) → childAt turned 0 i ≡ childAt e 0 i
   child-turned i =
       ap₂ (λ (x y : ℕ). x * 256 + y) (same (0 + headBytes + childBytes * i) (omega arith)) (same (0 + headBytes + childBytes * i + 1) (omega arith))
+
+  deepest-turned : (ds : List ℕ) (k : ℕ) → deepest turned ds 0 k ≡ deepest e ds 0 k
+  unfolding deepest
+  deepest-turned ds zero = refl
+  deepest-turned ds (suc k) = ap₂ (λ (x y : ℕ). larger x (depthIn ds y)) (deepest-turned ds k) (child-turned k)
+
+  depth-turned : (ds : List ℕ) → depthAt turned ds 0 ≡ depthAt e ds 0
+  depth-turned ds = ap suc (rw (same 0 (omega arith)) (deepest-turned ds (childrenAt e 0)))
 
   name-turned : nameAt turned 0 ≡ nameAt e 0
   name-turned = number-alike turned e (0 + headBytes) (0 + headBytes) nameBytes (λ i l. same (0 + headBytes + i) (omega arith))
@@ -145,6 +158,28 @@ module _ (page : List ℕ) (f : Formed page) (t : ℕ) (l : fixedMax ≤ t) (u :
     parts = rw (← turned-is) (parts-turned e e-two e-keeps (f .names) (fixedMax + (t - fixedMax)) (typesIn page) (omega arith) e-parts);
   }
 
+  -- it is as deep as the type, and so not too deep
+  const-flat : depthOf page (constEntry page t) ≤ depthMax
+  unfolding depthOf
+  const-flat =
+      let ds = depths page (countOf page) in
+      let p = parts-children page (f .names) (fixedMax + (t - fixedMax)) (placeOf page t) (all-good page f (t - fixedMax) (omega arith) .parts) .0 in
+      let d : depthAt (constEntry page t) ds 0 ≡ depthAt page ds (placeOf page t) =
+      rw (← turned-is) (depth-turned e e-two e-keeps ds ∙ depth-alike e page 0 (placeOf page t) e-there ds p) in
+      rw d (entry-flat page f (t - fixedMax) (omega arith))
+
+  -- so only a number or a place can be missing (10)
+  pub const-full : (r : Refusal) → enterAnswer page (constEntry page t) ≡ Made.Refused r → r ≡ Full
+  unfolding enterAnswer enterVerdict
+  const-full r h =
+      go (not (isMade page (constEntry page t))) (not (roomy page (constEntry page t)))
+      (rw (le-ltb depthMax (depthOf page (constEntry page t)) const-flat) at h)
+    where
+      go : (a b : Bool) → numbered (lowest ((Depth when (a && false)) ∷ (Full when (a && b)) ∷ [])) (fixedMax + equalTo page (countOf page) (constEntry page t)) ≡ Made.Refused r → r ≡ Full
+      go true true h = cc
+      go true false h = let z : _≡_ {A = ℕ} 0 1 = cc in absurd (omega arith)
+      go false b h = let z : _≡_ {A = ℕ} 0 1 = cc in absurd (omega arith)
+
   -- and is written like this
   pub const-made : (v : ℕ) → v ≡ constVariant (kindAt page (placeOf page t))
       → set (put (replicate entryMax 0) 0 (entryAt page (placeOf page t))) 1 v ≡ pad entryMax 0 (constEntry page t)
@@ -164,6 +199,15 @@ module _ (page os ds : List ℕ) (m : Measured page os ds) (t : ℕ) where
 
   pub const-ready : fixedMax ≤ t → t < typesIn page → Ready page os ds (constEntry page t)
   const-ready l u = record { measured = m; enterable = const-enterable page (m .held .sound) t l u }
+
+  -- 7 is never its refusal
+  pub const-refused : t < typesIn page → (r : Refusal) → constAnswer page t ≡ Made.Refused r → r ≡ Full
+  unfolding constAnswer
+  const-refused u r h = go (ltb t fixedMax) refl
+    where
+      go : (b : Bool) → ltb t fixedMax ≡ b → r ≡ Full
+      go true e = let w : Made.At (constVariant t) ≡ Made.Refused r = rw e at h in let z : _≡_ {A = ℕ} 0 1 = cc in absurd (omega arith)
+      go false e = const-full page (m .held .sound) t (ltb-false t fixedMax e) u r (rw e at h)
 
   pub const-entered : fixedMax ≤ t → (enterAnswer page (constEntry page t) ≡ constAnswer page t) × (enterPage page (constEntry page t) ≡ constPage page t)
   unfolding constAnswer constPage

@@ -4,6 +4,7 @@ pub mod Store
 pub mod Width
 pub mod Form
 pub mod Types
+pub mod Depth
 pub mod Grown
 pub mod Making
 pub mod Again
