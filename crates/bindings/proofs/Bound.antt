@@ -1,14 +1,13 @@
 -- Bindings: one law for each return, and what bindings in form have. Assumes nothing.
-use mathlib.Core.Path.{_≡_, refl, sym, _∙_}
-use mathlib.Core.Bool.{Bool, true, false, _&&_, cond}
+use mathlib.Core.Path.{_≡_}
+use mathlib.Core.Bool.{Bool, true, false}
 use Prim.Native.Nat.{ℕ, _<_, _≤_}
-use native.Mathlib.Omega.{arith}
 use lib.Dec.{ltb, leb}
 use lib.ListN.{getD}
 use borrow.Author.Tests.{lt-ltb, le-ltb, le-leb, lt-leb, leb-true, ltb-true}
 use Rattle.pages.specs.Quant.{allTo}
 use Rattle.pages.proofs.Quant.{and-true, all-at}
-use Rattle.bindings.specs.Bindings.{bindingsMax, placeIn, isBound, boundTo, goodBinding, formed, Usable}
+use Rattle.bindings.specs.Bindings.{bindingsMax, placeIn, goodBinding, formed, Usable}
 use Rattle.bindings.specs.declared.Bindings.{Bindings}
 
 module _ (n t : ℕ) (b : Bindings) (i : ℕ) where

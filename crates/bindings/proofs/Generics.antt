@@ -3,19 +3,19 @@ use mathlib.Core.Path.{_≡_, refl, sym, _∙_, ap}
 use mathlib.Core.Bool.{Bool, true, false, _||_, _&&_}
 use mathlib.Core.Logic.{⊎-elim}
 use mathlib.Core.List.{List}
-use Prim.Native.Nat.{ℕ, _+_, _<_, _≤_}
+use Prim.Native.Nat.{ℕ, _+_, _<_}
 use native.Mathlib.Nat.{eq-or-lt-of-le}
 use native.Mathlib.Omega.{arith}
 use lib.Dec.{eqb}
-use lib.ListN.{length, getD, set}
+use lib.ListN.{length, set}
 use lib.Seq.{getD-set-same, getD-set-other}
 use borrow.Author.Tests.{eq-eqb, ne-eqb}
 use Rattle.pages.specs.Quant.{anyTo}
-use Rattle.pages.proofs.Quant.{any-cong, any-found}
+use Rattle.pages.proofs.Quant.{any-cong}
 use Rattle.kinds.specs.Kinds.{generic}
 use Rattle.types.specs.Store.{Formed}
 use Rattle.types.specs.Types.{typesIn, kindOf, arity, childOf}
-use Rattle.types.specs.Recur.{below, cov}
+use Rattle.types.specs.Recur.{below}
 use Rattle.types.proofs.Recur.{below-lt, cov-eq}
 use Rattle.types.proofs.Types.{child-lower}
 use Rattle.bindings.specs.Generics.{isEntered, genericRule, hasGeneric, Told}

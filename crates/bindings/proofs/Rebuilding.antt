@@ -5,16 +5,15 @@ use mathlib.Core.Logic.{⊎-elim}
 use mathlib.Core.List.{List, [], _∷_, _++_}
 use Prim.Native.Nat.{ℕ, zero, suc, _+_, _-_, _<_, _≤_}
 use native.Mathlib.Numerals.{add-one}
-use native.Mathlib.Nat.{not-suc-le-zero, le-refl, le-of-suc-le-suc, eq-or-lt-of-le}
+use native.Mathlib.Nat.{le-refl, le-of-suc-le-suc, eq-or-lt-of-le}
 use native.Mathlib.Omega.{arith}
 use lib.Dec.{eqb}
 use lib.ListN.{length, getD, take, set, length-set, replicate, length-replicate}
 use lib.Seq.{take-suc, take-set-le, getD-set-same, getD-set-other, length-take-le}
 use borrow.Author.Tests.{eq-eqb, ne-eqb, eqb-true, eqb-false}
 use Rattle.refusals.specs.declared.Refusal.{Refusal}
-use Rattle.pages.specs.Bytes.{countOf}
 use Rattle.pages.proofs.Bytes.{made-at}
-use Rattle.kinds.specs.Kinds.{childrenMax, generic, isNamed, fewest, most}
+use Rattle.kinds.specs.Kinds.{childrenMax, generic}
 use Rattle.types.specs.Store.{typesMax, Formed}
 use Rattle.types.specs.Types.{typesIn, kindOf, arity, childOf, nameOf, Held, Measured}
 use Rattle.types.specs.Making.{entryOf, Ready, enterAnswer, enterPage, Grows}
@@ -22,10 +21,10 @@ use Rattle.types.specs.declared.Made.{Made}
 use Rattle.types.proofs.Types.{types-few, few-children, arity-within, child-lower}
 use Rattle.types.proofs.Grown.{arity-grown, child-grown, grows-refl, grows-trans}
 use Rattle.types.proofs.Again.{enter-grows}
-use Rattle.bindings.specs.Bindings.{isBound, boundTo, Usable}
+use Rattle.bindings.specs.Bindings.{isBound, boundTo}
 use Rattle.bindings.specs.declared.Bindings.{Bindings}
-use Rattle.bindings.specs.Generics.{isEntered, Outcome, outcome, Kids, so-far, stopped, oneMore, kidNext, kidsTo, rebuilt, substituteRule, substitute, Remembered, Working}
-use Rattle.bindings.proofs.Substitution.{under, substitute-eq, under-is, entered-plain, enterable, more-types, usable-more, Sound, KidsSound, kids-of, substitute-sound, substitute-again}
+use Rattle.bindings.specs.Generics.{isEntered, Outcome, outcome, so-far, stopped, oneMore, kidNext, kidsTo, rebuilt, substituteRule, substitute, Remembered, Working}
+use Rattle.bindings.proofs.Substitution.{under, substitute-eq, under-is, entered-plain, enterable, more-types, usable-more, KidsSound, kids-of, substitute-sound, substitute-again}
 
 -- ---- what is remembered
 

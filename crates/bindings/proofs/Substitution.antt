@@ -1,22 +1,21 @@
 -- `substitute`: it leaves a store in form that has grown (`substitute-sound`), and a type substituted once is found again in every
 -- store that grows out of the one it left (`substitute-again`). Assumes nothing.
-use mathlib.Core.Path.{_≡_, refl, sym, _∙_, ap, ap₂}
-use mathlib.Core.Bool.{Bool, true, false, _||_, _&&_, cond}
+use mathlib.Core.Path.{_≡_, refl, _∙_, ap, ap₂}
+use mathlib.Core.Bool.{Bool, true, false, cond}
 use mathlib.Core.List.{List, [], _∷_, _++_}
-use Prim.Native.Nat.{ℕ, zero, suc, _+_, _<_, _≤_}
+use Prim.Native.Nat.{ℕ, zero, suc, _<_, _≤_}
 use native.Mathlib.Nat.{not-suc-le-zero, le-refl}
 use native.Mathlib.Omega.{arith}
 use lib.Dec.{ltb, leb, eqb}
-use lib.ListN.{length, getD, length-append}
-use borrow.Author.Tests.{lt-ltb, ltb-true, ltb-false, eqb-true, leb-true, le-leb, lt-leb}
+use lib.ListN.{length, length-append}
+use borrow.Author.Tests.{lt-ltb, ltb-true, eqb-true, leb-true, le-leb, lt-leb}
 use Rattle.refusals.specs.declared.Refusal.{Refusal}
-use Rattle.pages.specs.Bytes.{within, countOf}
 use Rattle.pages.proofs.Quant.{and-true}
 use Rattle.kinds.specs.Kinds.{callback, generic, isBuilt, isNamed, isStored, fewest, most}
 use Rattle.types.specs.Store.{Formed}
 use Rattle.types.specs.Types.{typesIn, kindOf, arity, childOf, nameOf}
-use Rattle.types.specs.Recur.{below, cov}
-use Rattle.types.specs.Making.{entryOf, Enterable, enterAnswer, enterPage, Grows}
+use Rattle.types.specs.Recur.{below}
+use Rattle.types.specs.Making.{entryOf, Enterable, enterPage, Grows}
 use Rattle.types.specs.Calls.{allBelow}
 use Rattle.types.specs.declared.Made.{Made}
 use Rattle.types.proofs.Recur.{below-lt, cov-eq}

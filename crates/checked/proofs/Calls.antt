@@ -1,6 +1,6 @@
 -- The calls on checked types: one law for each return. Assumes nothing.
 use mathlib.Core.Path.{_≡_, refl, sym, _∙_, ap}
-use mathlib.Core.Bool.{Bool, true, false, _&&_, _||_, not}
+use mathlib.Core.Bool.{Bool, true, false, _&&_, not}
 use mathlib.Core.List.{List, [], _∷_}
 use Prim.Native.Nat.{ℕ, suc, _+_, _-_, _<_, _≤_}
 use native.Mathlib.Nat.{le-refl}
@@ -11,7 +11,6 @@ use borrow.Author.Tests.{lt-ltb, le-ltb, ltb-true}
 use Rattle.refusals.specs.Lowest.{_when_}
 use Rattle.refusals.specs.declared.Refusal.{Refusal}
 use Rattle.refusals.specs.declared.Refusal.the-variants.{Broken, Unused}
-use Rattle.refusals.specs.declared.Verdict.{Verdict}
 use Rattle.refusals.specs.declared.Verdict.the-variants.{Passed, Refused}
 use Rattle.refusals.specs.declared.Answer.{Answer}
 use Rattle.refusals.proofs.Lowest.{first-holds}
@@ -38,7 +37,7 @@ use Rattle.bindings.proofs.Substitution.{substitute-sound}
 use Rattle.bindings.proofs.Rebuilding.{remembered-none}
 use Rattle.unification.specs.Unification.{unified, unifyArg}
 use Rattle.unification.specs.declared.Unified.{Unified}
-use Rattle.checked.specs.Calls.{verdictOf, answered, given, ofMade, constOf, constAfter, orRefused, matchesAnswer, genericAnswer, intoConst, intoConstPage, bindingsVerdict, substituteAnswer, substitutePage, keptBy, unifyArgAnswer, unifyAnswer}
+use Rattle.checked.specs.Calls.{verdictOf, answered, given, ofMade, constOf, constAfter, matchesAnswer, genericAnswer, intoConst, intoConstPage, bindingsVerdict, substituteAnswer, substitutePage, keptBy, unifyArgAnswer, unifyAnswer}
 use Rattle.checked.specs.declared.Const.{Const}
 
 -- ---- numbers in use

@@ -1,11 +1,10 @@
 -- A type that was entered is found again in every store that grows out of the one it left. Assumes nothing.
-use mathlib.Core.Path.{_≡_, refl, sym, _∙_, ap, ap₂}
-use mathlib.Core.Bool.{Bool, true, false, not, _&&_, cond}
+use mathlib.Core.Path.{_≡_, refl, _∙_, ap}
+use mathlib.Core.Bool.{Bool, true, false, not}
 use mathlib.Core.List.{List, [], _∷_}
-use Prim.Native.Nat.{ℕ, _+_, _-_, _<_, _≤_}
-use native.Mathlib.Nat.{le-refl}
+use Prim.Native.Nat.{ℕ, _+_, _<_, _≤_}
 use native.Mathlib.Omega.{arith}
-use lib.Dec.{ltb, leb, T}
+use lib.Dec.{ltb, leb}
 use lib.ListN.{length}
 use borrow.Author.Tests.{lt-ltb, ltb-true, ltb-false, leb-true, not-false}
 use Rattle.refusals.specs.Lowest.{_when_, lowest}
@@ -16,14 +15,14 @@ use Rattle.refusals.specs.declared.Verdict.the-variants.{Passed, Refused}
 use Rattle.refusals.proofs.Lowest.{passed-parts}
 use Rattle.pages.specs.Bytes.{eqs, countOf}
 use Rattle.pages.specs.Quant.{anyTo}
-use Rattle.pages.proofs.Quant.{and-true, any-cong, first-at, first-le, first-found, first-missed, first-none}
+use Rattle.pages.proofs.Quant.{and-true, any-cong, first-at, first-le, first-found, first-missed}
 use Rattle.pages.proofs.Bytes.{eqs-refl}
 use Rattle.kinds.specs.Kinds.{fixedMax}
-use Rattle.types.specs.Store.{entriesMax, depthMax, entryAt, offset, isEntry, equalTo, Formed}
+use Rattle.types.specs.Store.{entriesMax, depthMax, offset, isEntry, equalTo, Formed}
 use Rattle.types.specs.Types.{typesIn}
 use Rattle.types.specs.Making.{Enterable, isMade, depthOf, roomy, withEntry, numbered, enterVerdict, enterAnswer, enterPage, Grows}
 use Rattle.types.specs.declared.Made.{Made}
-use Rattle.types.proofs.Grown.{entry-grown, grows-refl, grows-trans, with-grows, with-count, with-sound, with-entry}
+use Rattle.types.proofs.Grown.{entry-grown, grows-refl, with-grows, with-count, with-sound, with-entry}
 
 -- ---- what a type that was made left
 

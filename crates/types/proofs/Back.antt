@@ -1,9 +1,9 @@
 -- Taking entries back: what a store was before it grew. Assumes nothing.
 use mathlib.Core.Path.{_≡_, refl, sym, _∙_, ap}
 use mathlib.Core.List.{List, [], _∷_, _++_, append-nil}
-use mathlib.Core.Bool.{Bool, true, false, _&&_}
+use mathlib.Core.Bool.{Bool, true, false}
 use Prim.Native.Nat.{ℕ, zero, suc, _+_, _-_, _<_, _≤_}
-use native.Mathlib.Nat.{le-refl, sub-zero}
+use native.Mathlib.Nat.{le-refl}
 use native.Mathlib.Omega.{arith}
 use lib.ListN.{length, getD, take, drop, replicate, drop-of-length-le, length-append, length-replicate, List·getD-append}
 use lib.Dec.{eqb, ltb}
@@ -17,7 +17,7 @@ use Rattle.types.specs.Store.{offset, Formed}
 use Rattle.types.specs.Making.{takenBack, Grows}
 use Rattle.types.proofs.Store.{offset-start, offset-le}
 use Rattle.types.proofs.Types.{whole, end-inside}
-use borrow.Rule.Slice.PartMut.{midOf, postOf, putMid, mid-len, post-is}
+use borrow.Rule.Slice.PartMut.{midOf, putMid, mid-len, post-is}
 
 -- the end of a page, cleared
 pub end-cleared : (page r : List ℕ) (end : ℕ) → end ≤ length page → r ≡ replicate (length (midOf end (length page - end) page)) 0

@@ -7,22 +7,22 @@ use Prim.Native.Nat.{ℕ, zero, suc, _+_, _-_, _*_, _/_, _%_, _<_, _≤_}
 use native.Mathlib.Numerals.{add-one}
 use native.Mathlib.Nat.{le-refl, eq-or-lt-of-le, div-add-mod'}
 use native.Mathlib.Omega.{arith}
-use lib.Dec.{ltb, leb, eqb}
+use lib.Dec.{ltb, eqb}
 use lib.ListN.{length, getD, take, drop, length-drop, set, length-set}
 use lib.Seq.{getD-take, getD-drop, ext-getD, length-take-le, drop-drop, take-length, take-suc, take-set-le, getD-set-same, getD-set-other}
-use borrow.Author.Tests.{lt-ltb, le-ltb, le-leb, ltb-true, ltb-false, eqb-true}
+use borrow.Author.Tests.{le-leb, ltb-true, ltb-false}
 use Rattle.pages.specs.Quant.{allTo}
-use Rattle.pages.specs.Bytes.{eqs, zeros, within, countBytes, wordAt, countOf, bytesOf, put}
-use Rattle.pages.proofs.Quant.{and-true, all-cong, all-more, all-each, first-cong}
+use Rattle.pages.specs.Bytes.{eqs, zeros, within, countBytes, countOf, bytesOf, put}
+use Rattle.pages.proofs.Quant.{all-cong, all-more, all-each, first-cong}
 use Rattle.pages.proofs.Bytes.{zeros-drop, number-alike}
 use Rattle.pages.proofs.Put.{put-length, put-before, put-after, put-in, put-drop}
 use Rattle.kinds.specs.Kinds.{fixedMax, isNamed, isStored, fewest, most}
-use Rattle.types.specs.Store.{entriesMax, depthMax, headBytes, childBytes, nameBytes, childrenAt, kindAt, childAt, nameAt, sizeAt, entryAt, offset, depthIn, larger, deepest, depthAt, depths, isBelow, childrenBelow, partsAt, isEntry, equalTo, goodAt, formed, Formed}
-use Rattle.types.specs.Types.{typesIn, placeOf, kindOf, arity, childOf, nameOf, Held, Measured}
+use Rattle.types.specs.Store.{entriesMax, depthMax, headBytes, childBytes, nameBytes, childrenAt, kindAt, childAt, nameAt, sizeAt, entryAt, offset, depthIn, larger, deepest, depthAt, depths, isBelow, partsAt, isEntry, equalTo, goodAt, formed, Formed}
+use Rattle.types.specs.Types.{typesIn, placeOf, kindOf, arity, childOf, nameOf, Measured}
 use Rattle.types.specs.Making.{Enterable, depthOf, withEntry, Grows}
-use Rattle.types.proofs.Store.{size-named, size-children, size-head, offset-start, offset-next, offset-le, offset-in}
+use Rattle.types.proofs.Store.{size-named, size-children, size-head, offset-start, offset-le, offset-in}
 use Rattle.types.proofs.Form.{parts-children}
-use Rattle.types.proofs.Types.{Whole, whole, Good, good, all-good, end-inside, kind-fixed, kind-entry, arity-fixed, arity-entry, child-above, name-above}
+use Rattle.types.proofs.Types.{whole, Good, good, all-good, kind-fixed, kind-entry, arity-fixed, arity-entry, child-above, name-above}
 
 -- ---- an entry that stands at o in q as it stands at u in p
 

@@ -1,26 +1,23 @@
 -- A type's number means a tree (`tree-is`), and in a store in form equal trees have equal numbers (`equal-types`). Assumes nothing.
-use mathlib.Core.Path.{_≡_, refl, sym, _∙_, ap, ap₂, fun-ext}
+use mathlib.Core.Path.{_≡_, refl, sym, _∙_, ap, fun-ext}
 use mathlib.Core.Bool.{Bool, true, false, cond}
-use mathlib.Core.Logic.{_⊎_, inl, inr, ⊎-elim}
 use mathlib.Core.List.{List}
 use Prim.Native.Nat.{ℕ, zero, suc, _+_, _-_, _*_, _<_, _≤_}
-use native.Mathlib.Nat.{not-suc-le-zero, eq-or-lt-of-le}
+use native.Mathlib.Nat.{not-suc-le-zero}
 use native.Mathlib.Omega.{arith}
 use lib.Dec.{ltb, leb}
-use lib.ListN.{length, getD, take, drop, length-drop}
-use lib.Seq.{getD-take, getD-drop, ext-getD, length-take-le}
-use borrow.Author.Tests.{lt-ltb, le-ltb, ltb-true, ltb-false, leb-true}
-use Rattle.pages.specs.Bytes.{eqs, wordAt, countOf}
-use Rattle.pages.specs.Quant.{anyTo}
-use Rattle.pages.proofs.Quant.{and-true, any-found, first-below, first-missed}
+use lib.ListN.{length, getD}
+use borrow.Author.Tests.{lt-ltb, ltb-true, ltb-false, leb-true}
+use Rattle.pages.specs.Bytes.{wordAt, countOf}
+use Rattle.pages.proofs.Quant.{and-true, any-found, first-below}
 use Rattle.pages.proofs.Bytes.{eqs-refl, number-same, number-two}
 use Rattle.kinds.specs.Kinds.{fixedMax, isNamed, isStored}
-use Rattle.types.specs.Store.{headBytes, childBytes, nameBytes, childrenAt, kindAt, childAt, nameAt, sizeAt, entryAt, offset, partsAt, isEntry, equalTo, Formed}
+use Rattle.types.specs.Store.{headBytes, childBytes, nameBytes, childrenAt, kindAt, childAt, nameAt, sizeAt, entryAt, offset, partsAt, isEntry, Formed}
 use Rattle.types.specs.Types.{typesIn, placeOf, kindOf, arity, childOf, nameOf}
 use Rattle.types.specs.Recur.{below, cov}
 use Rattle.types.specs.Trees.{Tree, none, node, treeRule, treeOf, Bytes}
 use Rattle.types.proofs.Recur.{below-lt, cov-eq}
-use Rattle.types.proofs.Store.{size-named, size-children, size-head}
+use Rattle.types.proofs.Store.{size-named, size-children}
 use Rattle.types.proofs.Grown.{entry-alike}
 use Rattle.types.proofs.Types.{all-good, kind-fixed, kind-entry, arity-entry, child-lower, entry-inside}
 

@@ -1,11 +1,11 @@
 -- The types of a store in form, by number: one law for each read. Assumes nothing.
-use mathlib.Core.Path.{_≡_, refl, sym, _∙_, ap, subst}
+use mathlib.Core.Path.{_≡_, refl, _∙_}
 use mathlib.Core.Logic.{_⊎_, inl, inr}
 use mathlib.Core.Bool.{Bool, true, false, _&&_, cond}
 use mathlib.Core.List.{List}
 use Prim.Native.Nat.{ℕ, zero, suc, _+_, _-_, _*_, _<_, _≤_}
 use native.Mathlib.Omega.{arith}
-use lib.Dec.{ltb, leb, eqb, T}
+use lib.Dec.{ltb, leb, eqb}
 use lib.ListN.{length, getD, drop}
 use borrow.Author.Tests.{lt-ltb, le-ltb, lt-leb, leb-true, eqb-true, ne-eqb, ltb-true, ltb-false}
 use Rattle.pages.specs.Quant.{allTo}
@@ -13,9 +13,9 @@ use Rattle.pages.specs.Bytes.{zeros, within, countBytes, countOf}
 use Rattle.pages.proofs.Quant.{and-true, all-at}
 use Rattle.pages.proofs.Bytes.{and-false}
 use Rattle.kinds.specs.Kinds.{fixedMax, childrenMax, isNamed, isStored, fewest, most}
-use Rattle.types.specs.Store.{typesMax, entriesMax, depthMax, headBytes, childBytes, nameBytes, childrenAt, kindAt, childAt, nameAt, sizeAt, entryAt, offset, depthAt, depths, childrenBelow, partsAt, equalTo, goodAt, formed, Formed}
-use Rattle.types.specs.Types.{typesIn, placeOf, kindOf, arity, childOf, nameOf, Held}
-use Rattle.types.proofs.Store.{size-named, size-head, offset-start, offset-next, child-below}
+use Rattle.types.specs.Store.{typesMax, entriesMax, depthMax, headBytes, childBytes, nameBytes, childrenAt, kindAt, nameAt, sizeAt, entryAt, offset, depthAt, depths, childrenBelow, partsAt, equalTo, goodAt, formed, Formed}
+use Rattle.types.specs.Types.{typesIn, placeOf, kindOf, arity, childOf, Held}
+use Rattle.types.proofs.Store.{size-named, size-head, child-below}
 use Rattle.types.proofs.Form.{parts-children}
 
 -- ---- what a store in form has

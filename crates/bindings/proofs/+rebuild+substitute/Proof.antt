@@ -1,9 +1,8 @@
 -- `bindings::+rebuild+substitute` meets its contract. Assumes nothing.
-use mathlib.Core.Path.{_≡_, refl, sym, _∙_, ap}
-use Prim.Native.Nat.{_+_, _*_, _-_, _≤_}
+use mathlib.Core.Path.{sym, _∙_}
+use Prim.Native.Nat.{_+_, _*_, _-_, _<_}
 use native.Mathlib.Nat.{sub-zero}
 use native.Mathlib.Omega.{arith}
-use lib.ListN.{length, set, length-set}
 use denote.Ref.{now}
 use borrow.Author.Tests.{not-true, not-false, eq-eqb}
 use Rattle.kinds.specs.Kinds.{generic}
@@ -11,7 +10,7 @@ use Rattle.types.specs.Types.{kindOf}
 use Rattle.bindings.proofs.Substitution.{generic-named}
 use Rattle.bindings.proofs.Rebuilding.{low, done-generic, done-closed, done-before, done-low, done-noted, Kidding, kids-size, kids-start, few-places, child-asks, child-low, child-works, child-number, kids-next, kids-stop, parent-ready, parent-done}
 use borrow.Author.Needs.{needs}
-use Prim.Native.Nat.{ℕ, _<_}
+use Prim.Native.Nat.{ℕ}
 use borrow.Fn.Kinds.{In, Out}
 use borrow.Fn.PlainCycle.{Measures, is, falls, and}
 use Rattle.bindings.proofs.rebuild.Reads as rebuild

@@ -1,7 +1,4 @@
 -- `bindings::is_good` meets its contract. Assumes nothing.
-use mathlib.Core.Path.{_≡_, sym, _∙_, ap}
-use Prim.Native.Nat.{ℕ}
-use lib.Dec.{ltb}
 use Rattle.bindings.proofs.Bound.{good-twice, good-unnamed, good-rest}
 use borrow.Author.Needs.{needs}
 use Rattle.bindings.proofs.is_good.Statement.{statement}

@@ -1,12 +1,8 @@
 -- `checked::into_const` meets its contract. Assumes nothing.
-use mathlib.Core.Path.{_≡_, refl, sym, _∙_, ap}
-use mathlib.Core.Bool.{true, false, not}
-use Prim.Native.Nat.{_≤_, _<_}
-use native.Mathlib.Omega.{arith}
-use lib.ListN.{length}
+use mathlib.Core.Path.{sym, _∙_, ap}
+use mathlib.Core.Bool.{not}
 use denote.Ref.{now}
 use borrow.Author.Tests.{not-true, not-false}
-use Rattle.types.proofs.Types.{whole}
 use Rattle.checked.proofs.Calls.{const-broken, const-unused, const-unknown, const-function, const-known, known-used}
 use borrow.Author.Needs.{needs}
 use Rattle.checked.proofs.into_const.Statement.{statement}

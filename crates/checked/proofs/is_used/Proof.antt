@@ -1,11 +1,5 @@
 -- `checked::is_used` meets its contract. Assumes nothing.
-use mathlib.Core.Path.{_≡_, refl, sym, _∙_, ap}
-use mathlib.Core.Bool.{true, false, not}
-use Prim.Native.Nat.{_≤_, _<_}
-use native.Mathlib.Omega.{arith}
-use lib.ListN.{length}
 use denote.Ref.{now}
-use borrow.Author.Tests.{not-true, not-false}
 use Rattle.types.proofs.Types.{whole}
 use Rattle.checked.proofs.Calls.{used-unknown, used-known, used-function, unused-function}
 use borrow.Author.Needs.{needs}

@@ -1,12 +1,8 @@
 -- `checked::matches` meets its contract. Assumes nothing.
-use mathlib.Core.Path.{_≡_, refl, sym, _∙_, ap}
-use mathlib.Core.Bool.{true, false, not}
-use Prim.Native.Nat.{_≤_, _<_}
-use native.Mathlib.Omega.{arith}
-use lib.ListN.{length}
+use mathlib.Core.Path.{sym, _∙_, ap}
+use mathlib.Core.Bool.{not}
 use denote.Ref.{now}
 use borrow.Author.Tests.{not-true, not-false}
-use Rattle.types.proofs.Types.{whole}
 use Rattle.matching.proofs.Memo.{noted-none}
 use Rattle.checked.proofs.Calls.{matches-broken, matches-left, matches-right, matches-says}
 use borrow.Author.Needs.{needs}

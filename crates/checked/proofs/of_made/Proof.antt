@@ -1,5 +1,5 @@
 -- `checked::of_made` meets its contract. Assumes nothing.
-use mathlib.Core.Path.{refl, sym, _∙_, ap}
+use mathlib.Core.Path.{sym, _∙_, ap}
 use Rattle.checked.specs.Calls.{ofMade}
 use borrow.Author.Needs.{needs}
 use Rattle.checked.proofs.of_made.Statement.{statement}

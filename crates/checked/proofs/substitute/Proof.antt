@@ -1,9 +1,7 @@
 -- `checked::substitute` meets its contract. Assumes nothing.
-use mathlib.Core.Path.{_≡_, refl, sym, _∙_, ap}
-use mathlib.Core.Bool.{true, false, not}
-use Prim.Native.Nat.{_≤_, _<_}
-use native.Mathlib.Omega.{arith}
-use lib.ListN.{length}
+use mathlib.Core.Path.{_≡_, sym, _∙_, ap}
+use mathlib.Core.Bool.{true, not}
+use Prim.Native.Nat.{_<_}
 use denote.Ref.{now}
 use borrow.Author.Tests.{not-true, not-false}
 use Rattle.names.specs.Calls.{usedOf}

@@ -1,11 +1,7 @@
 -- `types::child_of` meets its contract. Assumes nothing.
-use mathlib.Core.Path.{_≡_, refl, sym, _∙_, ap}
-use Prim.Native.Nat.{ℕ, _+_, _-_, _*_, _≤_, _<_}
-use native.Mathlib.Omega.{arith}
 use denote.Ref.{now}
-use Rattle.kinds.specs.Kinds.{fixedMax}
-use Rattle.types.specs.Types.{placeOf, kindOf, childOf, nameOf}
-use Rattle.types.proofs.Types.{kind-fixed, kind-entry, arity-fixed, arity-entry, few-children, head-inside, child-above, child-inside, child-lower, name-above, name-inside, offset-asks, offset-is}
+use Rattle.types.specs.Types.{childOf}
+use Rattle.types.proofs.Types.{child-above, child-inside, child-lower, offset-asks, offset-is}
 use borrow.Author.Needs.{needs}
 use Rattle.types.proofs.child_of.Statement.{statement}
 use Rattle.types.proofs.child_of.Tie as tie

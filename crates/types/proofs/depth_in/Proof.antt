@@ -4,7 +4,6 @@ use native.Mathlib.Omega.{arith}
 use denote.Ref.{now}
 use Rattle.types.proofs.Store.{depth-fixed, depth-entry}
 use borrow.Author.Needs.{needs}
-use borrow.Author.Needs.{needs}
 use Rattle.types.proofs.depth_in.Statement.{statement}
 use Rattle.types.proofs.depth_in.Tie as tie
 

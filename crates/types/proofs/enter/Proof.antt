@@ -1,10 +1,7 @@
 -- `types::enter` meets its contract. Assumes nothing.
-use mathlib.Core.Path.{_≡_, sym, _∙_, ap}
-use Prim.Native.Nat.{ℕ, _+_, _<_, _≤_}
 use native.Mathlib.Omega.{arith}
-use lib.ListN.{length}
 use denote.Ref.{now}
-use Rattle.types.proofs.Making.{enter-two, enter-few, enter-end, enter-asks, enter-depth, enter-place, enter-known, enter-deep, enter-many, enter-short, enter-new}
+use Rattle.types.proofs.Making.{enter-two, enter-end, enter-asks, enter-depth, enter-place, enter-known, enter-deep, enter-many, enter-short, enter-new}
 use borrow.Author.Needs.{needs}
 use Rattle.types.proofs.enter.Statement.{statement}
 use Rattle.types.proofs.enter.Tie as tie

@@ -1,7 +1,4 @@
 -- `types::enter_type` meets its contract. Assumes nothing.
-use mathlib.Core.Path.{_≡_, _∙_}
-use Prim.Native.Nat.{_≤_}
-use lib.ListN.{length, take}
 use denote.Ref.{now}
 use Rattle.types.specs.Making.{entryOf}
 use Rattle.types.proofs.Entries.{entry-places, entry-front}

@@ -1,12 +1,9 @@
 -- `types::is_good` meets its contract. Assumes nothing.
 use mathlib.Core.Path.{_≡_, sym, _∙_, ap}
-use mathlib.Core.Bool.{true, false}
-use Prim.Native.Nat.{ℕ, _+_, _<_, _≤_}
-use lib.ListN.{length}
+use Prim.Native.Nat.{ℕ, _+_}
 use denote.Ref.{now}
 use borrow.Author.Tests.{not-true, not-false}
-use Rattle.kinds.specs.Kinds.{fixedMax}
-use Rattle.types.specs.Store.{sizeAt, partsAt, equalTo, entryAt}
+use Rattle.types.specs.Store.{equalTo, entryAt}
 use Rattle.types.proofs.Store.{entry-part}
 use Rattle.types.proofs.Form.{depth-asks, good-headless, good-cut, good-partless, good-equal, good-rest}
 use borrow.Author.Needs.{needs}

@@ -1,6 +1,5 @@
 -- `types::opened` meets its contract. Assumes nothing.
-use mathlib.Core.Path.{_≡_, sym, _∙_, subst}
-use mathlib.Core.Bool.{true, false}
+use mathlib.Core.Path.{sym, _∙_, subst}
 use lib.Dec.{T}
 use denote.Ref.{now}
 use Rattle.types.proofs.Calls.{broken-names, broken-or-not}

@@ -1,14 +1,12 @@
 -- `types::survey` meets its contract. Assumes nothing.
-use mathlib.Core.Path.{_≡_, sym, _∙_, ap}
-use mathlib.Core.Bool.{true}
+use mathlib.Core.Path.{sym, _∙_, ap}
 use Prim.Native.Nat.{ℕ, _+_, _-_}
 use native.Mathlib.Omega.{arith}
 use lib.ListN.{length-set}
 use denote.Ref.{now}
 use borrow.Author.Tests.{not-true, not-false}
-use Rattle.types.specs.Store.{sizeAt}
 use Rattle.types.proofs.Store.{size-head}
-use Rattle.types.proofs.Form.{depth-asks, good-parts, Going, no-more, formed-short, formed-many, going-start, going-reached, going-failed, going-next, going-end, going-room, going-measured}
+use Rattle.types.proofs.Form.{depth-asks, good-parts, Going, no-more, formed-short, formed-many, going-start, going-reached, going-failed, going-next, going-end, going-measured}
 use borrow.Author.Needs.{needs}
 use Rattle.types.proofs.survey.Statement.{statement}
 use Rattle.types.proofs.survey.Tie as tie

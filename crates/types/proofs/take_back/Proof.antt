@@ -1,5 +1,5 @@
 -- `types::take_back` meets its contract. Assumes nothing.
-use mathlib.Core.Path.{_≡_, refl, _∙_}
+use mathlib.Core.Path.{refl}
 use denote.Ref.{now}
 use Rattle.types.specs.Making.{takenBack}
 use Rattle.types.proofs.Back.{end-cleared}
