@@ -1,6 +1,7 @@
 //! `measure`: how long the static library and the Rust take for the same work, side by side in one run.
 
 mod pairs;
+mod places;
 mod types;
 mod units;
 
@@ -16,6 +17,7 @@ fn main() {
     units::measure(&mut names);
     pairs::measure(&names);
     types::measure();
+    places::measure();
 }
 
 /// Nanoseconds for one call.

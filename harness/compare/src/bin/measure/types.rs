@@ -39,7 +39,7 @@ pub fn measure() {
 // ---- A full store ----
 
 /// 4,077 tuples of three fixed types each.
-fn tuples() -> Vec<Entry> {
+pub fn tuples() -> Vec<Entry> {
     let kinds = 0..FIXED_TYPES as u16;
     let triples = kinds.clone().flat_map(|a| {
         let kinds = kinds.clone();
@@ -155,7 +155,7 @@ fn rust_nested(of: fn(Rc<Vec<Type>>) -> Type, leaf: Type, depth: usize) -> Type 
 }
 
 /// Microseconds for the Rust's `matches`, once.
-fn rust_matches(left: Type, right: Type, yes: bool) -> f64 {
+pub fn rust_matches(left: Type, right: Type, yes: bool) -> f64 {
     let (left, right) = (CheckType::Known(left), CheckType::Known(right));
     timed(1, || assert_eq!(black_box(&left).matches(&right), yes)) / 1e3
 }
