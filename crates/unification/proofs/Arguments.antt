@@ -15,12 +15,14 @@ use Rattle.types.specs.Store.{Formed}
 use Rattle.types.specs.Types.{typesIn, arity, childOf}
 use Rattle.types.proofs.Types.{child-lower}
 use Rattle.matching.specs.Matching.{isKind, functionMatches, inUse}
+use Rattle.matching.specs.Memo.{Noted}
 use Rattle.matching.specs.declared.Checked.{Checked}
 use Rattle.matching.specs.declared.Checked.the-variants.{Known, Unknown, Function}
 use Rattle.matching.proofs.Checked.{the-type}
 use Rattle.matching.proofs.Matching.{known-in-use}
 use Rattle.bindings.specs.declared.Bindings.{Bindings}
-use Rattle.unification.specs.Unification.{unified, said, allPairs, unify, unifyArg}
+use Rattle.unification.specs.declared.Unified.{Unified}
+use Rattle.unification.specs.Unification.{unified, said, allPairs, unify, unifyArg, Settled}
 use Rattle.unification.proofs.Growth.{Given, Grown, grown-refl}
 use Rattle.unification.proofs.Unification.{Grows, said-grown, all-grown, unify-grown}
 
@@ -50,6 +52,12 @@ module _ (page : List ℕ) (e : ℕ) (b : Bindings) where
   pub arg-function : (f : ℕ) → isKind callback page e ≡ false → said (functionMatches page f (Known e)) b ≡ unifyArg page e (Function f) b
   unfolding unifyArg
   arg-function f h = rw h refl
+
+-- a plain yes or no binds nothing, so what was settled still is
+pub said-noted : (page : List ℕ) (b : Bindings) (seen : List ℕ) → Noted (Settled page b) seen → (x : Bool) (r : Unified) → r ≡ said x b
+    → Noted (Settled page (r .bindings)) seen
+said-noted page b seen n true r h = rw h n
+said-noted page b seen n false r h = rw h n
 
 module _ (page : List ℕ) (f : Formed page) (e : ℕ) (u : e < typesIn page) (b : Bindings) (g : Given b (typesIn page)) where
   pub unify-arg-grown : (actual : Checked) → inUse page actual ≡ true → Grown b (typesIn page) (unifyArg page e actual b .bindings)

@@ -223,6 +223,8 @@ pub fn unify_arg(
     requires { ⌜ Noted (Found (now page)) (now memo) ⌝ }
     requires { ⌜ Noted (Settled (now page) bindings) (now seen) ⌝ }
     ensures { λ r. ⌜ r ≡ unifyArg (now (page .entry)) e actual bindings ⌝ }
+    ensures { λ _. ⌜ Noted (Found (now (page .entry))) (now (memo .exit)) ⌝ }
+    ensures { λ r. ⌜ Noted (Settled (now (page .entry)) (r .bindings)) (now (seen .exit)) ⌝ }
 {
     if let Checked::Known(a) = actual {
         return unify(page, offsets, memo, seen, bindings, e, a);

@@ -135,7 +135,7 @@ returns-5 c =
     let k : formed (usedOf names (a .lent)) (typesIn page) (a .bound) ≡ true = rw (← c .before .before .before .before .before .before .before .before .before .before .before .before .before .before .before .in-use .ensures .0, ← c .before .before .before .before .before .before .before .before .before .before .before .before .before .before .before .before .count .ensures) (sym (c .before .before .before .before .before .before .before .before .before .before .before .before .before .before .is-formed .ensures) ∙ not-false (c .before .before .before .before .before .before .before .before .before .before .before .before .before .before .is-formed .result) (c .before .before .before .before .before .before .before .before .before .before .before .before .before .if2 .left)) in
     let l = rw (c .before .before .before .before .before .before .before .before .before .before .before .before .before .before .before .before .count .ensures) at (c .before .before .before .before .before .before .before .before .before .before .before .before .if3 .left) in
     let u = sym (c .before .before .before .before .before .before .before .before .before .before .is-used .ensures) ∙ not-false (c .before .before .before .before .before .before .before .before .before .before .is-used .result) (c .before .before .before .before .before .before .before .before .before .if4 .left) in
-    c .kept-by .ensures ∙ unify-says page names (a .lent) (a .bound) (a .e) (a .actual) b k l u (c .before .before .before .unify-arg .result) (c .before .before .before .unify-arg .ensures)
+    c .kept-by .ensures ∙ unify-says page names (a .lent) (a .bound) (a .e) (a .actual) b k l u (c .before .before .before .unify-arg .result) (c .before .before .before .unify-arg .ensures .0)
 
 pub unify-arg-spec : {M : Type 1} → statement M
 unify-arg-spec =

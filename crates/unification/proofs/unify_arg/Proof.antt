@@ -7,7 +7,7 @@ use Rattle.kinds.specs.Kinds.{callback}
 use Rattle.matching.specs.Matching.{isKind, inUse}
 use Rattle.matching.specs.declared.Checked.the-variants.{Known, Function}
 use Rattle.matching.proofs.Matching.{known-in-use, in-use-known, from-function}
-use Rattle.unification.proofs.Arguments.{function-in-use, arg-unknown, arg-known, arg-callback, arg-function}
+use Rattle.unification.proofs.Arguments.{function-in-use, arg-unknown, arg-known, arg-callback, arg-function, said-noted}
 use borrow.Author.Needs.{needs}
 use Rattle.unification.proofs.unify_arg.Statement.{statement}
 use Rattle.unification.proofs.unify_arg.Tie as tie
@@ -33,7 +33,7 @@ returns c =
     let unify = c .before .before .before .before .unify in
     let g = c .before .before .before .before .before .before .before .before .before .before .before .before .before .before .args in
     let actual = c .before .before .before .before .before .before .before .before .actual .given in
-    rw (actual .1) (unify .ensures .0 ∙ arg-known (now (g .page)) (g .e) (g .bindings) (actual .0 .0))
+    (rw (actual .1) (unify .ensures .0 ∙ arg-known (now (g .page)) (g .e) (g .bindings) (actual .0 .0)), unify .ensures .1)
 
 enum-known-actual-2 : tie.Need-enum-known-actual-2
 enum-known-actual-2 c = search needs
@@ -44,8 +44,12 @@ say-requires c κs = search needs
 returns-2 : tie.Need-returns-2
 returns-2 c =
     let match = c .before .before .match in
-    let g = c .before .before .before .before .before .before .before .args in
-    c .say .ensures ∙ arg-unknown (now (g .page)) (g .e) (g .bindings) (g .actual) (match .keys2) (c .before .match2 .keys2)
+    let start = c .before .before .before .before .before .before .before in
+    let g = start .args in
+    let p = start .pre .1 .1 .1 in (
+      c .say .ensures ∙ arg-unknown (now (g .page)) (g .e) (g .bindings) (g .actual) (match .keys2) (c .before .match2 .keys2),
+      (p .0, said-noted (now (g .page)) (g .bindings) (now (g .seen)) (p .1) true (c .say .result) (c .say .ensures)),
+    )
 
 kind-of-requires : tie.Need-kind-of-requires
 kind-of-requires c κs = search needs
@@ -72,7 +76,7 @@ returns-3 c =
     let page = now (g .page) in
     let actual = c .before .before .before .before .before .before .before .before .before .before .actual2 .given in
     let k : isKind callback page (g .e) ≡ true = rw (← kind-of .ensures) (eq-eqb (kind-of .result) callback (if1 .taken)) in
-    rw (actual .1) (unify-children .ensures .0 ∙ arg-callback page (g .e) (g .bindings) (actual .0 .0) k)
+    (rw (actual .1) (unify-children .ensures .0 ∙ arg-callback page (g .e) (g .bindings) (actual .0 .0) k), unify-children .ensures .1)
 
 matches-requires : tie.Need-matches-requires
 matches-requires c κs =
@@ -92,13 +96,17 @@ returns-4 c =
     let kind-of = c .before .before .before .before .before .before .kind-of in
     let if1 = c .before .before .before .before .before .if1 in
     let matches = c .before .before .before .matches in
-    let g = c .before .before .before .before .before .before .before .before .before .before .before .before .before .before .before .args in
+    let start = c .before .before .before .before .before .before .before .before .before .before .before .before .before .before .before in
+    let g = start .args in
     let page = now (g .page) in
     let actual = c .before .before .before .before .before .before .before .before .actual2 .given in
     let f = actual .0 .0 in
     let k : isKind callback page (g .e) ≡ false = rw (← kind-of .ensures) (ne-eqb (kind-of .result) callback (if1 .left)) in
     let m = matches .ensures .0 ∙ sym (from-function page f (Known (g .e))) in
-    rw (actual .1) (rw m at (c .say2 .ensures) ∙ arg-function page (g .e) (g .bindings) f k)
+    let s = c .say2 in (
+      rw (actual .1) (rw m at (s .ensures) ∙ arg-function page (g .e) (g .bindings) f k),
+      (matches .ensures .1, said-noted page (g .bindings) (now (g .seen)) (start .pre .1 .1 .1 .1) (matches .result) (s .result) (s .ensures)),
+    )
 
 pub unify-arg-spec : {M : Type 1} → statement M
 unify-arg-spec =
