@@ -19,7 +19,7 @@ use Rattle.kinds.specs.Kinds.{fixedMax, callback}
 use Rattle.pages.specs.Bytes.{countBytes, countOf}
 use Rattle.types.specs.Store.{typesMax, entriesMax, offset}
 use Rattle.types.specs.Types.{typesIn, kindOf, Measured}
-use Rattle.types.specs.Making.{takenBack}
+use Rattle.types.specs.Making.{takenBack, Grows}
 use Rattle.types.proofs.Store.{offset-start, offset-le}
 use Rattle.types.proofs.Types.{whole, end-inside}
 use Rattle.types.proofs.Back.{back}
@@ -204,17 +204,24 @@ module _ (page os ds : List ℕ) (m : Measured page os ds) where
   pub works : (b : Bindings) (k t : ℕ) → formed k (typesIn page) b ≡ true → t < typesIn page → Working b page os ds (replicate typesMax 0) t
   works b k t h l = record { measured = m; used = l; usable = usable k (typesIn page) b h; remembered = remembered-none b page }
 
-  -- the store taken back
-  pub taken-back : (b : Bindings) (k t : ℕ) → formed k (typesIn page) b ≡ true → t < typesIn page → (after : List ℕ) → after ≡ substitute b t page .store
-      → (end : ℕ) → end ≡ offset page (countOf page) → takenBack after (getD page 0 0 ∷ getD page 1 0 ∷ []) end ≡ page
-  taken-back b k t h l after e end is =
-      rw (e, is) (back page (substitute b t page .store) (m .held .sound) (substitute-sound b t page (m .held .sound) l (usable k (typesIn page) b h) .grown))
+  -- a store that has grown, taken back
+  module _ (after : List ℕ) (g : Grows page after) (end : ℕ) (is : end ≡ offset page (countOf page)) where
+    pub grown-back : takenBack after (getD page 0 0 ∷ getD page 1 0 ∷ []) end ≡ page
+    grown-back = rw is (back page after (m .held .sound) g)
 
-  pub back-asks : (b : Bindings) (k t : ℕ) → formed k (typesIn page) b ≡ true → t < typesIn page → (after : List ℕ) → after ≡ substitute b t page .store
-      → (end : ℕ) → end ≡ offset page (countOf page) → (countBytes ≤ end) × (end ≤ length after)
-  back-asks b k t h l after e end is =
-      let g = substitute-sound b t page (m .held .sound) l (usable k (typesIn page) b h) .grown in
-      (omega (arith, is, offset-start page, offset-le page 0 (countOf page) (omega arith)), rw e (omega (arith, is, g .size, end-inside page (m .held .sound))))
+    pub grown-asks : (countBytes ≤ end) × (end ≤ length after)
+    grown-asks =
+        (omega (arith, is, offset-start page, offset-le page 0 (countOf page) (omega arith)), omega (arith, is, g .size, end-inside page (m .held .sound)))
+
+  module _ (b : Bindings) (k t : ℕ) (h : formed k (typesIn page) b ≡ true) (l : t < typesIn page) (after : List ℕ) (e : after ≡ substitute b t page .store) where
+    grown : Grows page after
+    grown = rw e (substitute-sound b t page (m .held .sound) l (usable k (typesIn page) b h) .grown)
+
+    pub taken-back : (end : ℕ) → end ≡ offset page (countOf page) → takenBack after (getD page 0 0 ∷ getD page 1 0 ∷ []) end ≡ page
+    taken-back end is = grown-back after grown end is
+
+    pub back-asks : (end : ℕ) → end ≡ offset page (countOf page) → (countBytes ≤ end) × (end ≤ length after)
+    back-asks end is = grown-asks after grown end is
 
 -- ---- `unify` and `unify_arg`
 

@@ -25,8 +25,8 @@ pub struct Const {
     pub checked: Checked,
 }
 
-// Whether a checked type's number is in use and, of a Function, that of a Callback.
-fn is_used(page: &[u8], offsets: &[usize], c: Checked) -> bool
+// Whether a checked type's number is in use and, of a Function, that of a Callback. For crates above (their entry calls answer 3).
+pub fn is_used(page: &[u8], offsets: &[usize], c: Checked) -> bool
     requires { ⌜ Held (now page) (now offsets) ⌝ }
     ensures { λ r. ⌜ r ≡ inUse (now (page .entry)) c ⌝ }
 {

@@ -13,7 +13,7 @@ pub const FIXED: usize = 19;
 // How many children a type has at most.
 pub const CHILDREN: usize = 16;
 
-const INT: Kind = 1;
+pub const INT: Kind = 1;
 
 const CINT: Kind = 2;
 
@@ -47,19 +47,19 @@ const TUPLE: Kind = 27;
 
 const CTUPLE: Kind = 28;
 
-const ANY: Kind = 29;
+pub const ANY: Kind = 29;
 
 const CANY: Kind = 30;
 
 pub const CALLBACK: Kind = 31;
 
-const RECORD: Kind = 32;
+pub const RECORD: Kind = 32;
 
 const CRECORD: Kind = 33;
 
 const ENUM: Kind = 34;
 
-const CENUM: Kind = 35;
+pub const CENUM: Kind = 35;
 
 pub const HANDLE: Kind = 36;
 

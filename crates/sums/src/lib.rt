@@ -224,8 +224,8 @@ pub fn canonicalize(page: &[u8], names: &[u8], lent: bool, u: Unit) -> SumsResul
     SumsResult { verdict, sums }
 }
 
-// The unit, or the empty one where there is none.
-fn or_empty(m: MaybeUnit) -> Unit
+// The unit, or the empty one where there is none. For crates above too.
+pub fn or_empty(m: MaybeUnit) -> Unit
     ensures { λ r. ⌜ r ≡ orEmpty m ⌝ }
 {
     if m.some {
