@@ -1,0 +1,74 @@
+-- Indexing a checked type: one law for each return, and the store that it leaves. Assumes nothing.
+use mathlib.Core.Path.{_≡_, refl}
+use mathlib.Core.Bool.{Bool, true, false, cond}
+use mathlib.Core.List.{List}
+use Prim.Native.Nat.{ℕ, _<_}
+use native.Mathlib.Omega.{arith}
+use lib.Dec.{eqb}
+use lib.ListN.{length}
+use Rattle.kinds.specs.Kinds.{isUnion}
+use Rattle.types.specs.Store.{Formed}
+use Rattle.types.specs.Types.{typesIn, kindOf}
+use Rattle.matching.specs.Matching.{inUse}
+use Rattle.matching.specs.declared.Checked.{Checked}
+use Rattle.matching.specs.declared.Checked.the-variants.{Known, Unknown, Function}
+use Rattle.matching.proofs.Matching.{known-in-use}
+use Rattle.operators.specs.Outcome.{noError, oneError, outcome, notIndexable}
+use Rattle.members.specs.Members.{sizeOf, unionOf, Concluded, concluded, conclude}
+use Rattle.members.specs.Trials.{errorsOf, Tried}
+use Rattle.members.specs.declared.Conclusion.{Conclusion}
+use Rattle.members.proofs.Unions.{union-sound}
+use Rattle.members.proofs.Kept.{Kept, kept-same, kept-entered}
+use Rattle.indexing.specs.Indexing.{indexTarget, membersTried, unionIndexed, indexAny, checkIndex}
+use Rattle.indexing.proofs.Targets.{target-used}
+use Rattle.indexing.proofs.Trying.{tried-used}
+
+-- ---- what is answered
+
+module _ (page : List ℕ) (key : Checked) where
+  pub index-unknown : concluded (Conclusion.Is (outcome Unknown noError)) page ≡ checkIndex page key Unknown
+  unfolding checkIndex
+  index-unknown = refl
+
+  pub index-function : (f : ℕ) → concluded (Conclusion.Is (outcome Unknown (oneError notIndexable))) page ≡ checkIndex page key (Function f)
+  unfolding checkIndex
+  index-function f = refl
+
+  pub index-union : (t : ℕ) → isUnion (kindOf page t) ≡ true → indexAny page key t ≡ checkIndex page key (Known t)
+  unfolding checkIndex
+  index-union t u = rw u refl
+
+  pub index-other : (t : ℕ) → isUnion (kindOf page t) ≡ false
+      → concluded (Conclusion.Is (indexTarget page key t)) page ≡ checkIndex page key (Known t)
+  unfolding checkIndex
+  index-other t u = rw u refl
+
+-- ---- the store afterwards
+
+module _ (page : List ℕ) (f : Formed page) (key : Checked) where
+  any-kept : (t : ℕ) → t < typesIn page → Kept page (indexAny page key t)
+  unfolding indexAny unionIndexed
+  any-kept t u = go (eqb (errorsOf (q .failed) (length (q .results)) .count) 0)
+    where
+      q : Tried
+      q = membersTried page key t (sizeOf page t)
+
+      go : (b : Bool) → Kept page (cond b (concluded (conclude (unionOf page (q .results) .made)) (unionOf page (q .results) .store))
+          (concluded (Conclusion.Is (outcome Unknown (errorsOf (q .failed) (length (q .results))))) page))
+      go true =
+          kept-entered page (unionOf page (q .results))
+          (union-sound page f (q .results) (tried-used page key t f u (sizeOf page t) (omega arith)))
+      go false = kept-same page f (outcome Unknown (errorsOf (q .failed) (length (q .results)))) (omega arith)
+
+  pub index-kept : (target : Checked) → inUse page target ≡ true → Kept page (checkIndex page key target)
+  unfolding checkIndex
+  index-kept Unknown h = kept-same page f (outcome Unknown noError) (omega arith)
+  index-kept (Function g) h = kept-same page f (outcome Unknown (oneError notIndexable)) (omega arith)
+  index-kept (Known t) h = go (isUnion (kindOf page t))
+    where
+      u : t < typesIn page
+      u = known-in-use page t h
+
+      go : (b : Bool) → Kept page (cond b (indexAny page key t) (concluded (Conclusion.Is (indexTarget page key t)) page))
+      go true = any-kept t u
+      go false = kept-same page f (indexTarget page key t) (target-used page f t u key)
