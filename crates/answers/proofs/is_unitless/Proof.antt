@@ -1,0 +1,20 @@
+-- `answers::is_unitless` meets its contract. Assumes nothing.
+use Rattle.units.specs.Calls.{unitless}
+use Rattle.units.proofs.Form.{length-terms}
+use Rattle.answers.proofs.is_unitless.Statement.{statement}
+use Rattle.answers.proofs.is_unitless.Tie as tie
+
+returns : tie.Need-returns
+unfolding unitless
+returns c = rw (c .if1 .taken)
+
+returns-2 : tie.Need-returns-2
+unfolding unitless
+returns-2 c =
+    let start = c .before .before .before .before in
+    let if1 = c .before .before .if1 in
+    let u = start .args .m .unit in
+    rw (if1 .left, length-terms (u .count) 0 (u .symbols) (u .exponents))
+
+pub is-unitless-spec : {M : Type 1} → statement M
+is-unitless-spec = tie.close (tie.spec returns returns-2)
