@@ -1,13 +1,12 @@
 -- What the calls for operators and indexing come to, one law for each return. Assumes nothing.
-use mathlib.Core.Path.{_≡_, refl, sym, _∙_}
+use mathlib.Core.Path.{_≡_, refl, sym}
 use mathlib.Core.Bool.{Bool, true, false, _&&_, _||_, not}
 use mathlib.Core.List.{List, [], _∷_}
 use Prim.Native.Nat.{ℕ, _<_}
 use borrow.Author.Tests.{not-false}
-use Rattle.refusals.specs.Lowest.{Condition, _when_, lowest}
+use Rattle.refusals.specs.Lowest.{_when_, lowest}
 use Rattle.refusals.specs.declared.Refusal.{Refusal}
 use Rattle.refusals.specs.declared.Refusal.the-variants.{Undefined, Broken, Unused, BadUnit}
-use Rattle.refusals.specs.declared.Verdict.{Verdict}
 use Rattle.refusals.specs.declared.Verdict.the-variants.{Passed, Refused}
 use Rattle.refusals.proofs.Lowest.{first-holds, passed-parts}
 use Rattle.pages.proofs.Quant.{and-true}

@@ -24,7 +24,6 @@ use Rattle.pairs.specs.Calls.{tableBroken}
 use Rattle.sums.specs.Calls.{rootsIn, orEmpty}
 use Rattle.operators.specs.Operators.{isOperator, minus}
 use Rattle.operators.specs.Outcome.{noError, numberOf, passes}
-use Rattle.operators.specs.declared.Errors.{Errors}
 use Rattle.operators.specs.declared.Outcome.{Outcome}
 use Rattle.members.specs.Members.{Concluded}
 use Rattle.members.specs.declared.Conclusion.{Conclusion}

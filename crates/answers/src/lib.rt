@@ -17,7 +17,7 @@ use types::no_offsets;
 use units::MaybeUnit;
 use units::Unit;
 ghost use mathlib.Core.Path.{_≡_};
-ghost use mathlib.Core.Bool.{Bool, true};
+ghost use mathlib.Core.Bool.{true};
 ghost use Prim.Native.Nat.{_≤_, _<_};
 ghost use lib.ListN.{length};
 ghost use Rattle.refusals.specs.Lowest.{lowest};
@@ -296,18 +296,24 @@ pub fn check_binary_operator(
 }
 
 // The unit of an operator's answer on one operand with that unit: − keeps it, unless its answer is a union.
-fn unary_unit(page: &[u8], offsets: &[usize], op: usize, o: Outcome, unit: MaybeUnit) -> MaybeUnit
+fn unary_unit(
+    page: &[u8],
+    offsets: &[usize],
+    op: usize,
+    outcome: Outcome,
+    unit: MaybeUnit,
+) -> MaybeUnit
     requires { ⌜ Held (now page) (now offsets) ⌝ }
-    requires { ⌜ numberOf (o .checked) < typesIn (now page) ⌝ }
-    ensures { λ r. ⌜ r ≡ unaryUnit (now (page .entry)) op o unit ⌝ }
+    requires { ⌜ numberOf (outcome .checked) < typesIn (now page) ⌝ }
+    ensures { λ r. ⌜ r ≡ unaryUnit (now (page .entry)) op outcome unit ⌝ }
 {
     if op != MINUS {
         return no_unit();
     }
-    if !operators::does_pass(o) {
+    if !operators::does_pass(outcome) {
         return no_unit();
     }
-    let c = o.checked;
+    let c = outcome.checked;
     if kinds::is_union(kind_of(page, offsets, operators::number_of(c))) {
         return no_unit();
     }

@@ -14,7 +14,7 @@ use Rattle.matching.specs.declared.Checked.{Checked}
 use Rattle.matching.specs.declared.Checked.the-variants.{Known, Unknown, Function}
 use Rattle.matching.proofs.Matching.{known-in-use}
 use Rattle.operators.specs.Outcome.{noError, oneError, outcome, notIndexable}
-use Rattle.members.specs.Members.{sizeOf, unionOf, Concluded, concluded, conclude}
+use Rattle.members.specs.Members.{sizeOf, unionOf, concluded, conclude}
 use Rattle.members.specs.Trials.{errorsOf, Tried}
 use Rattle.members.specs.declared.Conclusion.{Conclusion}
 use Rattle.members.proofs.Unions.{union-sound}

@@ -5,8 +5,8 @@ use kinds::Kind;
 use kinds::RECORD;
 use matching::Checked;
 ghost use mathlib.Core.Path.{_≡_};
-ghost use mathlib.Core.Bool.{Bool, true};
-ghost use Prim.Native.Nat.{_≤_, _<_};
+ghost use mathlib.Core.Bool.{true};
+ghost use Prim.Native.Nat.{_<_};
 ghost use Rattle.operators.specs.Operators.{isOperator, rowOf, familyOf, isNumber, takes, looks, gives, suits, fits, takerOf};
 ghost use Rattle.operators.specs.Outcome.{noError, oneError, twoErrors, someFail, outcome, numberOf, passes, notBools, misfit, plainBinary, unaryReason, plainUnary};
 
