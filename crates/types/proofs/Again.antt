@@ -20,8 +20,9 @@ use Rattle.pages.proofs.Bytes.{eqs-refl}
 use Rattle.kinds.specs.Kinds.{fixedMax}
 use Rattle.types.specs.Store.{entriesMax, depthMax, offset, isEntry, equalTo, Formed}
 use Rattle.types.specs.Types.{typesIn}
-use Rattle.types.specs.Making.{Enterable, isMade, depthOf, roomy, withEntry, numbered, enterVerdict, enterAnswer, enterPage, Grows}
+use Rattle.types.specs.Making.{Enterable, isMade, depthOf, roomy, withEntry, enterVerdict, enterAnswer, enterPage, Grows}
 use Rattle.types.specs.declared.Made.{Made}
+use Rattle.types.proofs.Making.{numbered-at}
 use Rattle.types.proofs.Grown.{entry-grown, grows-refl, with-grows, with-count, with-sound, with-entry}
 
 -- ---- what a type that was made left
@@ -34,10 +35,6 @@ number-of (Made.Refused r) = 0
 pub at-inj : (t u : ℕ) → Made.At t ≡ Made.At u → t ≡ u
 unfolding number-of
 at-inj t u e = ap number-of e
-
-at-passed : (v : Verdict) (n t : ℕ) → numbered v n ≡ Made.At t → (v ≡ Passed) × (n ≡ t)
-at-passed Passed n t e = (refl, at-inj n t e)
-at-passed (Refused r) n t e = absurd (let z : _≡_ {A = ℕ} 0 1 = cc in omega arith)
 
 module _ (page entry : List ℕ) (f : Formed page) (e : Enterable page entry f) where
   -- it was there, or it is new, at no great depth and with a place
@@ -83,7 +80,7 @@ module _ (page entry : List ℕ) (f : Formed page) (e : Enterable page entry f) 
 
   pub entered-how : (t : ℕ) → enterAnswer page entry ≡ Made.At t → (fixedMax + equalTo page (countOf page) entry ≡ t) × Case
   unfolding enterAnswer
-  entered-how t h = let z = at-passed (enterVerdict page entry) (fixedMax + equalTo page (countOf page) entry) t h in (z .1, how (z .0))
+  entered-how t h = let z = numbered-at (enterVerdict page entry) (fixedMax + equalTo page (countOf page) entry) t h in (z .1, how (z .0))
     where
       how : enterVerdict page entry ≡ Passed → Case
       how v = go (isMade page entry) refl v

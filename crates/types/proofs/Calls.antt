@@ -22,7 +22,8 @@ use Rattle.types.specs.Making.{entryOf, Enterable, Ready, isMade, depthO
 use Rattle.types.specs.Calls.{storeBroken, emptyVerdict, emptyPage, allBelow, partsUsed, isNew, makeVerdict, makeAnswer, makePage}
 use Rattle.types.specs.declared.Made.{Made}
 use Rattle.types.proofs.Types.{most-few}
-use Rattle.types.proofs.Making.{numbered-at, entered-is}
+use Rattle.types.proofs.Making.{numbered-at}
+use Rattle.types.proofs.Again.{enter-used}
 use Rattle.types.proofs.Fresh.{zeros-formed}
 use Rattle.types.proofs.Entries.{entry-whole, entry-parts}
 
@@ -230,7 +231,7 @@ module _ (page names : List ℕ) (lent : Bool) (k : ℕ) (cs : List ℕ) (m : �
           let counted = not-false (within (fewest k) (most k) (length cs)) (w .0) in
           let r = make-entered known (z .0) (usedOf names lent) refl (z .1) used counted s in
           let e = make-enterable known (z .0) (usedOf names lent) refl (z .1) used counted s in
-          rw (← r .1) (entered-is page (entryOf k cs m) (record { names = usedOf names lent; form = z .1 }) e t (r .0 ∙ at))
+          rw (← r .1) (enter-used page (entryOf k cs m) (record { names = usedOf names lent; form = z .1 }) e t (r .0 ∙ at))
       go false s =
           let l = unstored-fixed k known s in
           let q : k ≡ t = rw (lt-ltb k fixedMax l) at (v .1) in

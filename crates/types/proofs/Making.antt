@@ -1,29 +1,29 @@
 -- Entering a type: one law for each return, and what holds of the store afterwards. Assumes nothing.
 use mathlib.Core.Path.{_≡_, refl, _∙_, ap}
-use mathlib.Core.Bool.{Bool, true, false, not, _&&_, cond}
+use mathlib.Core.Bool.{true, false, not}
 use mathlib.Core.List.{List, [], _∷_}
 use Prim.Native.Nat.{ℕ, _+_, _-_, _*_, _<_, _≤_}
 use native.Mathlib.Omega.{arith}
-use lib.Dec.{ltb, leb}
+use lib.Dec.{ltb}
 use lib.ListN.{length, getD, set}
-use borrow.Author.Tests.{lt-ltb, le-ltb, ltb-true, ltb-false, le-leb, lt-leb, leb-true, not-false}
-use Rattle.refusals.specs.Lowest.{_when_, lowest}
+use borrow.Author.Tests.{lt-ltb, le-ltb, le-leb, lt-leb}
+use Rattle.refusals.specs.Lowest.{_when_}
 use Rattle.refusals.specs.declared.Refusal.{Refusal}
 use Rattle.refusals.specs.declared.Refusal.the-variants.{Depth, Full}
 use Rattle.refusals.specs.declared.Verdict.{Verdict}
 use Rattle.refusals.specs.declared.Verdict.the-variants.{Passed, Refused}
-use Rattle.refusals.proofs.Lowest.{first-holds, passed-parts}
+use Rattle.refusals.proofs.Lowest.{first-holds}
 use Rattle.pages.specs.Bytes.{countBytes, countOf, bytesOf, put}
-use Rattle.pages.proofs.Quant.{and-true, first-le}
+use Rattle.pages.proofs.Quant.{first-le}
 use Rattle.kinds.specs.Kinds.{fixedMax}
-use Rattle.types.specs.Store.{entriesMax, depthMax, headBytes, childBytes, childrenAt, childrenBelow, sizeAt, offset, depthAt, depths, isEntry, equalTo, Formed}
+use Rattle.types.specs.Store.{entriesMax, depthMax, headBytes, childBytes, childrenAt, childrenBelow, sizeAt, offset, depthAt, depths, isEntry, equalTo}
 use Rattle.types.specs.Types.{typesIn, Measured}
-use Rattle.types.specs.Making.{Enterable, Ready, isMade, depthOf, roomy, withEntry, numbered, enterVerdict, enterAnswer, enterPage}
+use Rattle.types.specs.Making.{Ready, isMade, depthOf, roomy, withEntry, numbered, enterVerdict, enterAnswer, enterPage}
 use Rattle.types.specs.declared.Made.{Made}
 use Rattle.types.proofs.Store.{size-head}
 use Rattle.types.proofs.Form.{parts-children, below-more, depth-known}
 use Rattle.types.proofs.Types.{whole, end-inside}
-use Rattle.types.proofs.Grown.{with-count, with-measured}
+use Rattle.types.proofs.Grown.{with-measured}
 
 -- what `enter` promises
 abbrev Entered : (page entry after os ds : List ℕ) → Made → Type 0
@@ -116,36 +116,7 @@ module _ (page os ds entry : List ℕ) (r : Ready page os ds entry) where
                 (rw (← is) few) (rw (← at-end) l) os ds (r .measured) in
                 (rw v (ap Made.At next), rw (v, is-new, is, at-end) refl, rw (is, at-end, deep) w)
 
--- ---- a type that was entered is there
-
+-- a number only where nothing is refused
 pub numbered-at : (v : Verdict) (n t : ℕ) → numbered v n ≡ Made.At t → (v ≡ Passed) × (n ≡ t)
 numbered-at Passed n t h = (refl, cc)
 numbered-at (Refused r) n t h = let z : _≡_ {A = ℕ} 0 1 = cc in absurd (omega arith)
-
-module _ (page entry : List ℕ) (f : Formed page) (e : Enterable page entry f) (t : ℕ) (at : enterAnswer page entry ≡ Made.At t) where
-  passed : (enterVerdict page entry ≡ Passed) × (fixedMax + equalTo page (countOf page) entry ≡ t)
-  unfolding enterAnswer
-  passed = numbered-at (enterVerdict page entry) (fixedMax + equalTo page (countOf page) entry) t at
-
-  pub entered-is : t < typesIn (enterPage page entry)
-  unfolding enterPage enterVerdict isMade roomy
-  entered-is = rw (passed .0) (go (isMade page entry) refl)
-    where
-      old : ltb (equalTo page (countOf page) entry) (countOf page) ≡ true → t < typesIn page
-      old m = omega (arith, passed .1, ltb-true (equalTo page (countOf page) entry) (countOf page) m)
-
-      new : ltb (equalTo page (countOf page) entry) (countOf page) ≡ false → t < typesIn (withEntry page entry)
-      new m =
-          let v : lowest ((Depth when (not (ltb (equalTo page (countOf page) entry) (countOf page)) && ltb depthMax (depthOf page entry)))
-          ∷ (Full when (not (ltb (equalTo page (countOf page) entry) (countOf page)) && not (roomy page entry))) ∷ []) ≡ Passed = passed .0 in
-          let d = passed-parts Depth (ltb depthMax (depthOf page entry)) ((Full when not (roomy page entry)) ∷ []) (rw m at v) in
-          let r = not-false (roomy page entry) (passed-parts Full (not (roomy page entry)) [] (d .1) .0) in
-          let q = and-true (ltb (countOf page) entriesMax) (leb (offset page (countOf page) + length entry) (length page)) r in
-          let grown = with-count page entry f e (ltb-false (equalTo page (countOf page) entry) (countOf page) m)
-          (ltb-false depthMax (depthOf page entry) (d .0)) (ltb-true (countOf page) entriesMax (q .0))
-          (leb-true (offset page (countOf page) + length entry) (length page) (q .1)) in
-          omega (arith, passed .1, grown, first-le (isEntry page entry) (countOf page))
-
-      go : (b : Bool) → isMade page entry ≡ b → t < typesIn (cond b page (withEntry page entry))
-      go true m = old m
-      go false m = new m
