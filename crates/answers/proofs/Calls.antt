@@ -1,5 +1,5 @@
 -- What the calls for operators and indexing come to, one law for each return. Assumes nothing.
-use mathlib.Core.Path.{_≡_, refl, sym}
+use mathlib.Core.Path.{_≡_, refl, sym, ap, _∙_}
 use mathlib.Core.Bool.{Bool, true, false, _&&_, _||_, not}
 use mathlib.Core.List.{List, [], _∷_}
 use Prim.Native.Nat.{ℕ, _<_}
@@ -125,8 +125,11 @@ module _ (page : List ℕ) (z : Concluded) (r : Conclusion) (after : List ℕ) (
   pub index-is : (u : MaybeUnit) (o : Outcome) → r ≡ Conclusion.Is o → (answered o u ≡ concludedBy (z .conclusion) u) × (after ≡ storeAfter z page)
   index-is u o h = (rw (← e, h) refl, rw (← e, h) refl)
 
-  pub index-stopped : (u : MaybeUnit) (q : Refusal) → r ≡ Conclusion.Refused q → (refused q ≡ concludedBy (z .conclusion) u) × (page ≡ storeAfter z page)
-  index-stopped u q h = (rw (← e, h) refl, rw (← e, h) refl)
+  pub index-stopped : (u : MaybeUnit) (q : Refusal) → r ≡ Conclusion.Refused q → z .store ≡ page
+      → (refused q ≡ concludedBy (z .conclusion) u) × (after ≡ storeAfter z page)
+  index-stopped u q h same =
+      let left : after ≡ page = ap (λ (y : Concluded). y .store) e ∙ same in
+      (rw (← e, h) refl, left ∙ rw (← e, h) refl)
 
 -- ---- operators with one operand
 

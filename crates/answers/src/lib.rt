@@ -93,7 +93,7 @@ fn answer(o: Outcome, unit: MaybeUnit) -> Answered
 }
 
 // Whether there is no unit, or the empty one.
-fn is_unitless(m: MaybeUnit) -> bool
+fn is_dimensionless(m: MaybeUnit) -> bool
     ensures { λ r. ⌜ r ≡ unitless m ⌝ }
 {
     if !m.some {
@@ -104,15 +104,15 @@ fn is_unitless(m: MaybeUnit) -> bool
 }
 
 // Whether two operands' units clash: `add_unit_mismatch` of the source.
-fn does_clash(table: &[u8], left: CheckedExpr, right: CheckedExpr) -> bool
+fn add_unit_mismatch(table: &[u8], left: CheckedExpr, right: CheckedExpr) -> bool
     requires { ⌜ pairs.formed (now table) namesMax ≡ true ⌝ }
     requires { ⌜ (operandFormed left ≡ true) × (operandFormed right ≡ true) ⌝ }
     ensures { λ r. ⌜ r ≡ clashes (rootsIn (now (table .entry))) (left .unit) (right .unit) ⌝ }
 {
-    if is_unitless(left.unit) {
+    if is_dimensionless(left.unit) {
         return false;
     }
-    if is_unitless(right.unit) {
+    if is_dimensionless(right.unit) {
         return false;
     }
     let a = sums::or_empty(left.unit);
@@ -124,10 +124,10 @@ fn does_clash(table: &[u8], left: CheckedExpr, right: CheckedExpr) -> bool
 fn adopt(left: MaybeUnit, right: MaybeUnit) -> MaybeUnit
     ensures { λ r. ⌜ r ≡ adoptedBy left right ⌝ }
 {
-    if !is_unitless(left) {
+    if !is_dimensionless(left) {
         return left;
     }
-    if !is_unitless(right) {
+    if !is_dimensionless(right) {
         return right;
     }
     no_unit()
@@ -147,7 +147,7 @@ fn or_none(u: Unit) -> MaybeUnit
 }
 
 // The unit of a product or quotient: `combine_units` of the source.
-fn combine(quotient: bool, left: MaybeUnit, right: MaybeUnit) -> MaybeResult
+fn combine_units(quotient: bool, left: MaybeUnit, right: MaybeUnit) -> MaybeResult
     ensures { λ r. ⌜ r ≡ combined quotient left right ⌝ }
 {
     let product = units::product(sums::or_empty(left), sums::or_empty(right), quotient);
@@ -166,10 +166,10 @@ fn binary_unit(op: usize, left: MaybeUnit, right: MaybeUnit) -> MaybeResult
 {
     let row = operators::row_of(op);
     if row.unit == MULTIPLIED {
-        return combine(false, left, right);
+        return combine_units(false, left, right);
     }
     if row.unit == DIVIDED {
-        return combine(true, left, right);
+        return combine_units(true, left, right);
     }
     let mut unit = no_unit();
     if row.unit == ADOPTED {
@@ -255,7 +255,7 @@ fn binary_checked(
     requires { ⌜ (operandFormed left ≡ true) × (operandFormed right ≡ true) ⌝ }
     ensures { λ r. ⌜ r ≡ binaryChecked (now (page .entry)) (now (table .entry)) op left right ⌝ }
 {
-    let clash = does_clash(table, left, right);
+    let clash = add_unit_mismatch(table, left, right);
     let mut leaves = members::no_leaves();
     members::fill_leaves(page, offsets, &mut leaves, false, 0);
     let l = left.checked;
@@ -393,14 +393,12 @@ fn index_checked(
     ensures { λ r. ⌜ r ≡ concludedBy (checkIndex (now (page .entry)) key (target .checked) .conclusion) (target .unit) ⌝ }
     ensures { λ _. ⌜ now (page .exit) ≡ storeAfter (checkIndex (now (page .entry)) key (target .checked)) (now (page .entry)) ⌝ }
 {
-    let front = types::front(page);
-    let end = types::offset_of(offsets, types::count(page));
     let mut memo = matching::no_memo();
     let c = target.checked;
     let conclusion = indexing::check_index(page, offsets, depths, &mut memo, c, key);
     match conclusion {
         Conclusion::Is(o) => answer(o, target.unit),
-        Conclusion::Refused(r) => put_back(page, front, end, r),
+        Conclusion::Refused(r) => refuse(r),
     }
 }
 

@@ -12,11 +12,13 @@ use types::kind_of;
 ghost use mathlib.Core.Path.{_≡_};
 ghost use mathlib.Core.Bool.{true, false};
 ghost use mathlib.Core.List.{[]};
-ghost use Prim.Native.Nat.{_+_, _≤_, _<_};
+ghost use Prim.Native.Nat.{_*_, _+_, _≤_, _<_};
 ghost use Rattle.types.specs.Types.{typesIn, Held};
 ghost use Rattle.matching.specs.Matching.{inUse};
 ghost use Rattle.operators.specs.Operators.{isOperator};
 ghost use Rattle.operators.specs.Outcome.{numberOf};
+ghost use Rattle.types.specs.Store.{typesMax};
+ghost use Rattle.members.specs.Members.{membersMax};
 ghost use Rattle.members.specs.Trials.{noFailure, Tried, tried, joined};
 ghost use Rattle.members.specs.Leaves.{Leaves};
 ghost use Rattle.binary.specs.Binary.{familyIn, either, binaryKnown, binaryAny, besideFunction, checkBinary};
@@ -44,7 +46,7 @@ fn no_trial() -> Tally
 
 // One more trial, of the members x and y.
 fn join(tally: Tally, o: Outcome, x: usize, y: usize) -> Tally
-    requires { ⌜ (tally .failing < 4294967295) × (numberOf (o .checked) < 4294967295) ⌝ }
+    requires { ⌜ (tally .failing < membersMax * membersMax) × (numberOf (o .checked) < typesMax) ⌝ }
     ensures { λ r. ⌜ ((q : Tried) → tally ≡ tallyOf q → r ≡ tallyOf (joined x y o q)) × (r .failing ≤ tally .failing + 1) ⌝ }
 {
     if !operators::does_pass(o) {
@@ -106,7 +108,7 @@ fn is_either(page: &[u8], offsets: &[usize], l: usize, r: usize) -> bool
     kinds::is_union(kind_of(page, offsets, l)) | kinds::is_union(kind_of(page, offsets, r))
 }
 
-// The check of an operator on two Known types.
+// The check of an operator on two Known types. It answers a fixed type, whose number fits a byte.
 pub fn check_binary_operator(
     page: &[u8],
     offsets: &[usize],

@@ -6,6 +6,7 @@ use Prim.Native.Nat.{ℕ, _<_}
 use native.Mathlib.Omega.{arith}
 use lib.Dec.{eqb}
 use lib.ListN.{length}
+use Rattle.refusals.specs.declared.Refusal.{Refusal}
 use Rattle.kinds.specs.Kinds.{isUnion}
 use Rattle.types.specs.Store.{Formed}
 use Rattle.types.specs.Types.{typesIn, kindOf}
@@ -17,8 +18,8 @@ use Rattle.operators.specs.Outcome.{noError, oneError, outcome, notIndexable}
 use Rattle.members.specs.Members.{sizeOf, unionOf, concluded, conclude}
 use Rattle.members.specs.Trials.{errorsOf, Tried}
 use Rattle.members.specs.declared.Conclusion.{Conclusion}
-use Rattle.members.proofs.Unions.{union-sound}
-use Rattle.members.proofs.Kept.{Kept, kept-same, kept-entered}
+use Rattle.members.proofs.Unions.{union-sound, union-refused}
+use Rattle.members.proofs.Kept.{Kept, kept-same, kept-entered, refused-made}
 use Rattle.indexing.specs.Indexing.{indexTarget, membersTried, unionIndexed, indexAny, checkIndex}
 use Rattle.indexing.proofs.Targets.{target-used}
 use Rattle.indexing.proofs.Trying.{tried-used}
@@ -72,3 +73,31 @@ module _ (page : List ℕ) (f : Formed page) (key : Checked) where
       go : (b : Bool) → Kept page (cond b (indexAny page key t) (concluded (Conclusion.Is (indexTarget page key t)) page))
       go true = any-kept t u
       go false = kept-same page f (indexTarget page key t) (target-used page f t u key)
+
+  -- a refusal leaves the store as it was
+  any-refused : (t : ℕ) (r : Refusal) → indexAny page key t .conclusion ≡ Conclusion.Refused r → indexAny page key t .store ≡ page
+  unfolding indexAny unionIndexed
+  any-refused t r = go (eqb (errorsOf (q .failed) (length (q .results)) .count) 0)
+    where
+      q : Tried
+      q = membersTried page key t (sizeOf page t)
+
+      go : (b : Bool)
+          → cond b (concluded (conclude (unionOf page (q .results) .made)) (unionOf page (q .results) .store))
+          (concluded (Conclusion.Is (outcome Unknown (errorsOf (q .failed) (length (q .results))))) page) .conclusion ≡ Conclusion.Refused r
+          → cond b (concluded (conclude (unionOf page (q .results) .made)) (unionOf page (q .results) .store))
+          (concluded (Conclusion.Is (outcome Unknown (errorsOf (q .failed) (length (q .results))))) page) .store ≡ page
+      go true e = union-refused page (q .results) r (refused-made (unionOf page (q .results) .made) r e)
+      go false e = refl
+
+  pub index-refused : (target : Checked) (r : Refusal) → checkIndex page key target .conclusion ≡ Conclusion.Refused r
+      → checkIndex page key target .store ≡ page
+  unfolding checkIndex
+  index-refused Unknown r e = refl
+  index-refused (Function g) r e = refl
+  index-refused (Known t) r e = go (isUnion (kindOf page t)) e
+    where
+      go : (b : Bool) → cond b (indexAny page key t) (concluded (Conclusion.Is (indexTarget page key t)) page) .conclusion ≡ Conclusion.Refused r
+          → cond b (indexAny page key t) (concluded (Conclusion.Is (indexTarget page key t)) page) .store ≡ page
+      go true e = any-refused t r e
+      go false e = refl

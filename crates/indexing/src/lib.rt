@@ -44,7 +44,7 @@ fn is_unknown(k: Kind) -> bool
     (k == NULL as Kind) | kinds::is_tuple(k)
 }
 
-// What indexing a Known type that is no union comes to.
+// What indexing a Known type comes to, where unions are not indexed: a union's member that is itself one fails.
 pub fn check_index_target(
     page: &[u8],
     offsets: &[usize],
@@ -147,7 +147,7 @@ fn try_members(
     trials
 }
 
-// What indexing a union comes to: every member is tried.
+// What indexing a union comes to: every member is tried. Of what the memo then holds nothing is said.
 pub fn check_index_any(
     page: &mut [u8],
     offsets: &mut [usize],
@@ -177,7 +177,8 @@ pub fn check_index_any(
     conclusion_of(enter_union(page, offsets, depths, &results, trials.merged))
 }
 
-// What indexing a checked type comes to, for crates above (`answers::check_index` is the entry call, and restores the store on a refusal).
+// What indexing a checked type comes to, for crates above (`answers::check_index` is the entry call). A refusal leaves
+// the store as it was; of what the memo then holds nothing is said.
 pub fn check_index(
     page: &mut [u8],
     offsets: &mut [usize],

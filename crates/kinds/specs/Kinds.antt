@@ -67,6 +67,10 @@ isEnum k = within 34 35 k
 abbrev pub isBuilt : ℕ → Bool
 isBuilt k = within 19 28 k
 
+-- Any, the union that answers are of
+abbrev pub any : ℕ
+any = 29
+
 -- "the last two are unions": Any and CAny
 abbrev pub isUnion : ℕ → Bool
 isUnion k = within 29 30 k

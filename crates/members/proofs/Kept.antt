@@ -3,6 +3,7 @@ use mathlib.Core.Path.{_≡_, ap}
 use mathlib.Core.List.{List}
 use Prim.Native.Nat.{ℕ, _<_}
 use native.Mathlib.Omega.{arith}
+use Rattle.refusals.specs.declared.Refusal.{Refusal}
 use Rattle.types.specs.Store.{Formed}
 use Rattle.types.specs.Types.{typesIn}
 use Rattle.types.specs.Making.{Grows}
@@ -31,6 +32,10 @@ kept-same page f o l = record { grown = grows-refl page; form = f; used = λ p e
 concluded-made : (m : Made) (o : Outcome) → conclude m ≡ Conclusion.Is o → m ≡ Made.At (numberOf (o .checked))
 concluded-made (Made.At t) o e = ap (λ (p : Outcome). Made.At (numberOf (p .checked))) (is-inj (outcome (Known t) noError) o e)
 concluded-made (Made.Refused r) o e = absurd (let z : _≡_ {A = ℕ} 0 1 = cc in omega arith)
+
+pub refused-made : (m : Made) (r : Refusal) → conclude m ≡ Conclusion.Refused r → m ≡ Made.Refused r
+refused-made (Made.At t) r e = absurd (let z : _≡_ {A = ℕ} 0 1 = cc in omega arith)
+refused-made (Made.Refused q) r e = cc
 
 -- a type that was entered, or its refusal
 pub kept-entered : (page : List ℕ) (x : Entered) → Sound page x → Kept page (concluded (conclude (x .made)) (x .store))

@@ -11,12 +11,12 @@ use lib.ListN.{length, getD, set, take, length-append, length-set}
 use lib.Seq.{take-suc, take-suc-set, length-take-le}
 use borrow.Author.Tests.{eq-eqb, ne-eqb, lt-ltb, le-ltb}
 use Rattle.refusals.specs.declared.Refusal.the-variants.{Width}
-use Rattle.kinds.specs.Kinds.{childrenMax}
+use Rattle.kinds.specs.Kinds.{childrenMax, any}
 use Rattle.types.specs.Types.{typesIn, Measured}
 use Rattle.types.specs.Making.{entryOf, Ready, enterAnswer, enterPage}
 use Rattle.types.specs.Calls.{allBelow}
 use Rattle.types.specs.declared.Made.{Made}
-use Rattle.members.specs.Members.{membersMax, has, merged, entered, any, unionOf}
+use Rattle.members.specs.Members.{membersMax, has, merged, entered, unionOf}
 use Rattle.members.proofs.Unions.{union-enterable}
 
 -- ---- is a type among results

@@ -10,17 +10,20 @@ use lib.ListN.{length}
 use borrow.Author.Tests.{lt-ltb, ltb-true, ltb-false, le-leb}
 use Rattle.refusals.specs.declared.Refusal.{Refusal}
 use Rattle.refusals.specs.declared.Refusal.the-variants.{Width}
+use Rattle.refusals.specs.Lowest.{unlessRefused}
+use Rattle.refusals.specs.declared.Verdict.{Verdict}
+use Rattle.pages.specs.Bytes.{countOf}
 use Rattle.pages.proofs.Quant.{and-true}
-use Rattle.kinds.specs.Kinds.{childrenMax, fewest, most}
-use Rattle.types.specs.Store.{Formed}
+use Rattle.kinds.specs.Kinds.{fixedMax, childrenMax, any, fewest, most}
+use Rattle.types.specs.Store.{equalTo, Formed}
 use Rattle.types.specs.Types.{typesIn}
-use Rattle.types.specs.Making.{entryOf, Enterable, enterAnswer, enterPage, Grows}
+use Rattle.types.specs.Making.{entryOf, isMade, Enterable, enterVerdict, numbered, enterAnswer, withEntry, enterPage, Grows}
 use Rattle.types.specs.Calls.{allBelow}
 use Rattle.types.specs.declared.Made.{Made}
 use Rattle.types.proofs.Grown.{grows-refl}
 use Rattle.types.proofs.Entries.{entry-whole, entry-parts}
 use Rattle.types.proofs.Again.{at-inj, enter-grows, enter-used, enter-again}
-use Rattle.members.specs.Members.{has, merged, any, Entered, entered, unionOf}
+use Rattle.members.specs.Members.{has, merged, Entered, entered, unionOf}
 
 -- ---- numbers below a bound
 
@@ -120,3 +123,28 @@ module _ (s : List ℕ) (f : Formed s) where
           let n = union-enterable s (x ∷ y ∷ rs) f (ltb-false childrenMax (length (x ∷ y ∷ rs)) e) u in
           let a = enter-again s entry f n r k q w fq in
           ap₂ entered (a .0) (a .1)
+
+-- ---- a union that is refused changes nothing
+
+enter-refused : (s entry : List ℕ) (q : Refusal) → enterAnswer s entry ≡ Made.Refused q → enterPage s entry ≡ s
+unfolding enterAnswer enterPage
+enter-refused s entry q = go (enterVerdict s entry)
+  where
+    go : (v : Verdict) → numbered v (fixedMax + equalTo s (countOf s) entry) ≡ Made.Refused q
+        → unlessRefused v (cond (isMade s entry) s (withEntry s entry)) s ≡ s
+    go Verdict.Passed e = absurd (let z : _≡_ {A = ℕ} 0 1 = cc in omega arith)
+    go (Verdict.Refused r) e = refl
+
+pub union-refused : (s rs : List ℕ) (q : Refusal) → unionOf s rs .made ≡ Made.Refused q → unionOf s rs .store ≡ s
+unfolding unionOf
+union-refused s [] q e = refl
+union-refused s (x ∷ []) q e = refl
+union-refused s (x ∷ y ∷ rs) q e = go (ltb childrenMax (length (x ∷ y ∷ rs))) e
+  where
+    entry : List ℕ
+    entry = entryOf any (x ∷ y ∷ rs) 0
+
+    go : (b : Bool) → cond b (entered (Made.Refused Width) s) (entered (enterAnswer s entry) (enterPage s entry)) .made ≡ Made.Refused q
+        → cond b (entered (Made.Refused Width) s) (entered (enterAnswer s entry) (enterPage s entry)) .store ≡ s
+    go true k = refl
+    go false k = enter-refused s entry q k

@@ -1,5 +1,5 @@
--- A type without unions that stands for a type in an operator's check. Whether an operator takes a union depends on one key that all
--- its leaves share, so that nested unions need no trial of every leaf.
+-- A type that is no union and stands for a type in an operator's check (docs/DECISIONS.md, "Nested unions"). Whether an operator takes
+-- a union depends on one key that all its leaves share, so that nested unions need no trial of every leaf.
 use mathlib.Core.Path.{_≡_}
 use mathlib.Core.Bool.{Bool, cond}
 use mathlib.Core.List.{List}

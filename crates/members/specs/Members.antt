@@ -6,7 +6,7 @@ use Prim.Native.Nat.{ℕ, zero, suc, _*_}
 use lib.Dec.{eqb, ltb}
 use lib.ListN.{length, getD}
 use Rattle.refusals.specs.declared.Refusal.the-variants.{Width}
-use Rattle.kinds.specs.Kinds.{childrenMax, isUnion}
+use Rattle.kinds.specs.Kinds.{childrenMax, any, isUnion}
 use Rattle.types.specs.Types.{kindOf, arity, childOf}
 use Rattle.types.specs.Making.{entryOf, enterAnswer, enterPage}
 use Rattle.types.specs.declared.Made.{Made}
@@ -60,11 +60,8 @@ pub record Entered : Type 0 where
 abbrev pub entered : Made → List ℕ → Entered
 entered m s = record { made = m; store = s }
 
--- the code of Any, of which "result unions are"
-abbrev pub any : ℕ
-any = 29
-
--- one result stays itself; several make a union, refused where it is "wider than 16"
+-- one result stays itself; several make a union, refused where it is "wider than 16". Where there is none nothing is entered: a check
+-- without a result has an error
 unfoldable pub unionOf : List ℕ → List ℕ → Entered
 unionOf store [] = entered (Made.At 0) store
 unionOf store (t ∷ []) = entered (Made.At t) store

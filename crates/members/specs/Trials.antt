@@ -34,7 +34,7 @@ noFailure = failures 0 0 0
 unfoldable pub failedAt : ℕ → ℕ → Failures → Failures
 failedAt x y f = cond (eqb (f .count) 0) (failures 1 x y) (failures (f .count + 1) (f .left) (f .right))
 
--- the errors of a union's check, where so many members passed: 7 some fail, 8 there is none
+-- the errors of a union's check: 7 some members fail; 8 there is none, that is, none fails and none of so many passed
 unfoldable pub errorsOf : Failures → ℕ → Errors
 errorsOf f passing = cond (eqb (f .count) 0) (cond (eqb passing 0) (oneError noMember) noError) (someFail (f .count) (f .left) (f .right))
 
@@ -52,7 +52,8 @@ unfoldable pub joined : ℕ → ℕ → Outcome → Tried → Tried
 joined x y o q =
     cond (passes o) (tried (merged (numberOf (o .checked)) (q .results)) (q .failed)) (tried (q .results) (failedAt x y (q .failed)))
 
--- the one result; where there are several it is their union, of which this says nothing yet
+-- the one result. Where several members come to several types the Rust makes a union of them; in a binary check that does not come
+-- about without a failure (`one-result` in crates/binary/proofs/Binary.antt), and with one the results are not looked at
 abbrev pub only : List ℕ → Checked
 only [] = Unknown
 only (t ∷ []) = Known t

@@ -24,7 +24,7 @@ ghost use Rattle.members.specs.Members.{membersMax, shareOf, membersOf, 
 ghost use Rattle.members.specs.Leaves.{keyOf, keyIn, leafOf, Leaves};
 
 // How many members a type has at most.
-pub const MEMBERS: usize = CHILDREN * CHILDREN;
+const MEMBERS: usize = CHILDREN * CHILDREN;
 
 // What a check comes to, or why the union that it answers is refused.
 pub enum Conclusion {
@@ -70,7 +70,7 @@ fn add_share(page: &[u8], offsets: &[usize], x: usize, types: &mut [u16], n: usi
     n + k
 }
 
-// Writes down the members of a type, and says how many they are.
+// Writes down the members of a type, and says how many they are; what stands after them is left free.
 pub fn flatten(page: &[u8], offsets: &[usize], t: usize, types: &mut [u16]) -> usize
     requires { ⌜ Held (now page) (now offsets) ⌝ }
     requires { ⌜ (t < typesIn (now page)) × (length (now types) ≡ membersMax) ⌝ }
@@ -106,7 +106,7 @@ fn is_among(types: &[u16], n: usize, t: usize) -> bool
     false
 }
 
-// Merges a result with the n before it, and says how many there are now.
+// Merges a result with the n before it, and says how many there are now; what stands after them is left free.
 pub fn merge(types: &mut [u16], n: usize, t: usize) -> usize
     requires { ⌜ (length (now types) ≡ membersMax) × (n < membersMax) × (t < typesMax) ⌝ }
     ensures { λ r. ⌜ (r ≤ n + 1) × (take r (now (types .exit)) ≡ merged t (take n (now (types .entry)))) × (length (now (types .exit)) ≡ membersMax) × (r ≡ length (merged t (take n (now (types .entry))))) ⌝ }

@@ -80,7 +80,7 @@ rowOf op = record { class = classOf op; unit = unitRule op; result = resultRule 
 
 -- ---- families
 
--- the kinds that answers are of
+-- families that the rules name
 abbrev pub int : ℕ
 int = 1
 
@@ -113,12 +113,12 @@ takes op f =
     cond (eqb (classOf op) logic) (eqb f bool)
     (cond (eqb (classOf op) equality) (not (eqb f noFamily)) (not (eqb (classOf op) notBinary) && isNumber f))
 
--- does it look at their units: "ordering of UInt and Byte does not look at units while == does"
+-- does it look at their units: < > <= >= only at those of Int and Float, == and != at all
 unfoldable pub looks : ℕ → ℕ → Bool
 looks op f =
     eqb (unitRule op) adopted || (eqb (unitRule op) compared && (eqb (classOf op) equality || (eqb f int || eqb f float)))
 
--- the kind of its answer
+-- the kind of its answer: the operands' family or Bool
 unfoldable pub gives : ℕ → ℕ → ℕ
 gives op f = cond (eqb (resultRule op) operands) f bool
 

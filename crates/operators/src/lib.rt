@@ -11,12 +11,12 @@ ghost use Rattle.operators.specs.Operators.{isOperator, rowOf, familyOf,
 ghost use Rattle.operators.specs.Outcome.{noError, oneError, twoErrors, someFail, outcome, numberOf, passes, notBools, misfit, plainBinary, unaryReason, plainUnary};
 
 // How many operators there are. Their codes begin at 1.
-pub const OPERATORS: usize = 13;
+const OPERATORS: usize = 13;
 
 // The operators that have one operand.
 pub const MINUS: usize = 2;
 
-pub const BANG: usize = 13;
+const BANG: usize = 13;
 
 // Classes of operators.
 const NOT_BINARY: u8 = 0;
@@ -121,6 +121,9 @@ const UINT: Kind = 3;
 const FLOAT: Kind = 5;
 
 const BOOL: Kind = 7;
+
+// The last of the kinds of Int, UInt and Float.
+const CFLOAT: Kind = 6;
 
 // The last of the fixed kinds that have a family.
 const CCHAR: Kind = 14;
@@ -295,7 +298,7 @@ pub fn family_of(k: Kind) -> Kind
 fn is_number(k: Kind) -> bool
     ensures { λ r. ⌜ r ≡ isNumber k ⌝ }
 {
-    ((1 <= k) & (k <= 6)) | ((11 <= k) & (k <= 12))
+    ((INT <= k) & (k <= CFLOAT)) | kinds::is_byte(k)
 }
 
 // Whether an operator takes two operands of that family.
@@ -457,6 +460,7 @@ fn unary_reason(op: usize, k: Kind) -> usize
 
 // An operator's own rule on one operand.
 pub fn plain_unary(op: usize, k: Kind) -> Outcome
+    requires { ⌜ 0 < op ⌝ }
     ensures { λ r. ⌜ r ≡ plainUnary op k ⌝ }
 {
     if taker_of(k) == op {

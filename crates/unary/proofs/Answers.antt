@@ -24,29 +24,29 @@ use Rattle.members.proofs.Members.{member-lower, members-grown}
 use Rattle.members.proofs.Unions.{below-more, merged-below, Sound, Again, refused-not, itself, union-sound, union-again}
 use Rattle.unary.proofs.Passing.{passing-taken, passing-member, passes-grown}
 use Rattle.unary.specs.Unary.{Results, so-far, stopped, oneMore, resultNext, resultsTo, together}
-use Rattle.unary.specs.Unary.{unaryPasses, answerRule, unaryAnswer}
+use Rattle.unary.specs.Unary.{unaryPasses, answerRule, unaryResult}
 
 -- ---- its equations
 
 -- the outcomes for types below t
 unfoldable pub under : ℕ → ℕ → List ℕ → Entered
-under t = below (λ (page : List ℕ). entered (Made.At null) page) t unaryAnswer
+under t = below (λ (page : List ℕ). entered (Made.At null) page) t unaryResult
 
-answer-eq : (t : ℕ) (page : List ℕ) → unaryAnswer t page ≡ answerRule t (under t) page
-unfolding unaryAnswer under
+answer-eq : (t : ℕ) (page : List ℕ) → unaryResult t page ≡ answerRule t (under t) page
+unfolding unaryResult under
 answer-eq t page = ap (λ (f : List ℕ → Entered). f page) (cov-eq (λ (x : List ℕ). entered (Made.At null) x) answerRule t)
 
-pub under-is : (t x : ℕ) (page : List ℕ) → x < t → under t x page ≡ unaryAnswer x page
+pub under-is : (t x : ℕ) (page : List ℕ) → x < t → under t x page ≡ unaryResult x page
 unfolding under
-under-is t x page l = ap (λ (f : List ℕ → Entered). f page) (below-lt (λ (s : List ℕ). entered (Made.At null) s) t unaryAnswer x l)
+under-is t x page l = ap (λ (f : List ℕ → Entered). f page) (below-lt (λ (s : List ℕ). entered (Made.At null) s) t unaryResult x l)
 
 pub answer-plain : (t : ℕ) (page : List ℕ) → isUnion (kindOf page t) ≡ false
-    → unaryAnswer t page ≡ entered (Made.At (familyOf (kindOf page t))) page
+    → unaryResult t page ≡ entered (Made.At (familyOf (kindOf page t))) page
 unfolding answerRule
 answer-plain t page h = answer-eq t page ∙ rw h refl
 
 pub answer-union : (t : ℕ) (page : List ℕ) → isUnion (kindOf page t) ≡ true
-    → unaryAnswer t page ≡ together (resultsTo (under t) page t (sizeOf page t))
+    → unaryResult t page ≡ together (resultsTo (under t) page t (sizeOf page t))
 unfolding answerRule
 answer-union t page h = answer-eq t page ∙ rw h refl
 
@@ -116,12 +116,12 @@ member-passes op {page} {t} p h i l s fs g =
     )
 
 module _ (op : ℕ) (o : 0 < op) where
-  sound-below : (m t : ℕ) → t < m → (page : List ℕ) → Passing op page t → Sound page (unaryAnswer t page)
+  sound-below : (m t : ℕ) → t < m → (page : List ℕ) → Passing op page t → Sound page (unaryResult t page)
   sound-below zero t l page p = absurd (not-suc-le-zero l)
   sound-below (suc m) t l page p = go (isUnion (kindOf page t)) refl (λ x k. sound-below m x (omega arith))
     where
-      go : (b : Bool) → isUnion (kindOf page t) ≡ b → ((x : ℕ) → x < t → (s : List ℕ) → Passing op s x → Sound s (unaryAnswer x s))
-          → Sound page (unaryAnswer t page)
+      go : (b : Bool) → isUnion (kindOf page t) ≡ b → ((x : ℕ) → x < t → (s : List ℕ) → Passing op s x → Sound s (unaryResult x s))
+          → Sound page (unaryResult t page)
       go false h ih =
           rw (answer-plain t page h)
           (itself page _ (p .0) (omega (arith, taken-low (kindOf page t) op (passing-taken page op t (p .2) h) o)))
@@ -133,7 +133,7 @@ module _ (op : ℕ) (o : 0 < op) where
           let all = results-sound (under t) page (p .0) t each (sizeOf page t) (le-refl (sizeOf page t)) in
           rw (answer-union t page h) (together-sound (under t) page (p .0) t each _ all)
 
-  pub answer-sound : (t : ℕ) (page : List ℕ) → Passing op page t → Sound page (unaryAnswer t page)
+  pub answer-sound : (t : ℕ) (page : List ℕ) → Passing op page t → Sound page (unaryResult t page)
   answer-sound t page = sound-below (suc t) t (omega arith) page
 
 -- ---- again
@@ -204,18 +204,18 @@ module _ (op : ℕ) (o : 0 < op) (page : List ℕ) (t : ℕ) (p : Passing op pag
         rw (results-again (sizeOf page t) (le-refl (sizeOf page t)) rs s e q from-s fq) (union-again s (z .1) rs (z .2) r k q g fq)
 
 module _ (op : ℕ) (o : 0 < op) where
-  again-below : (m t : ℕ) → t < m → (page : List ℕ) → Passing op page t → Again (unaryAnswer t) page
+  again-below : (m t : ℕ) → t < m → (page : List ℕ) → Passing op page t → Again (unaryResult t) page
   again-below zero t l page p r e q g fq = absurd (not-suc-le-zero l)
   again-below (suc m) t l page p r e q g fq = go (isUnion (kindOf page t)) refl (λ x k. again-below m x (omega arith))
     where
       grown : Grows page q
-      grown = grows-trans page (unaryAnswer t page .store) q (p .0) (answer-sound op o t page p .grown) g
+      grown = grows-trans page (unaryResult t page .store) q (p .0) (answer-sound op o t page p .grown) g
 
       kind : kindOf q t ≡ kindOf page t
       kind = kind-grown page q (p .0) grown t (p .1)
 
-      go : (b : Bool) → isUnion (kindOf page t) ≡ b → ((x : ℕ) → x < t → (s : List ℕ) → Passing op s x → Again (unaryAnswer x) s)
-          → unaryAnswer t q ≡ entered (Made.At r) q
+      go : (b : Bool) → isUnion (kindOf page t) ≡ b → ((x : ℕ) → x < t → (s : List ℕ) → Passing op s x → Again (unaryResult x) s)
+          → unaryResult t q ≡ entered (Made.At r) q
       go false h ih =
           answer-plain t q (rw kind h)
           ∙ rw kind (ap (λ (x : Made). entered x q) (sym (ap (λ (x : Entered). x .made) (answer-plain t page h)) ∙ e))
@@ -231,5 +231,5 @@ module _ (op : ℕ) (o : 0 < op) where
           ∙ rw (members-grown page q (p .0) grown t (p .1))
           (together-again op o page t p h members (resultsTo (under t) page t (sizeOf page t)) refl r (rw is at e) q (rw is at g) fq)
 
-  pub answer-again : (t : ℕ) (page : List ℕ) → Passing op page t → Again (unaryAnswer t) page
+  pub answer-again : (t : ℕ) (page : List ℕ) → Passing op page t → Again (unaryResult t) page
   answer-again t page = again-below (suc t) t (omega arith) page

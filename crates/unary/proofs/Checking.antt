@@ -37,7 +37,7 @@ use Rattle.unary.proofs.Failing.{errors-passes}
 use Rattle.unary.proofs.Answers.{under, under-is, answer-plain, answer-union, ResultsSound, results-of}
 use Rattle.unary.proofs.Answers.{Passing, member-passes, answer-sound, answer-again}
 use Rattle.unary.specs.Unary.{so-far, stopped, oneMore, resultNext, resultsTo, together}
-use Rattle.unary.specs.Unary.{unaryErrors, unaryAnswer, Remembered, Working, checkUnary}
+use Rattle.unary.specs.Unary.{unaryErrors, unaryResult, Remembered, Working, checkUnary}
 
 -- ---- what is remembered
 
@@ -55,7 +55,7 @@ remembered-grown p q done f g m = record {
 
 -- what a working type came to, and what is promised of it
 abbrev pub Done : ℕ → List ℕ → List ℕ → List ℕ → List ℕ → List ℕ → Made → Type 0
-Done t page after os ds done r = (entered r after ≡ unaryAnswer t page) × (Measured after os ds × Remembered after done)
+Done t page after os ds done r = (entered r after ≡ unaryResult t page) × (Measured after os ds × Remembered after done)
 
 module _ {page os ds done : List ℕ} {op t : ℕ} (w : Working page os ds done op t) where
   form : Formed page
@@ -84,7 +84,7 @@ module _ {page os ds done : List ℕ} {op t : ℕ} (w : Working page os ds done 
     pub done-low : {m : Made} → Done t page after os′ ds′ done′ m → {r : ℕ} → m ≡ Made.At r → r < typesMax
     done-low z {r} e =
         let s = answer-sound op (w .operator) t page passing in
-        omega (arith, s .used r (sym (ap (λ (o : Entered). o .made) (z .0)) ∙ e), types-few (unaryAnswer t page .store) (s .form))
+        omega (arith, s .used r (sym (ap (λ (o : Entered). o .made) (z .0)) ∙ e), types-few (unaryResult t page .store) (s .form))
 
     -- what it came to, remembered
     pub done-noted : {r : ℕ} → Done t page after os′ ds′ done′ (Made.At r) → Done t page after os′ ds′ (set done′ t (r + 1)) (Made.At r)
@@ -100,7 +100,7 @@ module _ {page os ds done : List ℕ} {op t : ℕ} (w : Working page os ds done 
     )
       where
         go : (u x : ℕ) → getD (set done′ t (suc r)) u 0 ≡ suc x → (q : List ℕ) → Grows after q → Formed q → (b : Bool) → eqb u t ≡ b
-            → unaryAnswer u q ≡ entered (Made.At x) q
+            → unaryResult u q ≡ entered (Made.At x) q
         go u x e q g f true b =
             let h = eqb-true u t b in
             let noted = getD-set-same done′ t (suc r) 0 (omega (arith, low, z .1 .1 .size)) in
@@ -246,7 +246,7 @@ module _ {page os ds : List ℕ} (m : Measured page os ds) {op t : ℕ} (o : 0 <
       remembered = rw d (remembered-none page);
     }
 
-    pub known-done : {r : Made} {q : List ℕ} → entered r q ≡ unaryAnswer t page → {d : Conclusion} → d ≡ conclude r
+    pub known-done : {r : Made} {q : List ℕ} → entered r q ≡ unaryResult t page → {d : Conclusion} → d ≡ conclude r
         → concluded d q ≡ checkUnary page op (Checked.Known t)
     unfolding checkUnary
     known-done a d = rw (none, ← a, d) refl

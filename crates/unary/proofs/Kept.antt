@@ -16,7 +16,7 @@ use Rattle.operators.specs.Outcome.{noError, oneError, outcome, numberOf, unary
 use Rattle.members.specs.Members.{concluded, conclude}
 use Rattle.members.specs.declared.Conclusion.{Conclusion}
 use Rattle.members.proofs.Kept.{Kept, kept-same, kept-entered}
-use Rattle.unary.specs.Unary.{unaryErrors, unaryAnswer, checkUnary}
+use Rattle.unary.specs.Unary.{unaryErrors, unaryResult, checkUnary}
 use Rattle.unary.proofs.Failing.{errors-passes}
 use Rattle.unary.proofs.Answers.{answer-sound}
 
@@ -40,7 +40,7 @@ module _ (page : List ℕ) (f : Formed page) (op : ℕ) (o : 0 < op) where
       u = known-in-use page t h
 
       go : (b : Bool) → eqb (unaryErrors page op t .count) 0 ≡ b
-          → Kept page (cond b (concluded (conclude (unaryAnswer t page .made)) (unaryAnswer t page .store))
+          → Kept page (cond b (concluded (conclude (unaryResult t page .made)) (unaryResult t page .store))
           (concluded (Conclusion.Is (outcome Unknown (unaryErrors page op t))) page))
-      go true e = kept-entered page (unaryAnswer t page) (answer-sound op o t page (f, u, sym (errors-passes page op t f u) ∙ e))
+      go true e = kept-entered page (unaryResult t page) (answer-sound op o t page (f, u, sym (errors-passes page op t f u) ∙ e))
       go false e = kept-same page f (outcome Unknown (unaryErrors page op t)) (omega arith)

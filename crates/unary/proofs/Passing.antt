@@ -8,7 +8,6 @@ use native.Mathlib.Nat.{not-suc-le-zero}
 use native.Mathlib.Omega.{arith}
 use lib.Dec.{eqb, ltb}
 use lib.ListN.{length, getD}
-use lib.Seq.{getD-take}
 use borrow.Author.Tests.{eqb-true, eq-eqb, ne-eqb, ltb-true, lt-ltb}
 use Rattle.pages.specs.Quant.{allTo}
 use Rattle.pages.proofs.Quant.{and-true, all-at, all-cong, all-each, all-failed}
@@ -20,22 +19,29 @@ use Rattle.types.specs.Making.{Grows}
 use Rattle.types.proofs.Recur.{below-lt, cov-eq}
 use Rattle.types.proofs.Types.{types-few}
 use Rattle.types.proofs.Grown.{kind-grown}
+use Rattle.matching.specs.declared.Checked.the-variants.{Known, Unknown}
 use Rattle.operators.specs.Operators.{familyOf, takerOf}
+use Rattle.operators.specs.Outcome.{noError, oneError, outcome, passes, unaryReason, plainUnary}
+use Rattle.operators.specs.declared.Outcome.{Outcome}
 use Rattle.members.specs.Members.{sizeOf, member}
 use Rattle.members.specs.Leaves.{keyOf, keyIn, agreed, leafOf, Leaves}
 use Rattle.members.proofs.Members.{member-lower, members-grown}
-use Rattle.members.proofs.Flattening.{Flattened}
 use Rattle.members.proofs.Leaves.{leaf-union, leaf-itself, leaf-used}
 use Rattle.unary.specs.Unary.{passRule, unaryPasses}
-
--- a member as `flatten` wrote it down
-pub member-is : (page : List ℕ) (t n : ℕ) (types : List ℕ) → Flattened page t n types → (i x : ℕ) → i < n → x ≡ getD types i 0
-    → x ≡ member page t i
-member-is page t n types z i x l e = e ∙ sym (getD-take n types i 0 l) ∙ ap (λ (xs : List ℕ). getD xs i 0) (z .2)
 
 -- does member i of t pass
 abbrev pub memberPasses : List ℕ → ℕ → ℕ → ℕ → Bool
 memberPasses page op t i = unaryPasses page op (member page t i)
+
+-- ---- an operator's own rule
+
+plain-passes : (op k : ℕ) → passes (plainUnary op k) ≡ eqb (takerOf k) op
+unfolding passes plainUnary
+plain-passes op k = go (eqb (takerOf k) op)
+  where
+    go : (b : Bool) → passes (cond b (outcome (Known (familyOf k)) noError) (outcome Unknown (oneError (unaryReason op k)))) ≡ b
+    go true = refl
+    go false = refl
 
 -- ---- equations
 
@@ -139,8 +145,8 @@ module _ (page offsets leaves : List ℕ) (h : Held page offsets) (v : Leaves tr
     pub leaf-asks : Held page offsets × (x < typesIn page)
     leaf-asks = (h, rw leaf-is (leaf-used true page (h .sound) t u))
 
-    pub passes-by : (op : ℕ) → 0 < op → (k r : ℕ) → k ≡ kindOf page x → r ≡ takerOf k → eqb r op ≡ unaryPasses page op t
-    passes-by op o k r e d = rw (d, e, leaf-is) (sym (passes-leaf page (h .sound) op o t u))
+    pub passes-by : (op : ℕ) → 0 < op → (k : ℕ) (q : Outcome) → k ≡ kindOf page x → q ≡ plainUnary op k → passes q ≡ unaryPasses page op t
+    passes-by op o k q e d = rw (d, e, leaf-is) (plain-passes op (kindOf page (leafOf true page t)) ∙ sym (passes-leaf page (h .sound) op o t u))
 
 -- ---- a type that passes
 

@@ -35,7 +35,7 @@ passRule page op rule t =
 unfoldable pub unaryPasses : List ℕ → ℕ → ℕ → Bool
 unaryPasses page op = cov false (λ t rule. passRule page op rule t)
 
--- the first n members of t that fail
+-- of the first n members of t those that fail
 unfoldable pub failing : List ℕ → ℕ → ℕ → ℕ → Failures
 failing page op t n = foldTo n (λ i f. cond (unaryPasses page op (member page t i)) f (failedAt (member page t i) 0 f)) noFailure
 
@@ -75,15 +75,15 @@ unfoldable pub answerRule : ℕ → (ℕ → List ℕ → Entered) → List ℕ 
 answerRule t rule page =
     cond (isUnion (kindOf page t)) (together (resultsTo rule page t (sizeOf page t))) (entered (Made.At (familyOf (kindOf page t))) page)
 
-unfoldable pub unaryAnswer : ℕ → List ℕ → Entered
-unaryAnswer = cov {R = List ℕ → Entered} (λ page. entered (Made.At null) page) answerRule
+unfoldable pub unaryResult : ℕ → List ℕ → Entered
+unaryResult = cov {R = List ℕ → Entered} (λ page. entered (Made.At null) page) answerRule
 
 -- ---- what src/ keeps in mind
 
 -- under t one more than what the check of t answers, for this store and every store that grows out of it
 pub record Remembered (page done : List ℕ) : Type 0 where
   pub size : length done ≡ typesMax
-  pub right : (t r : ℕ) → getD done t 0 ≡ suc r → (q : List ℕ) → Grows page q → Formed q → unaryAnswer t q ≡ entered (Made.At r) q
+  pub right : (t r : ℕ) → getD done t 0 ≡ suc r → (q : List ℕ) → Grows page q → Formed q → unaryResult t q ≡ entered (Made.At r) q
 
 -- a type whose check passes, in a store with its tables
 pub record Working (page offsets ds done : List ℕ) (op t : ℕ) : Type 0 where
@@ -100,5 +100,5 @@ unfoldable pub checkUnary : List ℕ → ℕ → Checked → Concluded
 checkUnary page op Unknown = concluded (Conclusion.Is (outcome Unknown noError)) page
 checkUnary page op (Function t) = concluded (Conclusion.Is (plainUnary op noFamily)) page
 checkUnary page op (Known t) =
-    cond (eqb (unaryErrors page op t .count) 0) (concluded (conclude (unaryAnswer t page .made)) (unaryAnswer t page .store))
+    cond (eqb (unaryErrors page op t .count) 0) (concluded (conclude (unaryResult t page .made)) (unaryResult t page .store))
     (concluded (Conclusion.Is (outcome Unknown (unaryErrors page op t))) page)

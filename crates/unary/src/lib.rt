@@ -24,16 +24,16 @@ ghost use Rattle.types.specs.Types.{typesIn, kindOf, Held, Measured};
 ghost use Rattle.matching.specs.Matching.{inUse};
 ghost use Rattle.members.specs.Members.{entered, concluded};
 ghost use Rattle.members.specs.Leaves.{Leaves};
-ghost use Rattle.unary.specs.Unary.{unaryPasses, unaryErrors, unaryAnswer, Remembered, Working, checkUnary};
+ghost use Rattle.unary.specs.Unary.{unaryPasses, unaryErrors, unaryResult, Remembered, Working, checkUnary};
 
-// Whether the check of a type has no error, by the leaf that stands for it.
+// Whether the check of a type has no error: the operator's own rule is tried on the leaf that stands for it, and hands back its errors.
 fn does_pass(page: &[u8], offsets: &[usize], leaves: &[u16], op: usize, t: usize) -> bool
     requires { ⌜ Held (now page) (now offsets) ⌝ }
     requires { ⌜ Leaves true (now page) (now leaves) (typesIn (now page)) ⌝ }
     requires { ⌜ (0 < op) × (t < typesIn (now page)) ⌝ }
     ensures { λ r. ⌜ r ≡ unaryPasses (now (page .entry)) op t ⌝ }
 {
-    operators::taker_of(kind_of(page, offsets, leaf_at(leaves, t))) == op
+    operators::does_pass(operators::plain_unary(op, kind_of(page, offsets, leaf_at(leaves, t))))
 }
 
 // The errors of the check of a union: how many members fail, and the first of them, or that there is none.
@@ -118,7 +118,7 @@ fn check_unary_operator(
     t: usize,
 ) -> Made
     requires { ⌜ Working (now page) (now offsets) (now depths) (now done) op t ⌝ }
-    ensures { λ r. ⌜ entered r (now (page .exit)) ≡ unaryAnswer t (now (page .entry)) ⌝ }
+    ensures { λ r. ⌜ entered r (now (page .exit)) ≡ unaryResult t (now (page .entry)) ⌝ }
     ensures { λ _. ⌜ Measured (now (page .exit)) (now (offsets .exit)) (now (depths .exit)) × Remembered (now (page .exit)) (now (done .exit)) ⌝ }
 {
     let kind = kind_of(page, offsets, t);
@@ -147,7 +147,7 @@ fn check_unary_any(
 ) -> Made
     requires { ⌜ Working (now page) (now offsets) (now depths) (now done) op t ⌝ }
     requires { ⌜ isUnion (kindOf (now page) t) ≡ true ⌝ }
-    ensures { λ r. ⌜ entered r (now (page .exit)) ≡ unaryAnswer t (now (page .entry)) ⌝ }
+    ensures { λ r. ⌜ entered r (now (page .exit)) ≡ unaryResult t (now (page .entry)) ⌝ }
     ensures { λ _. ⌜ Measured (now (page .exit)) (now (offsets .exit)) (now (depths .exit)) × Remembered (now (page .exit)) (now (done .exit)) ⌝ }
 {
     let mut types = no_members();

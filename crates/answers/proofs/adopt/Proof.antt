@@ -5,27 +5,27 @@ use borrow.Author.Needs.{needs}
 use Rattle.answers.proofs.adopt.Statement.{statement}
 use Rattle.answers.proofs.adopt.Tie as tie
 
-is-unitless-requires : tie.Need-is-unitless-requires
-is-unitless-requires c κs = search needs
+is-dimensionless-requires : tie.Need-is-dimensionless-requires
+is-dimensionless-requires c κs = search needs
 
 returns : tie.Need-returns
 unfolding adoptedBy
-returns c = rw (← c .before .is-unitless .ensures, not-true (c .before .is-unitless .result) (c .if1 .taken))
+returns c = rw (← c .before .is-dimensionless .ensures, not-true (c .before .is-dimensionless .result) (c .if1 .taken))
 
-is-unitless-requires-2 : tie.Need-is-unitless-requires-2
-is-unitless-requires-2 c κs = search needs
+is-dimensionless-requires-2 : tie.Need-is-dimensionless-requires-2
+is-dimensionless-requires-2 c κs = search needs
 
 returns-2 : tie.Need-returns-2
 unfolding adoptedBy
 returns-2 c =
-    let is-unitless = c .before .before .before .is-unitless in
+    let is-dimensionless = c .before .before .before .is-dimensionless in
     let if1 = c .before .before .if1 in
-    let is-unitless2 = c .before .is-unitless2 in
+    let is-dimensionless2 = c .before .is-dimensionless2 in
     rw (
-      ← is-unitless .ensures,
-      not-false (is-unitless .result) (if1 .left),
-      ← is-unitless2 .ensures,
-      not-true (is-unitless2 .result)
+      ← is-dimensionless .ensures,
+      not-false (is-dimensionless .result) (if1 .left),
+      ← is-dimensionless2 .ensures,
+      not-true (is-dimensionless2 .result)
           (c .if2 .taken),
     )
 
@@ -35,15 +35,15 @@ no-unit-requires c κs = search needs
 returns-3 : tie.Need-returns-3
 unfolding adoptedBy
 returns-3 c =
-    let is-unitless = c .before .before .before .before .is-unitless in
+    let is-dimensionless = c .before .before .before .before .is-dimensionless in
     let if1 = c .before .before .before .if1 in
-    let is-unitless2 = c .before .before .is-unitless2 in
+    let is-dimensionless2 = c .before .before .is-dimensionless2 in
     let if2 = c .before .if2 in
     rw (
-      ← is-unitless .ensures,
-      not-false (is-unitless .result) (if1 .left),
-      ← is-unitless2 .ensures,
-      not-false (is-unitless2 .result)
+      ← is-dimensionless .ensures,
+      not-false (is-dimensionless .result) (if1 .left),
+      ← is-dimensionless2 .ensures,
+      not-false (is-dimensionless2 .result)
           (if2 .left),
     ) (c .no-unit .ensures)
 
@@ -51,9 +51,9 @@ pub adopt-spec : {M : Type 1} → statement M
 adopt-spec =
     tie.close
     (tie.spec
-    is-unitless-requires
+    is-dimensionless-requires
     returns
-    is-unitless-requires-2
+    is-dimensionless-requires-2
     returns-2
     no-unit-requires
     returns-3)

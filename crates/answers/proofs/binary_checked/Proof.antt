@@ -4,8 +4,8 @@ use borrow.Author.Needs.{needs}
 use Rattle.answers.proofs.binary_checked.Statement.{statement}
 use Rattle.answers.proofs.binary_checked.Tie as tie
 
-does-clash-requires : tie.Need-does-clash-requires
-does-clash-requires c κs = search needs
+add-unit-mismatch-requires : tie.Need-add-unit-mismatch-requires
+add-unit-mismatch-requires c κs = search needs
 
 no-leaves-requires : tie.Need-no-leaves-requires
 no-leaves-requires c κs = search needs
@@ -31,16 +31,16 @@ with-unit-requires c κs = search needs
 returns : tie.Need-returns
 unfolding binaryChecked
 returns c =
-    let does-clash = c .before .before .before .before .before .before .before .before .does-clash in
+    let add-unit-mismatch = c .before .before .before .before .before .before .before .before .add-unit-mismatch in
     let check-binary = c .before .before .check-binary in
     let binary-unit = c .before .binary-unit in
-    rw (← does-clash .ensures, ← check-binary .ensures, ← binary-unit .ensures) (c .with-unit .ensures)
+    rw (← add-unit-mismatch .ensures, ← check-binary .ensures, ← binary-unit .ensures) (c .with-unit .ensures)
 
 pub binary-checked-spec : {M : Type 1} → statement M
 binary-checked-spec =
     tie.close
     (tie.spec
-    does-clash-requires
+    add-unit-mismatch-requires
     no-leaves-requires
     slice-aggregate-fill-leaves
     fill-leaves-requires

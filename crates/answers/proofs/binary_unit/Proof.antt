@@ -8,25 +8,25 @@ use Rattle.answers.proofs.binary_unit.Tie as tie
 row-of-requires : tie.Need-row-of-requires
 row-of-requires c κs = search needs
 
-combine-requires : tie.Need-combine-requires
-combine-requires c κs = search needs
+combine-units-requires : tie.Need-combine-units-requires
+combine-units-requires c κs = search needs
 
 returns : tie.Need-returns
 unfolding binaryUnit
 returns c =
     let row-of = c .before .before .before .row-of in
     let if1 = c .before .if1 in
-    rw (rw (row-of .ensures) at (if1 .taken)) (c .combine .ensures)
+    rw (rw (row-of .ensures) at (if1 .taken)) (c .combine-units .ensures)
 
-combine-requires-2 : tie.Need-combine-requires-2
-combine-requires-2 c κs = search needs
+combine-units-requires-2 : tie.Need-combine-units-requires-2
+combine-units-requires-2 c κs = search needs
 
 returns-2 : tie.Need-returns-2
 unfolding binaryUnit
 returns-2 c =
     let row-of = c .before .before .before .before .before .row-of in
     let if2 = c .before .if2 in
-    rw (rw (row-of .ensures) at (if2 .taken)) (c .combine2 .ensures)
+    rw (rw (row-of .ensures) at (if2 .taken)) (c .combine-units2 .ensures)
 
 no-unit-requires : tie.Need-no-unit-requires
 no-unit-requires c κs = search needs
@@ -61,9 +61,9 @@ binary-unit-spec =
     tie.close
     (tie.spec
     row-of-requires
-    combine-requires
+    combine-units-requires
     returns
-    combine-requires-2
+    combine-units-requires-2
     returns-2
     no-unit-requires
     adopt-requires

@@ -7,7 +7,7 @@ use denote.Ref.{now}
 use borrow.Author.Needs.{needs}
 use borrow.Author.Tests.{not-true, not-false}
 use Rattle.kinds.specs.Kinds.{isUnion}
-use Rattle.unary.proofs.Passing.{member-is}
+use Rattle.members.proofs.Flattening.{member-is}
 use Rattle.unary.proofs.Checking.{low, done-plain, done-before, done-low, done-noted}
 use Rattle.unary.proofs.Checking.{Trying, tried-none, tried-size, member-low, member-works, member-room, tried-next, tried-stop}
 use Rattle.unary.proofs.Checking.{union-asks, union-done}

@@ -10,7 +10,7 @@ use Rattle.members.specs.Members.{sizeOf}
 use Rattle.members.specs.Trials.{failures}
 use Rattle.members.proofs.Members.{member-used}
 use Rattle.unary.specs.Unary.{failing}
-use Rattle.unary.proofs.Passing.{member-is}
+use Rattle.members.proofs.Flattening.{member-is}
 use Rattle.unary.proofs.Failing.{failing-none, passed-more, first-failed, next-failed, errors-empty, errors-none, errors-some}
 use borrow.Author.Needs.{needs}
 use Rattle.unary.proofs.any_errors.Statement.{statement}

@@ -17,17 +17,22 @@ kind-of-requires c κs =
     let a = start .args in
     leaf-asks (now (a .page)) _ _ (pre .0) (pre .1 .0) (a .t) (pre .1 .1 .1) (c .leaf-at .result) (c .leaf-at .ensures)
 
-taker-of-requires : tie.Need-taker-of-requires
-taker-of-requires c κs = search needs
+plain-unary-requires : tie.Need-plain-unary-requires
+plain-unary-requires c κs = search needs
+
+does-pass-requires : tie.Need-does-pass-requires
+does-pass-requires c κs = search needs
 
 returns : tie.Need-returns
 returns c =
-    let read = c .before .before in
+    let read = c .before .before .before in
     let start = read .before .before .before .before in
     let pre = start .pre in
     let a = start .args in
-    passes-by (now (a .page)) _ _ (pre .0) (pre .1 .0) (a .t) (pre .1 .1 .1) (read .leaf-at .result) (read .leaf-at .ensures) (a .op)
-    (pre .1 .1 .0) _ (c .taker-of .result) (c .before .kind-of .ensures) (c .taker-of .ensures)
+    let plain = c .before .plain-unary in
+    rw (c .does-pass .ensures)
+    (passes-by (now (a .page)) _ _ (pre .0) (pre .1 .0) (a .t) (pre .1 .1 .1) (read .leaf-at .result) (read .leaf-at .ensures) (a .op)
+    (pre .1 .1 .0) _ (plain .result) (c .before .before .kind-of .ensures) (plain .ensures))
 
 pub does-pass-spec : {M : Type 1} → statement M
-does-pass-spec = tie.close (tie.spec leaf-at-requires kind-of-requires taker-of-requires returns)
+does-pass-spec = tie.close (tie.spec leaf-at-requires kind-of-requires plain-unary-requires does-pass-requires returns)

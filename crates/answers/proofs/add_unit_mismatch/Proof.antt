@@ -1,4 +1,4 @@
--- `answers::does_clash` meets its contract. Assumes nothing.
+-- `answers::add_unit_mismatch` meets its contract. Assumes nothing.
 use mathlib.Core.Path.{sym, _∙_}
 use denote.Ref.{now}
 use native.Mathlib.Omega.{arith}
@@ -11,26 +11,26 @@ use Rattle.sums.specs.Calls.{rootsIn}
 use Rattle.answers.specs.Units.{clashes}
 use Rattle.answers.proofs.Units.{clash-by}
 use borrow.Author.Needs.{needs}
-use Rattle.answers.proofs.does_clash.Statement.{statement}
-use Rattle.answers.proofs.does_clash.Tie as tie
+use Rattle.answers.proofs.add_unit_mismatch.Statement.{statement}
+use Rattle.answers.proofs.add_unit_mismatch.Tie as tie
 
-is-unitless-requires : tie.Need-is-unitless-requires
-is-unitless-requires c κs = search needs
+is-dimensionless-requires : tie.Need-is-dimensionless-requires
+is-dimensionless-requires c κs = search needs
 
 returns : tie.Need-returns
 unfolding clashes
-returns c = rw (← c .before .is-unitless .ensures, c .if1 .taken)
+returns c = rw (← c .before .is-dimensionless .ensures, c .if1 .taken)
 
-is-unitless-requires-2 : tie.Need-is-unitless-requires-2
-is-unitless-requires-2 c κs = search needs
+is-dimensionless-requires-2 : tie.Need-is-dimensionless-requires-2
+is-dimensionless-requires-2 c κs = search needs
 
 returns-2 : tie.Need-returns-2
 unfolding clashes
 returns-2 c =
-    let is-unitless = c .before .before .before .is-unitless in
+    let is-dimensionless = c .before .before .before .is-dimensionless in
     let if1 = c .before .before .if1 in
-    let is-unitless2 = c .before .is-unitless2 in
-    rw (← is-unitless .ensures, if1 .left, ← is-unitless2 .ensures, c .if2 .taken)
+    let is-dimensionless2 = c .before .is-dimensionless2 in
+    rw (← is-dimensionless .ensures, if1 .left, ← is-dimensionless2 .ensures, c .if2 .taken)
 
 or-empty-requires : tie.Need-or-empty-requires
 or-empty-requires c κs = search needs
@@ -60,9 +60,9 @@ returns-3 : tie.Need-returns-3
 returns-3 c =
     let start = c .before .before .before .before .before .before .before .before .before .before in
     let count = c .before .count in
-    let is-unitless = c .before .before .before .before .before .before .before .before .is-unitless in
+    let is-dimensionless = c .before .before .before .before .before .before .before .before .is-dimensionless in
     let if1 = c .before .before .before .before .before .before .before .if1 in
-    let is-unitless2 = c .before .before .before .before .before .before .is-unitless2 in
+    let is-dimensionless2 = c .before .before .before .before .before .before .is-dimensionless2 in
     let if2 = c .before .before .before .before .before .if2 in
     let or-empty = c .before .before .before .before .or-empty in
     let or-empty2 = c .before .before .before .or-empty2 in
@@ -70,17 +70,17 @@ returns-3 c =
     let table = now (start .args .table) in
     let k = count .result in
     clash-by (rootsIn table) (walk k (parentsIn table)) (λ s. root-in table namesMax k s (start .pre .0) (count .ensures .0))
-    (start .args .left .unit) (start .args .right .unit) (sym (is-unitless .ensures) ∙ if1 .left)
-    (sym (is-unitless2 .ensures) ∙ if2 .left) (c .convertible .result)
+    (start .args .left .unit) (start .args .right .unit) (sym (is-dimensionless .ensures) ∙ if1 .left)
+    (sym (is-dimensionless2 .ensures) ∙ if2 .left) (c .convertible .result)
     (rw (or-empty .ensures, or-empty2 .ensures, parents-of .ensures .0) at (c .convertible .ensures))
 
-pub does-clash-spec : {M : Type 1} → statement M
-does-clash-spec =
+pub add-unit-mismatch-spec : {M : Type 1} → statement M
+add-unit-mismatch-spec =
     tie.close
     (tie.spec
-    is-unitless-requires
+    is-dimensionless-requires
     returns
-    is-unitless-requires-2
+    is-dimensionless-requires-2
     returns-2
     or-empty-requires
     or-empty-requires-2

@@ -1,8 +1,8 @@
--- `answers::combine` meets its contract. Assumes nothing.
+-- `answers::combine_units` meets its contract. Assumes nothing.
 use Rattle.answers.specs.Units.{combined}
 use borrow.Author.Needs.{needs}
-use Rattle.answers.proofs.combine.Statement.{statement}
-use Rattle.answers.proofs.combine.Tie as tie
+use Rattle.answers.proofs.combine_units.Statement.{statement}
+use Rattle.answers.proofs.combine_units.Tie as tie
 
 or-empty-requires : tie.Need-or-empty-requires
 or-empty-requires c κs = search needs
@@ -24,7 +24,7 @@ returns c =
     let or-empty2 = c .before .before .before .or-empty2 in
     rw (c .or-none .ensures, product .ensures, or-empty .ensures, or-empty2 .ensures)
 
-pub combine-spec : {M : Type 1} → statement M
-combine-spec =
+pub combine-units-spec : {M : Type 1} → statement M
+combine-units-spec =
     tie.close
     (tie.spec or-empty-requires or-empty-requires-2 product-requires or-none-requires returns)

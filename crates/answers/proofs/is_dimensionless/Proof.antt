@@ -1,8 +1,8 @@
--- `answers::is_unitless` meets its contract. Assumes nothing.
+-- `answers::is_dimensionless` meets its contract. Assumes nothing.
 use Rattle.units.specs.Calls.{unitless}
 use Rattle.units.proofs.Form.{length-terms}
-use Rattle.answers.proofs.is_unitless.Statement.{statement}
-use Rattle.answers.proofs.is_unitless.Tie as tie
+use Rattle.answers.proofs.is_dimensionless.Statement.{statement}
+use Rattle.answers.proofs.is_dimensionless.Tie as tie
 
 returns : tie.Need-returns
 unfolding unitless
@@ -16,5 +16,5 @@ returns-2 c =
     let u = start .args .m .unit in
     rw (if1 .left, length-terms (u .count) 0 (u .symbols) (u .exponents))
 
-pub is-unitless-spec : {M : Type 1} → statement M
-is-unitless-spec = tie.close (tie.spec returns returns-2)
+pub is-dimensionless-spec : {M : Type 1} → statement M
+is-dimensionless-spec = tie.close (tie.spec returns returns-2)
