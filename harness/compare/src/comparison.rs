@@ -88,13 +88,14 @@ fn difference(question: &Question, expected: &Answer, found: &Result<Answer, Str
         Err(misdeed) => misdeed.clone(),
     };
     format!(
-        "  argument {} page [{}] first [{}] second [{}] names [{}]\n    \
+        "  argument {} page [{}] first [{}] second [{}] names [{}] pairs [{}]\n    \
          expected {}\n    found    {found}\n",
         question.argument,
         hexadecimal(&question.page),
         hexadecimal(&question.first),
         hexadecimal(&question.second),
         hexadecimal(&question.names),
+        hexadecimal(&question.pairs),
         answer_text(expected),
     )
 }

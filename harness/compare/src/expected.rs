@@ -1,10 +1,10 @@
 //! The expected answer to any question, from the oracle and the model alone.
 
-use crate::call::{Answer, Call, Question};
-use crate::{names, pairs, types, units};
+use crate::call::{Answer, Call, Operand, Outcome, Question};
+use crate::{answers, names, pairs, types, units};
 
 pub fn expected(question: &Question) -> Answer {
-    let Question { call, argument, page, first, second, names } = question;
+    let Question { call, argument, page, first, second, names, .. } = question;
     let (symbol, lent) = (question.symbol(), question.lent());
     let bindings = || question.bindings().expect("bindings");
     let outcome = match call {
@@ -32,6 +32,22 @@ pub fn expected(question: &Question) -> Answer {
         Call::Unify => types::unify(page, names, lent, question.two_numbers(), bindings()),
         Call::UnifyArg => types::unify_arg(page, names, lent, question.two_numbers(), bindings()),
         Call::Substitute => types::substitute(page, names, lent, question.number(), bindings()),
+        Call::CheckBinaryOperator => check_binary_operator(question),
+        Call::CheckUnaryOperator => {
+            let [op, checked] = question.two_numbers();
+            let operand = Operand { checked, unit: question.unit() };
+            answers::check_unary_operator(question.pages(), op, operand)
+        }
+        Call::CheckIndex => {
+            let [checked, key] = question.two_numbers();
+            let target = Operand { checked, unit: question.unit() };
+            answers::check_index(question.pages(), target, key)
+        }
     };
     Answer::new(question, outcome)
+}
+
+fn check_binary_operator(question: &Question) -> Outcome {
+    let (op, left, right) = question.operation();
+    answers::check_binary_operator(question.pages(), op, left, right)
 }

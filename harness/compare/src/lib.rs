@@ -2,7 +2,8 @@
 //!
 //! - `call`: the calls, a question put to one of them, and its answer
 //! - `limits`: document 01's limits and refusal numbers
-//! - `names`, `units`, `pairs`, `types`: the expected answers, one file per module of the translation
+//! - `names`, `units`, `pairs`, `types`, `answers`: the expected answers, one file or folder per
+//!   module of the translation
 //! - `inputs`: the questions of a comparison, one file per module
 //! - `comparison`: asks both sides and counts where they differ
 //! - `sample`: the stored sample, its chosen rows and its format
@@ -10,6 +11,7 @@
 //!
 //! Nothing here calls the static library; only the programs `compare` and `measure` do.
 
+pub mod answers;
 pub mod call;
 pub mod comparison;
 pub mod expected;

@@ -39,6 +39,10 @@ pub const NO_UNIT: [u8; 1] = [255];
 
 pub const FACTOR_BYTES: usize = 8;
 
+/// An answer beside its type: how many errors, the reasons of two, the count of failing
+/// members and the first or the first pair of them, and the unit.
+pub const ANSWER_BYTES: usize = 1 + 2 + 4 + 2 * 2 + UNIT_BYTES;
+
 /// A pair's symbol byte, base byte and factor.
 pub const PAIR_BYTES: usize = 2 + FACTOR_BYTES;
 
@@ -46,14 +50,14 @@ pub const PAIR_BYTES: usize = 2 + FACTOR_BYTES;
 pub const EMPTY_PAIRS_BYTES: usize = 2 + MAX_NAMES;
 
 /// What `find_name` answers where the table has no such name, `factor` where no pair has the
-/// symbol, and `into_const` where the checked type is Unknown.
+/// symbol, and `into_const`, an operator or an index where the type is Unknown.
 pub const ABSENT: u32 = 65_535;
 
 /// A number of document 01's table of refusals.
 pub type Refusal = u32;
 
-/// A type's kind undefined.
-pub const UNDEFINED_KIND: Refusal = 1;
+/// A type's kind or an operator's code undefined.
+pub const UNDEFINED_CODE: Refusal = 1;
 /// A lent store or table or the bindings break their form.
 pub const BROKEN_TABLE: Refusal = 2;
 /// A name or type number not in use.
@@ -62,7 +66,7 @@ pub const NOT_IN_USE: Refusal = 3;
 pub const MALFORMED_NAME: Refusal = 4;
 /// A unit's form broken.
 pub const BROKEN_UNIT: Refusal = 5;
-/// A child count wrong.
+/// A child count wrong, or a result union wider than 16.
 pub const WRONG_CHILD_COUNT: Refusal = 6;
 /// A type deeper than 32.
 pub const TOO_DEEP: Refusal = 7;

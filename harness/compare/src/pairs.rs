@@ -53,6 +53,22 @@ impl Pairs {
         (pairs.write(page.len())? == page).then_some(pairs)
     }
 
+    /// The same, where so many names are in use; `None` also where a symbol is not.
+    pub fn read_in_use(page: &[u8], names: usize) -> Option<Self> {
+        let known = |pair: &Pair| usize::from(pair.symbol.max(pair.base)) < names;
+        Self::read(page).filter(|pairs| pairs.0.iter().all(known))
+    }
+
+    /// The oracle's table of the pairs, built by its own insertion.
+    pub fn oracle(&self, names: &[String]) -> ConversionTable {
+        let mut table = ConversionTable::default();
+        for pair in &self.0 {
+            let [symbol, base] = [pair.symbol, pair.base].map(|symbol| &names[usize::from(symbol)]);
+            table.insert(symbol, f64::from_bits(pair.factor), base);
+        }
+        table
+    }
+
     /// Writes a page of `length` bytes; `None` where the table does not fit.
     pub fn write(&self, length: usize) -> Option<Vec<u8>> {
         if table_bytes(self.0.len()) > length {
@@ -103,19 +119,13 @@ struct Tables {
 impl Tables {
     /// Both tables in form, and every symbol of a pair in use.
     fn read(page: &[u8], names: &[u8], lent: bool) -> Result<Self, Refusal> {
-        let pairs = Pairs::read(page).ok_or(BROKEN_TABLE)?;
         let names = if lent {
             Names::read(names).ok_or(BROKEN_TABLE)?.strings()
         } else {
             (0..=255).map(stand_in_name).collect()
         };
-        let tables = Self { pairs, names };
-        let known = |pair: &Pair| tables.in_use(pair.symbol) && tables.in_use(pair.base);
-        if tables.pairs.0.iter().all(known) {
-            Ok(tables)
-        } else {
-            Err(BROKEN_TABLE)
-        }
+        let pairs = Pairs::read_in_use(page, names.len()).ok_or(BROKEN_TABLE)?;
+        Ok(Self { pairs, names })
     }
 
     /// The same, where the symbol is in use.
@@ -140,14 +150,8 @@ impl Tables {
         self.names.iter().position(|known| known == name).expect("a root is in use") as u8
     }
 
-    /// The oracle's table of the pairs, built by its own insertion.
     fn oracle(&self) -> ConversionTable {
-        let mut table = ConversionTable::default();
-        for pair in &self.pairs.0 {
-            let factor = f64::from_bits(pair.factor);
-            table.insert(self.name(pair.symbol), factor, self.name(pair.base));
-        }
-        table
+        self.pairs.oracle(&self.names)
     }
 
     fn oracle_unit(&self, terms: &[Term]) -> Unit {
@@ -241,7 +245,10 @@ pub fn is_convertible_to(
 }
 
 /// Both, or the lowest refusal of either.
-fn lowest<T>(left: Result<T, Refusal>, right: Result<T, Refusal>) -> Result<(T, T), Refusal> {
+pub fn lowest<A, B>(
+    left: Result<A, Refusal>,
+    right: Result<B, Refusal>,
+) -> Result<(A, B), Refusal> {
     match (left, right) {
         (Ok(left), Ok(right)) => Ok((left, right)),
         (Err(left), Err(right)) => Err(left.min(right)),

@@ -87,7 +87,20 @@ pub fn product(left: &[u8], right: &[u8], quotient: bool) -> Outcome {
     let result =
         if quotient { left_unit.divide(&right_unit) } else { left_unit.multiply(&right_unit) };
 
-    let exponents = exponents_of(&result, &symbols_of(&left, &right));
+    let terms = result_terms(&result, &left, &right, stand_in_name)?;
+    Ok(Given { out: unit_bytes(&terms), ..Given::default() })
+}
+
+/// The terms of a unit that the oracle answers of two, where they are within the limits.
+pub fn result_terms(
+    result: &Unit,
+    left: &[Term],
+    right: &[Term],
+    name: impl Fn(u8) -> String,
+) -> Result<Vec<Term>, Refusal> {
+    let exponents = symbols_of(left, right).into_iter();
+    let exponents = exponents.map(|symbol| (symbol, result.exponent(&name(symbol))));
+    let exponents: Vec<(u8, i32)> = exponents.filter(|&(_, exponent)| exponent != 0).collect();
     if !exponents.iter().all(|&(_, exponent)| within_limit(exponent)) {
         return Err(EXPONENT_TOO_LARGE);
     }
@@ -96,12 +109,8 @@ pub fn product(left: &[u8], right: &[u8], quotient: bool) -> Outcome {
     }
     let terms: Vec<Term> =
         exponents.iter().map(|&(symbol, exponent)| (symbol, exponent as i16)).collect();
-    assert_eq!(
-        oracle_unit(&terms, stand_in_name),
-        result,
-        "the oracle's result is read back whole"
-    );
-    Ok(Given { out: unit_bytes(&terms), ..Given::default() })
+    assert_eq!(oracle_unit(&terms, name), *result, "the oracle's result is read back whole");
+    Ok(terms)
 }
 
 /// The symbols of both operands, ascending, each once.
@@ -110,12 +119,6 @@ fn symbols_of(left: &[Term], right: &[Term]) -> Vec<u8> {
     symbols.sort_unstable();
     symbols.dedup();
     symbols
-}
-
-/// The symbols that the oracle's unit has, with their exponents.
-fn exponents_of(unit: &Unit, symbols: &[u8]) -> Vec<(u8, i32)> {
-    let exponents = symbols.iter().map(|&symbol| (symbol, unit.exponent(&stand_in_name(symbol))));
-    exponents.filter(|&(_, exponent)| exponent != 0).collect()
 }
 
 pub fn exponent(unit: &[u8], symbol: u8) -> Outcome {

@@ -4,7 +4,9 @@
 
 pub mod errors {
     /// An error with its message.
-    pub struct Error;
+    pub struct Error {
+        pub message: String,
+    }
 }
 
 pub mod source {
@@ -14,5 +16,6 @@ pub mod source {
 
 pub mod span {
     /// A place in a source text.
+    #[derive(Clone, Copy)]
     pub struct Span;
 }

@@ -1,6 +1,7 @@
 //! The questions of a comparison: short ones exhaustively, random ones around
 //! every limit, and damaged ones. All follow from the seed.
 
+pub mod answers;
 pub mod names;
 pub mod pairs;
 pub mod types;
@@ -20,6 +21,7 @@ pub fn questions(seed: u64, rounds: usize, ask: Sink) {
     units::questions(&mut random, rounds, ask);
     pairs::questions(&mut random, rounds, ask);
     types::questions(&mut random, rounds, ask);
+    answers::questions(&mut random, rounds, ask);
 }
 
 /// Good bytes harmed in every place: each byte changed in several ways, the

@@ -107,13 +107,14 @@ impl Rows {
 }
 
 fn fits(question: &Question) -> bool {
-    let Question { call, page, first, second, names, .. } = question;
+    let Question { call, page, first, second, names, pairs, .. } = question;
     let most = match call {
         _ if call.is_about_pairs() => MAX_PAIR_QUESTION,
         _ if call.is_about_types() => MAX_TYPE_QUESTION,
         _ => MAX_QUESTION,
     };
-    let size = page.len() + first.len() + second.len() + names.len();
+    let parts = [page, first, second, names, pairs];
+    let size: usize = parts.iter().map(|part| part.len()).sum();
     size <= most && question.argument <= u16::MAX.into()
 }
 

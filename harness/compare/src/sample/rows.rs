@@ -15,7 +15,8 @@ impl Row {
         let Self { question, answer } = self;
         let mut body = vec![question.call as u8];
         body.extend(two_bytes(question.argument));
-        for field in [&question.page, &question.first, &question.second, &question.names] {
+        let Question { page, first, second, names, pairs, .. } = question;
+        for field in [page, first, second, names, pairs] {
             put_field(&mut body, field);
         }
         body.push(u8::try_from(answer.refusal).expect("a refusal is one byte"));
@@ -38,7 +39,8 @@ impl Row {
         let first = take_field(&mut rest)?;
         let second = take_field(&mut rest)?;
         let names = take_field(&mut rest)?;
-        let question = Question { call, argument, page, first, second, names };
+        let pairs = take_field(&mut rest)?;
+        let question = Question { call, argument, page, first, second, names, pairs };
 
         let refusal = take(&mut rest, 1)?[0].into();
         let value = take_number(&mut rest)?;

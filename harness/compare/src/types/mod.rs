@@ -16,7 +16,7 @@ mod walk;
 
 use crate::call::{Call, Given, Outcome, Question};
 use crate::limits::{
-    Refusal, ABSENT, BINDINGS_BYTES, BROKEN_TABLE, FUNCTION, NOT_IN_USE, UNDEFINED_KIND, UNKNOWN,
+    Refusal, ABSENT, BINDINGS_BYTES, BROKEN_TABLE, FUNCTION, NOT_IN_USE, UNDEFINED_CODE, UNKNOWN,
     WRONG_CHILD_COUNT,
 };
 use crate::names::Names;
@@ -43,15 +43,15 @@ static STAND_IN_NAMES: LazyLock<Vec<String>> =
 /// A store, and the names of the numbers in use: those lent, else one that stands
 /// in for each of the 256.
 pub struct Tables {
-    store: Store,
-    names: Cow<'static, [String]>,
+    pub store: Store,
+    pub names: Cow<'static, [String]>,
     /// The length of the store's page.
     length: usize,
 }
 
 impl Tables {
     /// Both in form, and every name of the store in use.
-    fn read(page: &[u8], names: &[u8], lent: bool) -> Result<Self, Refusal> {
+    pub fn read(page: &[u8], names: &[u8], lent: bool) -> Result<Self, Refusal> {
         let names = if lent {
             Cow::Owned(Names::read(names).ok_or(BROKEN_TABLE)?.strings())
         } else {
@@ -74,13 +74,21 @@ impl Tables {
     }
 
     /// The oracle's type of a number in use.
-    fn tree(&self, number: u16) -> Type {
+    pub fn tree(&self, number: u16) -> Type {
         assert!(self.store.nodes(number) <= MAX_NODES, "too large for the oracle");
         trees::tree(&self.store, &self.names, number)
     }
 
+    /// How many nodes the tree of a number has; 1 where it is not in use.
+    pub fn nodes(&self, number: u16) -> usize {
+        match self.store.in_use(number.into()) {
+            true => self.store.nodes(number),
+            false => 1,
+        }
+    }
+
     /// The oracle's checked type of a number.
-    fn checked(&self, number: u32) -> Result<CheckType, Refusal> {
+    pub fn checked(&self, number: u32) -> Result<CheckType, Refusal> {
         if number >= UNKNOWN {
             return Ok(CheckType::Unknown);
         }
@@ -109,7 +117,7 @@ impl Tables {
     }
 
     /// Enters a type that the oracle answers, and gives its number and the page.
-    fn entered(&mut self, tree: &Type) -> Outcome {
+    pub fn entered(&mut self, tree: &Type) -> Outcome {
         let number = trees::enter(&mut self.store, &self.names, tree, self.length)?;
         Ok(self.made(number))
     }
@@ -133,7 +141,7 @@ pub fn empty_types(page: &[u8]) -> Outcome {
 
 pub fn make_type(page: &[u8], names: &[u8], lent: bool, entry: Entry) -> Outcome {
     if entry.kind > LAST_KIND {
-        return Err(UNDEFINED_KIND);
+        return Err(UNDEFINED_CODE);
     }
     let mut tables = Tables::read(page, names, lent)?;
     for &child in &entry.children {
@@ -265,15 +273,18 @@ pub fn is_within_reach(question: &Question) -> bool {
     let Ok(tables) = Tables::read(page, names, question.lent()) else {
         return true;
     };
-    let nodes = |number: u16| match tables.store.in_use(number.into()) {
-        true => tables.store.nodes(number),
-        false => 1,
-    };
-    let mut sizes: Vec<usize> = question.numbers().map(|number| nodes(number as u16)).collect();
+    let mut sizes: Vec<usize> =
+        question.numbers().map(|number| tables.nodes(number as u16)).collect();
     if let Some(Ok(bound)) = question.bindings().map(|bytes| tables.bindings(bytes)) {
-        sizes.push(bound.0.iter().map(|&(_, number)| nodes(number)).max().unwrap_or(1));
+        let nodes = bound.0.iter().map(|&(_, number)| tables.nodes(number));
+        sizes.push(nodes.max().unwrap_or(1));
     }
-    sizes.iter().all(|&size| size <= MAX_NODES) && sizes.iter().product::<usize>() <= MAX_WORK
+    are_within_reach(&sizes, MAX_WORK)
+}
+
+/// Whether trees of so many nodes can be walked together.
+pub fn are_within_reach(sizes: &[usize], work: usize) -> bool {
+    sizes.iter().all(|&size| size <= MAX_NODES) && sizes.iter().product::<usize>() <= work
 }
 
 #[cfg(test)]
@@ -381,7 +392,7 @@ mod tests {
             let entry = Entry { kind, children: children.to_vec(), name };
             make_type(&page, b"\x00\x01\x01a", true, entry).map(|given| given.value)
         };
-        assert_eq!(ask(38, &[99], 9), Err(UNDEFINED_KIND));
+        assert_eq!(ask(38, &[99], 9), Err(UNDEFINED_CODE));
         assert_eq!(ask(ARRAY, &[1, 20], 9), Err(NOT_IN_USE));
         assert_eq!(ask(32, &[1], 1), Err(NOT_IN_USE));
         assert_eq!(ask(32, &[1], 0), Err(WRONG_CHILD_COUNT));

@@ -1,7 +1,7 @@
 //! Types as the trees that the oracle takes, and back.
 
-use super::store::{is_named, Entry, Store, CALLBACK};
-use crate::limits::{Refusal, FIXED_TYPES};
+use super::store::{child_counts, is_named, Entry, Store, CALLBACK};
+use crate::limits::{Refusal, FIXED_TYPES, WRONG_CHILD_COUNT};
 use rl_ast::statements::TypeAnnotation as Type;
 use std::rc::Rc;
 
@@ -99,6 +99,9 @@ pub fn enter(
     let mut numbers = Vec::new();
     for child in children {
         numbers.push(enter(store, names, child, length)?);
+    }
+    if !child_counts(kind).contains(&numbers.len()) {
+        return Err(WRONG_CHILD_COUNT);
     }
     store.make(Entry::of(kind, &numbers), length)
 }

@@ -17,7 +17,9 @@ use crate::limits::{MAX_NAMES, MAX_PAIRS, PAIR_BYTES};
 use crate::pairs::{table_bytes, Pair, Pairs, Parents};
 use crate::random::Random;
 use crate::units::{unit_bytes, Term};
-use groups::{bytes_or_none, near_units, Groups};
+use groups::bytes_or_none;
+
+pub use groups::{near_units, Groups};
 
 pub fn questions(random: &mut Random, rounds: usize, ask: Sink) {
     pages::questions(random, ask);
@@ -98,7 +100,7 @@ fn some_factor(random: &mut Random) -> u64 {
 }
 
 /// So many pairs over the symbols below `bound`, repeats and (x, x) among them.
-fn some_list(random: &mut Random, count: usize, bound: usize) -> Vec<Pair> {
+pub fn some_list(random: &mut Random, count: usize, bound: usize) -> Vec<Pair> {
     let mut list: Vec<Pair> = Vec::new();
     while list.len() < count {
         let symbol = random.below(bound) as u8;
@@ -128,7 +130,7 @@ fn with_wrong_parents(list: &[Pair], random: &mut Random) -> Vec<u8> {
 }
 
 /// A page of the pairs with about as much room as one more needs, seldom damaged.
-fn page_for(list: &[Pair], random: &mut Random) -> Vec<u8> {
+pub fn page_for(list: &[Pair], random: &mut Random) -> Vec<u8> {
     let mut page =
         if random.once_in(12) { with_wrong_parents(list, random) } else { page_of(list, 0) };
     let room = *random.pick(&[0, 1, PAIR_BYTES - 1, PAIR_BYTES, PAIR_BYTES, PAIR_BYTES + 1, 40]);
@@ -206,7 +208,7 @@ fn some_units(random: &mut Random, setting: &Setting) -> [Vec<u8>; 2] {
     units.map(|terms| some_bytes(random, terms))
 }
 
-fn some_bytes(random: &mut Random, terms: Vec<Term>) -> Vec<u8> {
+pub fn some_bytes(random: &mut Random, terms: Vec<Term>) -> Vec<u8> {
     match random.below(16) {
         0 => damaged_somewhere(&unit_bytes(&terms), random),
         1 => unit_bytes(&broken_terms(random, terms)),

@@ -10,10 +10,11 @@ pub mod shapes;
 mod small;
 mod some;
 
-pub use pages::many;
+pub use pages::{many, small_stores};
+pub use small::with_rooms;
 pub use some::{
-    empty_types, has_generic, into_const, make_type, matches, read_type, substitute, unify,
-    unify_arg,
+    empty_types, has_generic, into_const, make_type, matches, names_for, page_for, read_type,
+    rubbish, some_shape, substitute, unify, unify_arg,
 };
 
 use super::Sink;

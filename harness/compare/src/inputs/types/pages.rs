@@ -59,7 +59,7 @@ fn ask_each(page: &[u8], names: &[u8], lent: bool, ask: Sink) {
 }
 
 /// Small stores: none, and some with every kind of part.
-fn small_stores() -> Vec<Vec<u8>> {
+pub fn small_stores() -> Vec<Vec<u8>> {
     let entries = [
         vec![],
         vec![Entry::named(GENERIC, A), Entry::of(ARRAY, &[19])],

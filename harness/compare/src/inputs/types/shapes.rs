@@ -15,11 +15,17 @@ pub struct Shape {
 pub const NULL: u8 = 0;
 pub const INT: u8 = 1;
 pub const CINT: u8 = 2;
+pub const UINT: u8 = 3;
+pub const CUINT: u8 = 4;
 pub const FLOAT: u8 = 5;
+pub const CFLOAT: u8 = 6;
 pub const BOOL: u8 = 7;
+pub const CBOOL: u8 = 8;
 pub const STRING: u8 = 9;
+pub const CSTRING: u8 = 10;
 pub const BYTE: u8 = 11;
 pub const CBYTE: u8 = 12;
+pub const CHAR: u8 = 13;
 pub const HANDLE_INFER: u8 = 17;
 pub const FN: u8 = 18;
 pub const ARRAY: u8 = 19;
@@ -36,6 +42,9 @@ pub const ANY: u8 = 29;
 pub const CANY: u8 = 30;
 pub const CALLBACK: u8 = 31;
 pub const RECORD: u8 = 32;
+pub const CRECORD: u8 = 33;
+pub const ENUM: u8 = 34;
+pub const CENUM: u8 = 35;
 pub const HANDLE: u8 = 36;
 pub const GENERIC: u8 = 37;
 
@@ -128,7 +137,11 @@ fn lists(choices: &[Shape], count: usize) -> Vec<Vec<Shape>> {
 }
 
 /// Types of the kind over every list of `counts` choices.
-fn all_over(kind: u8, choices: &[Shape], counts: std::ops::RangeInclusive<usize>) -> Vec<Shape> {
+pub fn all_over(
+    kind: u8,
+    choices: &[Shape],
+    counts: std::ops::RangeInclusive<usize>,
+) -> Vec<Shape> {
     let over = |count| lists(choices, count).into_iter().map(move |list| of(kind, &list));
     counts.flat_map(over).collect()
 }

@@ -123,7 +123,7 @@ fn substitutions(shape: &Shape, ask: Sink) {
 
 /// A question on a page with much room, then, where it enters types, with just
 /// enough, a byte less, a byte more, and with none.
-fn with_rooms(page: &[u8], question: impl Fn(&[u8]) -> Question, ask: Sink) {
+pub fn with_rooms(page: &[u8], question: impl Fn(&[u8]) -> Question, ask: Sink) {
     let own = page.len();
     let with_length = |length: usize| {
         let mut page = page.to_vec();

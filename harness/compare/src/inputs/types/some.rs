@@ -183,7 +183,7 @@ fn shared(random: &mut Random, store: &mut Store) {
 }
 
 /// A page of the store with about as much room as one more type needs, seldom damaged.
-fn page_for(store: &Store, random: &mut Random) -> Vec<u8> {
+pub fn page_for(store: &Store, random: &mut Random) -> Vec<u8> {
     let mut page = store.write(0);
     let room = *random.pick(&[0, 1, 2, 3, 4, 5, 6, 8, 16, 40, 100]);
     page.resize(page.len() + room, 0);
@@ -207,7 +207,7 @@ fn repeated(page: &[u8], random: &mut Random) -> Vec<u8> {
 }
 
 /// A names page with so many names, seldom damaged.
-fn names_for(random: &mut Random, bound: usize) -> Vec<u8> {
+pub fn names_for(random: &mut Random, bound: usize) -> Vec<u8> {
     let names = match bound {
         MAX_NAMES => shortest_names(bound),
         _ => different_names(random, bound),
@@ -221,7 +221,7 @@ fn names_for(random: &mut Random, bound: usize) -> Vec<u8> {
 }
 
 /// A names page that is not lent.
-fn rubbish(random: &mut Random) -> Vec<u8> {
+pub fn rubbish(random: &mut Random) -> Vec<u8> {
     let length = random.below(6);
     (0..length).map(|_| random.byte()).collect()
 }
