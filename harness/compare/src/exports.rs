@@ -149,4 +149,45 @@ extern "C" {
         number: u32,
         bindings: *const u8,
     ) -> u32;
+    pub fn riddlepoppy_check_binary_operator(
+        page: *const u8,
+        n: usize,
+        names: *const u8,
+        m: usize,
+        lent: bool,
+        pairs: *const u8,
+        k: usize,
+        op: u32,
+        left: u32,
+        left_unit: *const u8,
+        l: usize,
+        right: u32,
+        right_unit: *const u8,
+        r: usize,
+        out: *mut u8,
+    ) -> u32;
+    pub fn riddlepoppy_check_unary_operator(
+        page: *mut u8,
+        n: usize,
+        names: *const u8,
+        m: usize,
+        lent: bool,
+        op: u32,
+        operand: u32,
+        unit: *const u8,
+        l: usize,
+        out: *mut u8,
+    ) -> u32;
+    pub fn riddlepoppy_check_index(
+        page: *mut u8,
+        n: usize,
+        names: *const u8,
+        m: usize,
+        lent: bool,
+        target: u32,
+        unit: *const u8,
+        l: usize,
+        key: u32,
+        out: *mut u8,
+    ) -> u32;
 }

@@ -5,8 +5,7 @@ use rl_utils::errors::Error;
 /// Some members fail.
 pub const SOME_MEMBERS: u8 = 7;
 
-/// How the message of each reason begins; some have two. A text that is the start of
-/// another stands after it.
+/// How the messages of the reasons begin, but for those that begin with the operator's name.
 const BEGINNINGS: [(&str, u8); 11] = [
     ("type mismatch on ", 1),
     ("unit mismatch on ", 2),

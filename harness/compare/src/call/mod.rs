@@ -144,6 +144,16 @@ impl Call {
         }
     }
 
+    /// Every reason that an error of the call's answer can have.
+    pub fn reasons(self) -> &'static [u8] {
+        match self {
+            Call::CheckBinaryOperator => &[1, 2, 3, 4, 5, 7, 8],
+            Call::CheckUnaryOperator => &[1, 5, 6, 7, 8],
+            Call::CheckIndex => &[7, 8, 9, 10],
+            _ => &[],
+        }
+    }
+
     /// The length of the call's `out` array; 0 where it has none.
     pub fn out_length(self) -> usize {
         match self {
@@ -247,4 +257,20 @@ pub fn all_outcomes() -> std::collections::BTreeSet<(Call, u32)> {
     let outcomes =
         |call: Call| [0].iter().chain(call.refusals()).map(move |&refusal| (call, refusal));
     Call::ALL.into_iter().flat_map(outcomes).collect()
+}
+
+/// Every reason that there can be, with each call.
+#[cfg(test)]
+pub fn all_reasons() -> std::collections::BTreeSet<(Call, u8)> {
+    let reasons = |call: Call| call.reasons().iter().map(move |&reason| (call, reason));
+    Call::ALL.into_iter().flat_map(reasons).collect()
+}
+
+/// The reasons of the errors that an answer tells of.
+#[cfg(test)]
+pub fn reasons_of(call: Call, answer: &Answer) -> Vec<(Call, u8)> {
+    match call.is_about_answers() {
+        true => answer.out[1..3].iter().map(|&r| (call, r)).filter(|&(_, r)| r != 0).collect(),
+        false => Vec::new(),
+    }
 }

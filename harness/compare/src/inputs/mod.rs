@@ -82,28 +82,37 @@ pub fn short_strings() -> Vec<Vec<u8>> {
 #[cfg(test)]
 mod tests {
     use super::*;
-    use crate::call::{all_outcomes, Call};
+    use crate::call::{all_outcomes, all_reasons, reasons_of, Call};
     use crate::expected::expected;
     use std::collections::BTreeSet;
     use std::hash::{DefaultHasher, Hash, Hasher};
 
-    /// A digest of all questions, and the outcomes that they meet.
-    fn digest(seed: u64) -> (u64, BTreeSet<(Call, u32)>) {
+    /// The outcomes and the reasons that all questions meet.
+    #[derive(Default)]
+    struct Met {
+        outcomes: BTreeSet<(Call, u32)>,
+        reasons: BTreeSet<(Call, u8)>,
+    }
+
+    /// A digest of all questions, and what they meet.
+    fn digest(seed: u64) -> (u64, Met) {
         let mut hasher = DefaultHasher::new();
-        let mut outcomes = BTreeSet::new();
+        let mut met = Met::default();
         questions(seed, 500, &mut |question| {
             question.hash(&mut hasher);
             let answer = expected(&question);
-            outcomes.insert((question.call, answer.refusal));
+            met.outcomes.insert((question.call, answer.refusal));
+            met.reasons.extend(reasons_of(question.call, &answer));
             answer
         });
-        (hasher.finish(), outcomes)
+        (hasher.finish(), met)
     }
 
     #[test]
     fn a_seed_gives_the_same_questions_and_they_meet_every_outcome() {
-        let (first, outcomes) = digest(1);
-        assert_eq!(outcomes, all_outcomes());
+        let (first, met) = digest(1);
+        assert_eq!(met.outcomes, all_outcomes());
+        assert_eq!(met.reasons, all_reasons());
         assert_eq!(digest(1).0, first);
         assert_ne!(digest(2).0, first);
     }

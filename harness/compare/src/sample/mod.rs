@@ -1,6 +1,7 @@
 //! The stored sample: chosen questions for every rule and refusal, then some
 //! random ones, each with the answer of the oracle or the model.
 
+pub mod answers;
 pub mod names;
 pub mod pairs;
 pub mod rows;
@@ -16,15 +17,15 @@ use rows::Row;
 use std::collections::{BTreeMap, BTreeSet};
 
 /// The most bytes that a stored sample may have.
-pub const MAX_BYTES: usize = 520_000;
+pub const MAX_BYTES: usize = 585_000;
 
 /// A random question larger than this is left out, since it would crowd out others.
 const MAX_QUESTION: usize = 60;
 
-/// The same of a question about pairs.
+/// The same of a question that has a pair table.
 const MAX_PAIR_QUESTION: usize = EMPTY_PAIRS_BYTES + 120;
 
-/// And of a question about types.
+/// And of another question that has a store.
 const MAX_TYPE_QUESTION: usize = BINDINGS_BYTES + 60;
 
 /// The rows of the sample.
@@ -62,6 +63,11 @@ pub fn rows(seed: u64) -> Vec<Row> {
     rows.fill(random, 16, inputs::types::unify);
     rows.fill(random, 12, inputs::types::unify_arg);
     rows.fill(random, 12, inputs::types::substitute);
+
+    answers::chosen().into_iter().for_each(|question| rows.put(question));
+    rows.fill(random, 12, inputs::answers::check_binary_operator);
+    rows.fill(random, 12, inputs::answers::check_unary_operator);
+    rows.fill(random, 12, inputs::answers::check_index);
     rows.rows
 }
 
@@ -109,8 +115,8 @@ impl Rows {
 fn fits(question: &Question) -> bool {
     let Question { call, page, first, second, names, pairs, .. } = question;
     let most = match call {
-        _ if call.is_about_pairs() => MAX_PAIR_QUESTION,
-        _ if call.is_about_types() => MAX_TYPE_QUESTION,
+        _ if call.is_about_pairs() || *call == Call::CheckBinaryOperator => MAX_PAIR_QUESTION,
+        _ if call.is_about_types() || call.is_about_answers() => MAX_TYPE_QUESTION,
         _ => MAX_QUESTION,
     };
     let parts = [page, first, second, names, pairs];
@@ -121,7 +127,7 @@ fn fits(question: &Question) -> bool {
 #[cfg(test)]
 mod tests {
     use super::*;
-    use crate::call::all_outcomes;
+    use crate::call::{all_outcomes, all_reasons, reasons_of};
 
     fn outcomes(rows: &[Row]) -> BTreeSet<(Call, u32)> {
         counts(rows).into_keys().collect()
@@ -134,7 +140,7 @@ mod tests {
             let bytes = bytes(&rows);
             assert_eq!(bytes, super::bytes(&super::rows(seed)));
             assert!(bytes.len() <= MAX_BYTES, "{} bytes", bytes.len());
-            assert!((2_000..=2_400).contains(&rows.len()), "{} rows", rows.len());
+            assert!((2_500..=2_900).contains(&rows.len()), "{} rows", rows.len());
             assert_eq!(outcomes(&rows), all_outcomes());
             assert_eq!(rows::read_rows(&bytes), Some(rows));
             assert_eq!(rows::read_rows(&bytes[..bytes.len() - 1]), None);
@@ -142,14 +148,17 @@ mod tests {
     }
 
     #[test]
-    fn every_outcome_has_a_chosen_row() {
+    fn every_outcome_and_reason_has_a_chosen_row() {
         let mut chosen = Rows::default();
         names::chosen()
             .into_iter()
             .chain(units::chosen())
             .chain(pairs::chosen())
             .chain(types::chosen())
+            .chain(answers::chosen())
             .for_each(|question| chosen.put(question));
         assert_eq!(outcomes(&chosen.rows), all_outcomes());
+        let reasons = chosen.rows.iter().flat_map(|row| reasons_of(row.question.call, &row.answer));
+        assert_eq!(reasons.collect::<BTreeSet<_>>(), all_reasons());
     }
 }

@@ -14,10 +14,13 @@ pub fn ask(question: &Question) -> Result<Answer, String> {
     let mut first = Lent::new(&question.first);
     let mut second = Lent::new(&question.second);
     let mut names = Lent::new(&question.names);
+    let mut pairs = Lent::new(&question.pairs);
     let before = out_before(question);
     let mut out = Lent::new(&before);
 
-    let returned = if question.call.is_about_types() {
+    let returned = if question.call.is_about_answers() {
+        call_answers(question, &mut page, &mut second, &mut names, &mut pairs, &mut out)?
+    } else if question.call.is_about_types() {
         call_types(question, &mut page, &mut second, &mut names, &mut out)?
     } else {
         call(question, &mut page, &mut first, &mut second, &mut names, &mut out)
@@ -26,6 +29,7 @@ pub fn ask(question: &Question) -> Result<Answer, String> {
     first.unchanged("first", &question.first)?;
     second.unchanged("second", &question.second)?;
     names.unchanged("names", &question.names)?;
+    pairs.unchanged("pairs", &question.pairs)?;
     let page_afterwards = if question.call.writes_page() {
         page.elements("page")?
     } else {
@@ -95,7 +99,7 @@ fn call(
             Call::Factor => riddlepoppy_first_factor(p, n, t, k, lent, symbol, out),
             Call::Canonicalize => riddlepoppy_canonicalize(p, n, t, k, lent, a, m, out),
             Call::IsConvertibleTo => riddlepoppy_is_convertible_to(p, n, t, k, lent, a, m, b, l),
-            _ => unreachable!("a call about types"),
+            _ => unreachable!("a call about types or answers"),
         }
     }
 }
@@ -147,6 +151,45 @@ fn make_type(
     // SAFETY: each pointer goes with its length and points to elements of its own.
     let returned = unsafe { riddlepoppy_make_type(p, n, t, k, question.lent(), kind, c, l, name) };
     lent_children.unchanged("children", &children)?;
+    Ok(returned)
+}
+
+/// The same of a call that answers an operator or an index.
+fn call_answers(
+    question: &Question,
+    page: &mut Lent<u8>,
+    right_unit: &mut Lent<u8>,
+    names: &mut Lent<u8>,
+    pairs: &mut Lent<u8>,
+    out: &mut Lent<u8>,
+) -> Result<u32, String> {
+    let lent = question.lent();
+    let mut unit = Lent::new(question.unit());
+    let (p, n) = (page.start(), page.length);
+    let (t, k) = (names.start(), names.length);
+    let (c, j) = (pairs.start(), pairs.length);
+    let (u, l) = (unit.start(), unit.length);
+    let (v, r) = (right_unit.start(), right_unit.length);
+    let out = out.start();
+    let mut numbers = question.numbers();
+    let mut number = || numbers.next().expect("a number");
+    let (first, second) = (number(), number());
+    // SAFETY: as above.
+    let returned = unsafe {
+        match question.call {
+            Call::CheckBinaryOperator => {
+                let right = number();
+                riddlepoppy_check_binary_operator(
+                    p, n, t, k, lent, c, j, first, second, u, l, right, v, r, out,
+                )
+            }
+            Call::CheckUnaryOperator => {
+                riddlepoppy_check_unary_operator(p, n, t, k, lent, first, second, u, l, out)
+            }
+            _ => riddlepoppy_check_index(p, n, t, k, lent, first, u, l, second, out),
+        }
+    };
+    unit.unchanged("unit", question.unit())?;
     Ok(returned)
 }
 

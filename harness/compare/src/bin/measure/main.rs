@@ -1,5 +1,6 @@
 //! `measure`: how long the static library and the Rust take for the same work, side by side in one run.
 
+mod answers;
 mod pairs;
 mod places;
 mod types;
@@ -18,6 +19,7 @@ fn main() {
     pairs::measure(&names);
     types::measure();
     places::measure();
+    answers::measure();
 }
 
 /// Nanoseconds for one call.

@@ -92,7 +92,7 @@ fn all_differ(trees: &[Type]) -> bool {
 // ---- Shared children ----
 
 /// So many types of one kind, each with sixteen times the one before as children.
-fn nested(entries: &mut Vec<Entry>, kind: u8, leaf: u16, times: usize) -> u32 {
+pub fn nested(entries: &mut Vec<Entry>, kind: u8, leaf: u16, times: usize) -> u32 {
     let mut child = leaf;
     for _ in 0..times {
         entries.push(Entry::of(kind, &[child; MAX_CHILDREN]));

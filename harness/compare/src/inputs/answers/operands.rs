@@ -14,7 +14,7 @@ use crate::limits::{MAX_EXPONENT, MAX_SYMBOLS, NO_UNIT};
 use crate::units::{unit_bytes, Term};
 
 /// The operators' codes, and some that are none.
-pub const CODES: [u32; 17] = [0, 1, 2, 3, 4, 5, 6, 7, 8, 9, 10, 11, 12, 13, 14, 255, 257];
+pub const CODES: [u32; 16] = [0, 1, 2, 3, 4, 5, 6, 7, 8, 9, 10, 11, 12, 13, 14, 255];
 
 pub const PLUS: u32 = 1;
 pub const MINUS: u32 = 2;

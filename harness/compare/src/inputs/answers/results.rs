@@ -13,7 +13,8 @@ use crate::limits::{FIXED_TYPES, MAX_CHILDREN, MAX_ENTRIES, MAX_NAMES, NO_UNIT};
 use crate::types::store::{page_of, Entry, Store};
 
 /// How much room is tried: none, and about what one union needs, two, and many.
-const ROOMS: [usize; 14] = [0, 1, 5, 6, 7, 11, 12, 13, 18, 33, 34, 35, 100, 2_000];
+const ROOMS: [usize; 18] =
+    [0, 1, 5, 6, 7, 11, 12, 13, 18, 33, 34, 35, 70, 100, 150, 200, 300, 2_000];
 
 pub fn questions(ask: Sink) {
     let besides = besides();
