@@ -136,8 +136,9 @@ fn result_bytes(
 /// The errors, the failing members of the operands, and the unit, as `out` has them.
 fn out_bytes(tables: &Tables, checker: &TypeChecker, operands: &[u32], unit: &[u8]) -> Vec<u8> {
     let reasons: Vec<Reason> = checker.errors.iter().map(Reason::of).collect();
-    let mut numbers = [0; 2];
-    numbers[..reasons.len()].copy_from_slice(&reasons.iter().map(|r| r.number).collect::<Vec<_>>());
+    let mut numbers: Vec<u8> = reasons.iter().map(|reason| reason.number).collect();
+    assert!(numbers.len() <= 2, "at most two errors");
+    numbers.resize(2, 0);
     let failing: usize = reasons.iter().map(|reason| reason.failing).sum();
     let mut first = [0; 2];
     let printed = reasons.iter().flat_map(|reason| &reason.first);

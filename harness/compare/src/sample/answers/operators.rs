@@ -2,7 +2,7 @@
 //! limits that a final answer meets.
 
 use super::{pages, FIXED_ALONE};
-use crate::call::{Pages, Question};
+use crate::call::Question;
 use crate::inputs::answers::operands::{
     operand, several, AND, BANG, EQUAL, IN, LESS, MINUS, MM, OR, PLUS, S, SLASH, STAR,
 };
@@ -216,8 +216,7 @@ fn functions() -> Vec<Question> {
 
 fn unary(op: u32, shape: &Shape, unit: &[u8], room: usize) -> Question {
     let (store, [number]) = stored([shape], room);
-    let pages = Pages { pairs: b"", ..pages(&store, b"") };
-    Question::check_unary_operator(pages, op, operand(number, unit))
+    Question::check_unary_operator(pages(&store, b""), op, operand(number, unit))
 }
 
 /// All thirteen on a number, and the two that there are on every plain kind.
