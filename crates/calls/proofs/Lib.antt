@@ -2,3 +2,4 @@
 pub mod Sums
 pub mod Types
 pub mod Bindings
+pub mod Answers

@@ -1,6 +1,8 @@
 // The entry calls as functions on numbers and byte slices, for callers in other languages. An answer is one number: the
 // refusal's (0 for none) in the upper half, the value in the lower. A unit passes as its bytes in a value node, a checked
 // type as one number, and bindings as 97 bytes.
+use answers::Answered;
+use answers::CheckedExpr;
 use bindings::BINDINGS;
 use bindings::Bindings;
 use kinds::Kind;
@@ -9,6 +11,7 @@ use names::Added;
 use names::Found;
 use names::NAME_BYTES;
 use names::symbol_index;
+use operators::Errors;
 use pages::LONG_BYTES;
 use pages::index;
 use pairs::Factor;
@@ -28,9 +31,11 @@ use units::PLACES;
 use units::Power;
 use units::Unit;
 use units::Unitless;
+use values::NONE_COUNT;
 use values::UNIT_BYTES;
 use values::UnitBytes;
 ghost use mathlib.Core.Path.{_≡_};
+ghost use mathlib.Core.List.{[], _∷_};
 ghost use Prim.Native.Nat.{_≤_, _<_};
 ghost use lib.ListN.{length, replicate};
 ghost use Rattle.refusals.specs.Lowest.{unlessRefused};
@@ -45,8 +50,12 @@ ghost use Rattle.types.specs.Calls.{makeAnswer, makePage, listTo};
 ghost use Rattle.types.specs.Calls as store;
 ghost use Rattle.bindings.specs.Bindings.{bindingsMax};
 ghost use Rattle.checked.specs.Calls.{matchesAnswer, genericAnswer, intoConst, intoConstPage, substituteAnswer, substitutePage};
+ghost use Rattle.pages.specs.Pad.{pad};
+ghost use Rattle.values.specs.Value.{noneCount, unitMax};
+ghost use Rattle.sums.specs.Calls.{orEmpty};
 ghost use Rattle.calls.specs.Types.{madeCode, typeBytes, bytesOfType, checkedOf, bindingBytes, boundIn, bindingsIn, bytesOfBindings, answerCode, numberIn, constCode, bindingsAfter, unifyIn, unifyArgIn};
 ghost use Rattle.calls.specs.Codes.{packed, addedCode, foundCode, powerCode, unitlessCode, brokenUnit, unitOrBroken, unitlessIn, productIn, textIn, bytesOfUnit, rootCode, factorCode, outAfterFactor, groupSumsIn, bytesOfSums, maybeOrBroken, convertibleIn, conversionCode};
+ghost use Rattle.calls.specs.Answers.{operandOf, answeredCode, errorBytes, bytesOfErrors, bytesOfMaybe, answerBytes, bytesOfAnswer, outAfterAnswer, binaryIn, unaryIn, unaryPageIn, indexIn, indexPageIn};
 
 // What a name or a factor that the table does not have is answered with, which is no name's number and no symbol.
 pub const ABSENT: usize = 65535;
@@ -644,4 +653,160 @@ pub extern "C" fn riddlepoppy_substitute(
     let bytes = *bindings;
     let bound = bindings_in(bytes);
     made_code(checked::substitute(page, names, lent, bound, t as usize))
+}
+
+// An operand: the checked type that a number says, and the unit that the bytes say, or none.
+fn operand_of(c: u32, unit: &[u8]) -> CheckedExpr
+    ensures { λ r. ⌜ r ≡ operandOf c (now (unit .entry)) ⌝ }
+{
+    CheckedExpr {
+        checked: checked_of(c),
+        unit: maybe_or_broken(unit),
+    }
+}
+
+// How many bytes errors take: their number, two reasons, how many members fail in four bytes, and the first two in two each.
+const ERROR_BYTES: usize = 11;
+
+// How many bytes errors take with a unit after them.
+pub const ANSWER_BYTES: usize = ERROR_BYTES + UNIT_BYTES;
+
+// The places of those bytes.
+type ErrorBytes = [u8; ERROR_BYTES];
+
+type AnswerBytes = [u8; ANSWER_BYTES];
+
+// The bytes of errors.
+fn error_bytes(errors: Errors) -> ErrorBytes
+    ensures { λ r. ⌜ r ≡ bytesOfErrors errors ⌝ }
+{
+    [
+        (errors.count % 256) as u8,
+        (errors.first % 256) as u8,
+        (errors.second % 256) as u8,
+        (errors.failing / 16777216 % 256) as u8,
+        (errors.failing / 65536 % 256) as u8,
+        (errors.failing / 256 % 256) as u8,
+        (errors.failing % 256) as u8,
+        (errors.left / 256 % 256) as u8,
+        (errors.left % 256) as u8,
+        (errors.right / 256 % 256) as u8,
+        (errors.right % 256) as u8,
+    ]
+}
+
+// The bytes that say that there is no unit.
+fn none_bytes() -> UnitBytes
+    ensures { λ r. ⌜ r ≡ pad unitMax 0 (noneCount ∷ []) ⌝ }
+{
+    let none = [NONE_COUNT as u8];
+    let mut bytes = [0u8; UNIT_BYTES];
+    pages::put_bytes(&mut bytes, 0, &none);
+    bytes
+}
+
+// The bytes of a unit, or of none.
+fn maybe_bytes(m: MaybeUnit) -> UnitBytes
+    requires { ⌜ orEmpty m .count ≤ placesMax ⌝ }
+    ensures { λ r. ⌜ r ≡ bytesOfMaybe m ⌝ }
+{
+    if m.some {
+        return values::value_bytes(m.unit);
+    }
+    none_bytes()
+}
+
+// No byte of an answer yet.
+fn no_answer_bytes() -> AnswerBytes
+    ensures { λ r. ⌜ r ≡ replicate answerBytes 0 ⌝ }
+{
+    [0; ANSWER_BYTES]
+}
+
+// The bytes of an answer: its errors, and its unit or none.
+fn answer_bytes(answer: Answered) -> AnswerBytes
+    requires { ⌜ orEmpty (answer .unit) .count ≤ placesMax ⌝ }
+    ensures { λ r. ⌜ r ≡ bytesOfAnswer answer ⌝ }
+{
+    let e = answer.errors;
+    let errors = error_bytes(e);
+    let unit = maybe_bytes(answer.unit);
+    let mut bytes = no_answer_bytes();
+    pages::put_bytes(&mut bytes, 0, &errors);
+    pages::put_bytes(&mut bytes, ERROR_BYTES, &unit);
+    bytes
+}
+
+// An answer as one number, and its bytes written down unless it is a refusal.
+fn written_down(answer: Answered, out: &mut [u8; ANSWER_BYTES]) -> u32
+    requires { ⌜ orEmpty (answer .unit) .count ≤ placesMax ⌝ }
+    ensures { λ r. ⌜ (r ≡ answeredCode answer) × (now (out .exit) ≡ outAfterAnswer answer (now (out .entry))) ⌝ }
+{
+    let verdict = answer.verdict;
+    if refusals::is_refused(verdict) {
+        return packed_as(verdict, 0);
+    }
+    let checked = answer.checked;
+    *out = answer_bytes(answer);
+    packed_as(verdict, number_of(checked))
+}
+
+// What a binary operator answers for two operands: the number of a type, errors, and a unit or none.
+#[no_mangle]
+pub extern "C" fn riddlepoppy_check_binary_operator(
+    page: &[u8],
+    names: &[u8],
+    lent: bool,
+    table: &[u8],
+    op: u32,
+    left: u32,
+    unit: &[u8],
+    right: u32,
+    other: &[u8],
+    out: &mut [u8; ANSWER_BYTES],
+) -> u32
+    ensures { λ r. ⌜ (r ≡ answeredCode (binaryIn (now (page .entry)) (now (names .entry)) lent (now (table .entry)) op left (now (unit .entry)) right (now (other .entry)))) × (now (out .exit) ≡ outAfterAnswer (binaryIn (now (page .entry)) (now (names .entry)) lent (now (table .entry)) op left (now (unit .entry)) right (now (other .entry))) (now (out .entry))) ⌝ }
+{
+    let a = operand_of(left, unit);
+    let b = operand_of(right, other);
+    let answer = answers::check_binary_operator(page, names, lent, table, op as usize, a, b);
+    written_down(answer, out)
+}
+
+// What an operator answers for one operand; a union that it answers enters the store.
+#[no_mangle]
+pub extern "C" fn riddlepoppy_check_unary_operator(
+    page: &mut [u8],
+    names: &[u8],
+    lent: bool,
+    op: u32,
+    operand: u32,
+    unit: &[u8],
+    out: &mut [u8; ANSWER_BYTES],
+) -> u32
+    ensures { λ r. ⌜ (r ≡ answeredCode (unaryIn (now (page .entry)) (now (names .entry)) lent op operand (now (unit .entry)))) × (now (out .exit) ≡ outAfterAnswer (unaryIn (now (page .entry)) (now (names .entry)) lent op operand (now (unit .entry))) (now (out .entry))) ⌝ }
+    ensures { λ _. ⌜ now (page .exit) ≡ unaryPageIn (now (page .entry)) (now (names .entry)) lent op operand (now (unit .entry)) ⌝ }
+{
+    let x = operand_of(operand, unit);
+    let answer = answers::check_unary_operator(page, names, lent, op as usize, x);
+    written_down(answer, out)
+}
+
+// What indexing a target by a key answers; a union that it answers enters the store.
+#[no_mangle]
+pub extern "C" fn riddlepoppy_check_index(
+    page: &mut [u8],
+    names: &[u8],
+    lent: bool,
+    target: u32,
+    unit: &[u8],
+    key: u32,
+    out: &mut [u8; ANSWER_BYTES],
+) -> u32
+    ensures { λ r. ⌜ (r ≡ answeredCode (indexIn (now (page .entry)) (now (names .entry)) lent target (now (unit .entry)) key)) × (now (out .exit) ≡ outAfterAnswer (indexIn (now (page .entry)) (now (names .entry)) lent target (now (unit .entry)) key) (now (out .entry))) ⌝ }
+    ensures { λ _. ⌜ now (page .exit) ≡ indexPageIn (now (page .entry)) (now (names .entry)) lent target (now (unit .entry)) key ⌝ }
+{
+    let x = operand_of(target, unit);
+    let answer = answers::check_index(page, names, lent, x, checked_of(key));
+    written_down(answer, out)
 }
