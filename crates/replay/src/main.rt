@@ -1,5 +1,6 @@
 // Replays the stored sample of the oracle's answers (harness/README.md has its format): each row is asked of the entry calls,
 // and what they answer is compared with what the oracle answered.
+use calls::ANSWER_BYTES;
 use calls::BINDING_BYTES;
 use calls::TYPE_BYTES;
 use pages::LONG_BYTES;
@@ -12,7 +13,7 @@ ghost use Prim.Native.Nat.{_+_, _*_, _≤_, _<_};
 ghost use lib.ListN.{length};
 
 // How many bytes the sample has at most.
-const SAMPLE_BYTES: usize = 524288;
+const SAMPLE_BYTES: usize = 655360;
 
 // How many bytes a page has at most that a call writes.
 const PAGE_BYTES: usize = 8192;
@@ -25,7 +26,7 @@ const NAME_BYTES: usize = 1;
 
 const CHILDREN: usize = 32;
 
-// How many bytes the number of a type or of a checked type takes.
+// How many bytes the number of a type, of a checked type or of an operator takes.
 const NUMBER_BYTES: usize = 4;
 
 // What no call answers, nor any row says.
@@ -84,7 +85,7 @@ fn insertion(page: &mut [u8], argument: usize, pair: &[u8], names: &[u8]) -> u32
     calls::riddlepoppy_insert_pair(page, names, lent, symbol_in(argument), factor, base)
 }
 
-// The number of a type or of a checked type that four bytes from index at on say.
+// The number of a type, of a checked type or of an operator that four bytes from index at on say.
 fn number_at(numbers: &[u8], at: usize) -> u32
     requires { ⌜ at + 4 ≤ length (now numbers) ⌝ }
 {
@@ -168,7 +169,56 @@ fn written(
     }
 }
 
-// Whether such a call answers this number, and leaves the page so.
+// What check_unary_operator or check_index answers, with two numbers and a unit in a field.
+fn answering(
+    call: u8,
+    argument: usize,
+    page: &mut [u8],
+    body: &[u8],
+    names: &[u8],
+    bytes: &mut [u8; ANSWER_BYTES],
+) -> u32
+    requires { ⌜ 8 ≤ length (now body) ⌝ }
+{
+    let lent = is_lent(argument);
+    let a = number_at(body, 0);
+    let b = number_at(body, NUMBER_BYTES);
+    let unit = &body[2 * NUMBER_BYTES..];
+    if call == 26 {
+        return calls::riddlepoppy_check_unary_operator(page, names, lent, a, b, unit, bytes);
+    }
+    calls::riddlepoppy_check_index(page, names, lent, a, unit, b, bytes)
+}
+
+fn are_answers(bytes: &[u8; ANSWER_BYTES], out: &[u8]) -> bool {
+    same(bytes, out)
+}
+
+// Whether such a call answers this number, writes these bytes, and leaves the page so.
+fn is_entered_same(
+    call: u8,
+    argument: usize,
+    page: &mut [u8],
+    body: &[u8],
+    names: &[u8],
+    code: usize,
+    out: &[u8],
+    after: &[u8],
+) -> bool {
+    if body.len() < 2 * NUMBER_BYTES {
+        return false;
+    }
+    let mut bytes = [0u8; ANSWER_BYTES];
+    if answering(call, argument, page, body, names, &mut bytes) as usize != code {
+        return false;
+    }
+    if !are_answers(&bytes, out) {
+        return false;
+    }
+    same(page, after)
+}
+
+// Whether a call that writes the page answers this number, writes these bytes if it writes any, and leaves the page so.
 fn is_page_same(
     call: u8,
     argument: usize,
@@ -177,8 +227,12 @@ fn is_page_same(
     second: &[u8],
     names: &[u8],
     code: usize,
+    out: &[u8],
     after: &[u8],
 ) -> bool {
+    if 26 <= call {
+        return is_entered_same(call, argument, page, first, names, code, out, after);
+    }
     if written(call, argument, page, first, second, names) as usize != code {
         return false;
     }
@@ -194,6 +248,7 @@ fn is_copy_same(
     second: &[u8],
     names: &[u8],
     code: usize,
+    out: &[u8],
     after: &[u8],
 ) -> bool {
     let n = page.len();
@@ -210,6 +265,7 @@ fn is_copy_same(
         second,
         names,
         code,
+        out,
         after,
     )
 }
@@ -354,6 +410,45 @@ fn are_bindings_same(
     are_bindings(&bytes, out)
 }
 
+// Whether check_binary_operator answers this number and writes these bytes, with three numbers and the left unit in a field.
+fn is_binary_same(
+    argument: usize,
+    page: &[u8],
+    body: &[u8],
+    right: &[u8],
+    names: &[u8],
+    table: &[u8],
+    code: usize,
+    out: &[u8],
+) -> bool {
+    if body.len() < 3 * NUMBER_BYTES {
+        return false;
+    }
+    let mut bytes = [0u8; ANSWER_BYTES];
+    let lent = is_lent(argument);
+    let op = number_at(body, 0);
+    let a = number_at(body, NUMBER_BYTES);
+    let b = number_at(body, 2 * NUMBER_BYTES);
+    let left = &body[3 * NUMBER_BYTES..];
+    if calls::riddlepoppy_check_binary_operator(
+        page,
+        names,
+        lent,
+        table,
+        op,
+        a,
+        left,
+        b,
+        right,
+        &mut bytes,
+    ) as usize
+        != code
+    {
+        return false;
+    }
+    are_answers(&bytes, out)
+}
+
 // What matches answers, with the numbers in a field; no answer where the field has another length.
 fn matching(argument: usize, page: &[u8], numbers: &[u8], names: &[u8]) -> u32 {
     if numbers.len() != 2 * NUMBER_BYTES {
@@ -404,6 +499,7 @@ fn is_answer(
     first: &[u8],
     second: &[u8],
     names: &[u8],
+    table: &[u8],
     code: usize,
     out: &[u8],
     after: &[u8],
@@ -411,8 +507,8 @@ fn is_answer(
     requires { ⌜ argument < 65536 ⌝ }
 {
     match call {
-        1 | 2 | 10 | 11 | 16 | 17 | 21 | 24 => {
-            is_copy_same(call, argument, page, first, second, names, code, after)
+        1 | 2 | 10 | 11 | 16 | 17 | 21 | 24 | 26 | 27 => {
+            is_copy_same(call, argument, page, first, second, names, code, out, after)
         }
         4 => is_name_same(page, argument, code, out),
         6 => is_product_same(first, second, argument == 1, code, out),
@@ -421,6 +517,7 @@ fn is_answer(
         14 => are_sums_same(argument, page, first, names, code, out),
         18 => is_type_same(argument, page, first, names, code, out),
         22 | 23 => are_bindings_same(call, argument, page, first, second, names, code, out),
+        25 => is_binary_same(argument, page, first, second, names, table, code, out),
         3 | 5 | 7 | 8 | 12 | 15 | 19 | 20 => {
             number(call, argument, page, first, second, names) as usize == code
         }
@@ -436,6 +533,7 @@ fn is_answered(
     first: &[u8],
     second: &[u8],
     names: &[u8],
+    table: &[u8],
     answer: &[u8],
 ) -> bool
     requires { ⌜ argument < 65536 ⌝ }
@@ -457,13 +555,14 @@ fn is_answered(
         first,
         second,
         names,
+        table,
         code,
         &answer[start..end],
         &answer[from..to],
     )
 }
 
-// Whether a row's call answers what the row says: the call, its argument, a page and three more inputs, and the answer.
+// Whether a row's call answers what the row says: the call, its argument, a page and four more inputs, and the answer.
 fn is_same(row: &[u8]) -> bool {
     if row.len() < 3 {
         return false;
@@ -482,6 +581,9 @@ fn is_same(row: &[u8]) -> bool {
     let names = field(row, d);
     let e = names.start;
     let f = names.end;
+    let table = field(row, f);
+    let g = table.start;
+    let h = table.end;
     is_answered(
         call,
         argument,
@@ -489,7 +591,8 @@ fn is_same(row: &[u8]) -> bool {
         &row[a..b],
         &row[c..d],
         &row[e..f],
-        &row[f..],
+        &row[g..h],
+        &row[h..],
     )
 }
 

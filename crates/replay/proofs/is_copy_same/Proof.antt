@@ -22,7 +22,7 @@ array-borrow-prefix-copy c = search needs
 
 slice-aggregate-is-page-same : tie.Need-slice-aggregate-is-page-same
 slice-aggregate-is-page-same c =
-    let start = c .before .before .before .before .before .before .before .before .before .before in
+    let start = c .before .before .before .before .before .before .before .before .before .before .before in
     let if1 = c .before .before .before .before .if1 in
     let put-bytes = c .before .before .put-bytes in
     sym (length-take-le (length (now (start .args .page))) (put-bytes .last .0) (omega (arith, put-bytes .kept .0, if1 .left)))
