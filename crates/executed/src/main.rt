@@ -1,22 +1,37 @@
 // Document 01's cases that are executed and not proved as rows of `cases`: "Array Byte takes Array Int; Byte refuses Int", "Unequal
-// lengths bind nothing" ("Types"), "m^1000/m passes; m^1000 times m is refusal 8" ("Units and pairs").
+// lengths bind nothing" ("Types"), "m^1000/m passes; m^1000 times m is refusal 8" ("Units and pairs"), and those of operators and
+// indexing ("Answers").
+use answers::Answered;
+use answers::CheckedExpr;
 use bindings::BINDINGS;
 use bindings::Bindings;
+use matching::Checked;
 use names::Symbol;
+use operators::Errors;
+use operators::MINUS;
 use refusals::Answer;
+use refusals::Refusal;
+use refusals::Verdict;
+use units::MaybeUnit;
+use units::PLACES;
 use units::Unit;
 ghost use mathlib.Core.Path.{_≡_};
 ghost use mathlib.Core.Bool.{true};
 ghost use mathlib.Core.List.{[], _∷_};
 ghost use Prim.Native.Nat.{_<_};
+ghost use Rattle.refusals.specs.declared.Verdict.the-variants.{Passed};
 ghost use Rattle.units.specs.Unit.{term};
 ghost use Rattle.units.specs.Calls.{unitOf};
 ghost use Rattle.types.specs.Store.{formed};
 ghost use Rattle.types.specs.Types.{typesIn};
 ghost use Rattle.unification.specs.Unification.{said, unify};
-ghost use Rattle.executed.specs.Rows.{unbound, isPlain};
+ghost use Rattle.executed.specs.Rows.{unbound, isPlain, tagOf, numberIn, noPairs, expected, BinaryRow, UnaryRow, IndexRow};
+
+const NULL: usize = 0;
 
 const INT: usize = 1;
+
+const UINT: usize = 3;
 
 const BYTE: usize = 11;
 
@@ -34,10 +49,168 @@ const TUPLE_A: usize = 20;
 
 const TUPLE_INT_INT: usize = 21;
 
+// A store of Any(Int, Float), Any(Int) and Tuple(Int).
+const UNIONS: [u8; 16] = [0, 3, 2, 29, 0, 1, 0, 5, 1, 29, 0, 1, 1, 27, 0, 1];
+
+const ANY_INT_FLOAT: usize = 19;
+
+const ANY_INT: usize = 20;
+
+const TUPLE_INT: usize = 21;
+
 // How many names there are.
 const NAMES: usize = 1;
 
 const METRE: Symbol = 0;
+
+const SECOND: Symbol = 1;
+
+const MILLIMETRE: Symbol = 2;
+
+// A table of their names, m, s and mm.
+const SYMBOLS: [u8; 9] = [0, 3, 1, 109, 1, 115, 2, 109, 109];
+
+// How many bytes a table without pairs takes.
+const TABLE_BYTES: usize = 258;
+
+// Units: none, m, m^1000, s, mm.
+const NO_UNIT: MaybeUnit = MaybeUnit {
+    some: false,
+    unit: Unit {
+        count: 0,
+        symbols: [0; PLACES],
+        exponents: [0; PLACES],
+    },
+};
+
+const M: MaybeUnit = MaybeUnit {
+    some: true,
+    unit: Unit {
+        count: 1,
+        symbols: [METRE, 0, 0, 0, 0, 0, 0, 0],
+        exponents: [1, 0, 0, 0, 0, 0, 0, 0],
+    },
+};
+
+const LARGE: MaybeUnit = MaybeUnit {
+    some: true,
+    unit: Unit {
+        count: 1,
+        symbols: [METRE, 0, 0, 0, 0, 0, 0, 0],
+        exponents: [1000, 0, 0, 0, 0, 0, 0, 0],
+    },
+};
+
+const S: MaybeUnit = MaybeUnit {
+    some: true,
+    unit: Unit {
+        count: 1,
+        symbols: [SECOND, 0, 0, 0, 0, 0, 0, 0],
+        exponents: [1, 0, 0, 0, 0, 0, 0, 0],
+    },
+};
+
+const MM: MaybeUnit = MaybeUnit {
+    some: true,
+    unit: Unit {
+        count: 1,
+        symbols: [MILLIMETRE, 0, 0, 0, 0, 0, 0, 0],
+        exponents: [1, 0, 0, 0, 0, 0, 0, 0],
+    },
+};
+
+// Operands: a type with a unit or none.
+const UINT_PLAIN: CheckedExpr = CheckedExpr {
+    checked: Checked::Known(UINT),
+    unit: NO_UNIT,
+};
+
+const UINT_MM: CheckedExpr = CheckedExpr {
+    checked: Checked::Known(UINT),
+    unit: MM,
+};
+
+const UINT_S: CheckedExpr = CheckedExpr {
+    checked: Checked::Known(UINT),
+    unit: S,
+};
+
+const INT_M: CheckedExpr = CheckedExpr {
+    checked: Checked::Known(INT),
+    unit: M,
+};
+
+const INT_MM: CheckedExpr = CheckedExpr {
+    checked: Checked::Known(INT),
+    unit: MM,
+};
+
+const UNION_MM: CheckedExpr = CheckedExpr {
+    checked: Checked::Known(ANY_INT_FLOAT),
+    unit: MM,
+};
+
+const UNION_LARGE: CheckedExpr = CheckedExpr {
+    checked: Checked::Known(ANY_INT_FLOAT),
+    unit: LARGE,
+};
+
+const ANY_INT_LARGE: CheckedExpr = CheckedExpr {
+    checked: Checked::Known(ANY_INT),
+    unit: LARGE,
+};
+
+const NULL_PLAIN: CheckedExpr = CheckedExpr {
+    checked: Checked::Known(NULL),
+    unit: NO_UNIT,
+};
+
+const TUPLE_PLAIN: CheckedExpr = CheckedExpr {
+    checked: Checked::Known(TUPLE_INT),
+    unit: NO_UNIT,
+};
+
+// Operators: + and ×.
+const PLUS: usize = 1;
+
+const TIMES: usize = 3;
+
+// Errors: none, reason 2, reason 7 for one pair of members, which is (Float, Int), and reason 10.
+const NO_ERROR: Errors = Errors {
+    count: 0,
+    first: 0,
+    second: 0,
+    failing: 0,
+    left: 0,
+    right: 0,
+};
+
+const BAD_UNITS: Errors = Errors {
+    count: 1,
+    first: 2,
+    second: 0,
+    failing: 0,
+    left: 0,
+    right: 0,
+};
+
+const ONE_FAILS: Errors = Errors {
+    count: 1,
+    first: 7,
+    second: 0,
+    failing: 1,
+    left: 5,
+    right: 1,
+};
+
+const NOT_INDEXABLE: Errors = Errors {
+    count: 1,
+    first: 10,
+    second: 0,
+    failing: 0,
+    left: 0,
+    right: 0,
+};
 
 // No name bound.
 fn no_bindings() -> Bindings
@@ -105,7 +278,198 @@ fn expect_units() {
     check::expect(refusals::code(refused) == 8);
 }
 
+// Which of the three a checked type is.
+fn tag_of(c: Checked) -> u8
+    ensures { λ r. ⌜ r ≡ tagOf c ⌝ }
+{
+    match c {
+        Checked::Known(_) => 0,
+        Checked::Unknown => 1,
+        Checked::Function(_) => 2,
+    }
+}
+
+// Its number, 0 where it has none.
+fn number_in(c: Checked) -> usize
+    ensures { λ r. ⌜ r ≡ numberIn c ⌝ }
+{
+    match c {
+        Checked::Known(t) => t,
+        Checked::Unknown => 0,
+        Checked::Function(t) => t,
+    }
+}
+
+// Expects two checked types to be one.
+fn expect_checked(a: Checked, b: Checked)
+    requires { ⌜ a ≡ b ⌝ }
+{
+    check::expect(tag_of(a) == tag_of(b));
+    check::expect(number_in(a) == number_in(b));
+}
+
+// Expects two units, or none, to be one.
+fn expect_unit(a: MaybeUnit, b: MaybeUnit)
+    requires { ⌜ a ≡ b ⌝ }
+{
+    check::expect(a.some == b.some);
+    let u = a.unit;
+    let v = b.unit;
+    check::expect(u.count == v.count);
+    let mut i: usize = 0;
+    while i < PLACES {
+        check::expect(u.symbols[i] == v.symbols[i]);
+        check::expect(u.exponents[i] == v.exponents[i]);
+        i += 1;
+    }
+}
+
+// Expects two lists of errors to be one.
+fn expect_errors(a: Errors, b: Errors)
+    requires { ⌜ a ≡ b ⌝ }
+{
+    check::expect(a.count == b.count);
+    check::expect(a.first == b.first);
+    check::expect(a.second == b.second);
+    check::expect(a.failing == b.failing);
+    check::expect(a.left == b.left);
+    check::expect(a.right == b.right);
+}
+
+// Expects of an answer a verdict, a checked type, a unit or none, and errors.
+fn expect_answer(a: Answered, verdict: Verdict, c: Checked, unit: MaybeUnit, errors: Errors)
+    requires { ⌜ a ≡ expected verdict c unit errors ⌝ }
+{
+    let v = a.verdict;
+    check::expect(refusals::code(v) == refusals::code(verdict));
+    let d = a.checked;
+    expect_checked(d, c);
+    expect_unit(a.unit, unit);
+    expect_errors(a.errors, errors);
+}
+
+// A table without pairs.
+fn no_pairs() -> [u8; TABLE_BYTES]
+    ensures { λ r. ⌜ r ≡ noPairs ⌝ }
+{
+    let mut table = [0u8; TABLE_BYTES];
+    pairs::empty_pairs(&mut table);
+    table
+}
+
+// Expects what a binary operator answers, over the store of unions and a table without pairs.
+fn expect_binary(
+    op: usize,
+    left: CheckedExpr,
+    right: CheckedExpr,
+    verdict: Verdict,
+    c: Checked,
+    unit: MaybeUnit,
+    errors: Errors,
+)
+    requires { ⌜ BinaryRow op left right (expected verdict c unit errors) ⌝ }
+{
+    let table = no_pairs();
+    let a = answers::check_binary_operator(&UNIONS, &SYMBOLS, true, &table, op, left, right);
+    expect_answer(a, verdict, c, unit, errors);
+}
+
+// Expects what an operator answers for one operand, over that store, which stays as it is.
+fn expect_unary(op: usize, x: CheckedExpr, c: Checked, unit: MaybeUnit, errors: Errors)
+    requires { ⌜ UnaryRow op x (expected Passed c unit errors) ⌝ }
+{
+    let mut page = UNIONS;
+    let a = answers::check_unary_operator(&mut page, &SYMBOLS, true, op, x);
+    expect_answer(a, Verdict::Passed, c, unit, errors);
+    check::expect(check::same(&page, &UNIONS));
+}
+
+// Expects what indexing a target by an Int answers, over that store, which stays as it is.
+fn expect_index(target: CheckedExpr, c: Checked, unit: MaybeUnit, errors: Errors)
+    requires { ⌜ IndexRow target (expected Passed c unit errors) ⌝ }
+{
+    let mut page = UNIONS;
+    let a = answers::check_index(&mut page, &SYMBOLS, true, target, Checked::Known(INT));
+    expect_answer(a, Verdict::Passed, c, unit, errors);
+    check::expect(check::same(&page, &UNIONS));
+}
+
+// The cases of sums: "Sums with one unitless side adopt the other's unit. A sum or difference of two units that are not convertible,
+// neither side unitless, never answers a number without an error, UInt included".
+fn expect_sums() {
+    let uint = Checked::Known(UINT);
+    expect_binary(PLUS, UINT_MM, UINT_MM, Verdict::Passed, uint, MM, NO_ERROR);
+    expect_binary(
+        PLUS,
+        UINT_PLAIN,
+        UINT_MM,
+        Verdict::Passed,
+        uint,
+        MM,
+        NO_ERROR,
+    );
+    expect_binary(
+        PLUS,
+        UINT_MM,
+        UINT_S,
+        Verdict::Passed,
+        uint,
+        NO_UNIT,
+        BAD_UNITS,
+    );
+    expect_binary(
+        MINUS,
+        UINT_MM,
+        UINT_S,
+        Verdict::Passed,
+        uint,
+        NO_UNIT,
+        BAD_UNITS,
+    );
+}
+
+// The cases of unions: no member's trial meets a unit's limits, the final result does; "Unary − on Any(Int, Float) with mm: that
+// union, no unit".
+fn expect_unions() {
+    expect_binary(
+        TIMES,
+        UNION_LARGE,
+        INT_M,
+        Verdict::Passed,
+        Checked::Unknown,
+        NO_UNIT,
+        ONE_FAILS,
+    );
+    let exponent = Verdict::Refused(Refusal::Exponent);
+    expect_binary(
+        TIMES,
+        ANY_INT_LARGE,
+        INT_M,
+        exponent,
+        Checked::Unknown,
+        NO_UNIT,
+        NO_ERROR,
+    );
+    expect_unary(
+        MINUS,
+        UNION_MM,
+        Checked::Known(ANY_INT_FLOAT),
+        NO_UNIT,
+        NO_ERROR,
+    );
+}
+
+// The cases of indexing: "Null and tuple targets index to Unknown with no error", "An index keeps its target's unit", with an error too.
+fn expect_indexing() {
+    expect_index(NULL_PLAIN, Checked::Unknown, NO_UNIT, NO_ERROR);
+    expect_index(TUPLE_PLAIN, Checked::Unknown, NO_UNIT, NO_ERROR);
+    expect_index(INT_MM, Checked::Unknown, MM, NOT_INDEXABLE);
+}
+
 fn main() {
     expect_types();
     expect_units();
+    expect_sums();
+    expect_unions();
+    expect_indexing();
 }

@@ -1,0 +1,43 @@
+-- `executed::expect_binary` meets its contract. Assumes nothing.
+use mathlib.Core.Path.{ap, _∙_}
+use mathlib.Core.Bool.{true}
+use mathlib.Core.List.{List}
+use Prim.Native.Nat.{ℕ}
+use Rattle.answers.specs.Calls.{binaryAnswer}
+use Rattle.executed.specs.Rows.{unions, symbols}
+use borrow.Author.Needs.{needs}
+use Rattle.executed.proofs.expect_binary.Statement.{statement}
+use Rattle.executed.proofs.expect_binary.Tie as tie
+
+no-pairs-requires : tie.Need-no-pairs-requires
+no-pairs-requires c κs = search needs
+
+slice-aggregate-check-binary-operator : tie.Need-slice-aggregate-check-binary-operator
+slice-aggregate-check-binary-operator c = search needs
+
+slice-aggregate-check-binary-operator-2 : tie.Need-slice-aggregate-check-binary-operator-2
+slice-aggregate-check-binary-operator-2 c = search needs
+
+slice-aggregate-check-binary-operator-3 : tie.Need-slice-aggregate-check-binary-operator-3
+slice-aggregate-check-binary-operator-3 c = search needs
+
+check-binary-operator-requires : tie.Need-check-binary-operator-requires
+check-binary-operator-requires c κs = search needs
+
+expect-answer-requires : tie.Need-expect-answer-requires
+expect-answer-requires c κs = c .check-binary-operator .ensures ∙ ap (λ (t : List ℕ). binaryAnswer unions symbols true t (c .before .before .before .before .before .args .op) (c .before .before .before .before .before .args .left) (c .before .before .before .before .before .args .right)) (c .before .before .before .before .no-pairs .ensures) ∙ c .before .before .before .before .before .pre
+
+returns : tie.Need-returns
+returns c = search needs
+
+pub expect-binary-spec : {M : Type 1} → statement M
+expect-binary-spec =
+    tie.close
+    (tie.spec
+    no-pairs-requires
+    slice-aggregate-check-binary-operator
+    slice-aggregate-check-binary-operator-2
+    slice-aggregate-check-binary-operator-3
+    check-binary-operator-requires
+    expect-answer-requires
+    returns)
