@@ -14,7 +14,9 @@ code-requires-2 : tie.Need-code-requires-2
 code-requires-2 c κs = search needs
 
 expect-requires : tie.Need-expect-requires
-expect-requires c κs = eq-eqb _ _ (c .before .code .ensures ∙ ap (λ (a : Answered). codeOf (a .verdict)) (c .before .before .pre) ∙ sym (c .code2 .ensures))
+expect-requires c κs =
+    let start = c .before .before in
+    eq-eqb _ _ (c .before .code .ensures ∙ ap (λ (a : Answered). codeOf (a .verdict)) (start .pre) ∙ sym (c .code2 .ensures))
 
 expect-checked-requires : tie.Need-expect-checked-requires
 expect-checked-requires c κs = ap (λ (a : Answered). a .checked) (c .before .before .before .pre)

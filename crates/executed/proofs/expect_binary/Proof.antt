@@ -4,6 +4,7 @@ use mathlib.Core.Bool.{true}
 use mathlib.Core.List.{List}
 use Prim.Native.Nat.{ℕ}
 use Rattle.answers.specs.Calls.{binaryAnswer}
+use Rattle.answers.specs.declared.Answered.{Answered}
 use Rattle.executed.specs.Rows.{unions, symbols}
 use borrow.Author.Needs.{needs}
 use Rattle.executed.proofs.expect_binary.Statement.{statement}
@@ -25,7 +26,12 @@ check-binary-operator-requires : tie.Need-check-binary-operator-requires
 check-binary-operator-requires c κs = search needs
 
 expect-answer-requires : tie.Need-expect-answer-requires
-expect-answer-requires c κs = c .check-binary-operator .ensures ∙ ap (λ (t : List ℕ). binaryAnswer unions symbols true t (c .before .before .before .before .before .args .op) (c .before .before .before .before .before .args .left) (c .before .before .before .before .before .args .right)) (c .before .before .before .before .no-pairs .ensures) ∙ c .before .before .before .before .before .pre
+expect-answer-requires c κs =
+    let start = c .before .before .before .before .before in
+    let no-pairs = c .before .before .before .before .no-pairs in
+    let x = start .args in
+    let on : List ℕ → Answered = λ t. binaryAnswer unions symbols true t (x .op) (x .left) (x .right) in
+    c .check-binary-operator .ensures ∙ ap on (no-pairs .ensures) ∙ start .pre
 
 returns : tie.Need-returns
 returns c = search needs

@@ -22,7 +22,9 @@ number-in-requires-2 : tie.Need-number-in-requires-2
 number-in-requires-2 c κs = search needs
 
 expect-requires-2 : tie.Need-expect-requires-2
-expect-requires-2 c κs = eq-eqb _ _ (c .before .number-in .ensures ∙ ap numberIn (c .before .before .before .before .before .pre) ∙ sym (c .number-in2 .ensures))
+expect-requires-2 c κs =
+    let start = c .before .before .before .before .before in
+    eq-eqb _ _ (c .before .number-in .ensures ∙ ap numberIn (start .pre) ∙ sym (c .number-in2 .ensures))
 
 returns : tie.Need-returns
 returns c = search needs

@@ -13,16 +13,24 @@ expect-requires-2 : tie.Need-expect-requires-2
 expect-requires-2 c κs = eq-eqb _ _ (ap (λ (e : Errors). e .first) (c .before .before .before .before .before .pre))
 
 expect-requires-3 : tie.Need-expect-requires-3
-expect-requires-3 c κs = eq-eqb _ _ (ap (λ (e : Errors). e .second) (c .before .before .before .before .before .before .before .before .pre))
+expect-requires-3 c κs =
+    let start = c .before .before .before .before .before .before .before .before in
+    eq-eqb _ _ (ap (λ (e : Errors). e .second) (start .pre))
 
 expect-requires-4 : tie.Need-expect-requires-4
-expect-requires-4 c κs = eq-eqb _ _ (ap (λ (e : Errors). e .failing) (c .before .before .before .before .before .before .before .before .before .before .before .pre))
+expect-requires-4 c κs =
+    let start = c .before .before .before .before .before .before .before .before .before .before .before in
+    eq-eqb _ _ (ap (λ (e : Errors). e .failing) (start .pre))
 
 expect-requires-5 : tie.Need-expect-requires-5
-expect-requires-5 c κs = eq-eqb _ _ (ap (λ (e : Errors). e .left) (c .before .before .before .before .before .before .before .before .before .before .before .before .before .before .pre))
+expect-requires-5 c κs =
+    let start = c .before .before .before .before .before .before .before .before .before .before .before .before .before .before in
+    eq-eqb _ _ (ap (λ (e : Errors). e .left) (start .pre))
 
 expect-requires-6 : tie.Need-expect-requires-6
-expect-requires-6 c κs = eq-eqb _ _ (ap (λ (e : Errors). e .right) (c .before .before .before .before .before .before .before .before .before .before .before .before .before .before .before .before .before .pre))
+expect-requires-6 c κs =
+    let start = c .before .before .before .before .before .before .before .before .before .before .before .before .before .before .before .before .before in
+    eq-eqb _ _ (ap (λ (e : Errors). e .right) (start .pre))
 
 returns : tie.Need-returns
 returns c = search needs

@@ -26,7 +26,10 @@ same-requires : tie.Need-same-requires
 same-requires c κs = search needs
 
 expect-requires : tie.Need-expect-requires
-expect-requires c κs = c .same .ensures .1 (c .before .before .before .before .before .check-index .ensures .1 ∙ c .before .before .before .before .before .before .before .before .pre .1)
+expect-requires c κs =
+    let start = c .before .before .before .before .before .before .before .before in
+    let check-index = c .before .before .before .before .before .check-index in
+    c .same .ensures .1 (check-index .ensures .1 ∙ start .pre .1)
 
 returns : tie.Need-returns
 returns c = search needs

@@ -35,7 +35,9 @@ element-copy-out-expect-2 : tie.Need-element-copy-out-expect-2 Inv-loop μ-loop
 element-copy-out-expect-2 c = search needs
 
 expect-requires-3 : tie.Need-expect-requires-3 Inv-loop μ-loop
-expect-requires-3 c κs = eq-eqb _ _ (ap (λ (m : MaybeUnit). getD (m .unit .symbols) (c .before .before .before .loop .i) 0) (c .before .before .before .before .before .before .before .before .before .before .pre))
+expect-requires-3 c κs =
+    let start = c .before .before .before .before .before .before .before .before .before .before in
+    eq-eqb _ _ (ap (λ (m : MaybeUnit). getD (m .unit .symbols) (c .before .before .before .loop .i) 0) (start .pre))
 
 mul-expect : tie.Need-mul-expect Inv-loop μ-loop
 mul-expect c = search needs
@@ -50,7 +52,10 @@ element-copy-out-expect-4 : tie.Need-element-copy-out-expect-4 Inv-loop μ-loop
 element-copy-out-expect-4 c = search needs
 
 expect-requires-4 : tie.Need-expect-requires-4 Inv-loop μ-loop
-expect-requires-4 c κs = eq-eqb _ _ (ap (λ (m : MaybeUnit). ofZ w16 (getD (m .unit .exponents) (c .before .before .before .before .before .before .loop .i) (pos 0))) (c .before .before .before .before .before .before .before .before .before .before .before .before .before .pre))
+expect-requires-4 c κs =
+    let start = c .before .before .before .before .before .before .before .before .before .before .before .before .before in
+    let loop = c .before .before .before .before .before .before .loop in
+    eq-eqb _ _ (ap (λ (m : MaybeUnit). ofZ w16 (getD (m .unit .exponents) (loop .i) (pos 0))) (start .pre))
 
 add-i : tie.Need-add-i Inv-loop μ-loop
 add-i c = search needs
