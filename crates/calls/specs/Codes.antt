@@ -8,6 +8,8 @@ use Rattle.refusals.specs.Numbers.{codeOf}
 use Rattle.refusals.specs.Lowest.{unlessRefused}
 use Rattle.refusals.specs.declared.Verdict.{Verdict}
 use Rattle.refusals.specs.declared.Verdict.the-variants.{Passed, Refused}
+use Rattle.refusals.specs.declared.Answer.{Answer}
+use Rattle.refusals.specs.declared.Answer.the-variants as answer
 use Rattle.pages.specs.Bytes.{bigEndian, longBytes}
 use Rattle.pages.specs.Pad.{pad}
 use Rattle.names.specs.declared.Added.{Added}
@@ -20,8 +22,6 @@ use Rattle.units.specs.declared.Unit.{Unit}
 use Rattle.units.specs.declared.MaybeUnit.{MaybeUnit}
 use Rattle.units.specs.declared.Power.{Power}
 use Rattle.units.specs.declared.Power.the-variants as power
-use Rattle.units.specs.declared.Unitless.{Unitless}
-use Rattle.units.specs.declared.Unitless.the-variants as unitless
 use Rattle.units.specs.declared.UnitResult.{UnitResult}
 use Rattle.pairs.specs.declared.Root.{Root}
 use Rattle.pairs.specs.declared.Root.the-variants as root
@@ -31,8 +31,6 @@ use Rattle.sums.specs.Sums.{sumsIn}
 use Rattle.sums.specs.Calls.{sumsAnswer, convertAnswer}
 use Rattle.sums.specs.declared.Sums.{Sums}
 use Rattle.sums.specs.declared.SumsResult.{SumsResult}
-use Rattle.sums.specs.declared.Conversion.{Conversion}
-use Rattle.sums.specs.declared.Conversion.the-variants as conversion
 use Rattle.text.specs.Calls.{textAnswer}
 use Rattle.text.specs.declared.Text.{Text}
 use Rattle.values.specs.Value.{rawOf, unitMax, unitBytes, valueVerdict, unitIn}
@@ -61,11 +59,11 @@ abbrev pub powerCode : Power → ℕ
 powerCode (power.Of e) = packed Passed (rawOf e)
 powerCode (power.Refused r) = packed (Refused r) 0
 
--- 1 for yes
-abbrev pub unitlessCode : Unitless → ℕ
-unitlessCode unitless.Yes = packed Passed 1
-unitlessCode unitless.No = packed Passed 0
-unitlessCode (unitless.Refused r) = packed (Refused r) 0
+-- what a plain question answers: 1 for yes
+abbrev pub answerCode : Answer → ℕ
+answerCode answer.Yes = packed Passed 1
+answerCode answer.No = packed Passed 0
+answerCode (answer.Refused r) = packed (Refused r) 0
 
 -- a unit that breaks its form, having more symbols than places
 abbrev pub brokenUnit : Unit
@@ -76,12 +74,12 @@ unfoldable pub unitOrBroken : List ℕ → Unit
 unitOrBroken bytes = cond (unitIn bytes .some) (unitIn bytes .unit) brokenUnit
 
 -- an answer, unless the bytes are refused
-abbrev pub answeredOr : Verdict → Unitless → Unitless
-answeredOr Passed answer = answer
-answeredOr (Refused r) answer = Unitless.Refused r
+abbrev pub answeredOr : Verdict → Answer → Answer
+answeredOr Passed a = a
+answeredOr (Refused r) a = Answer.Refused r
 
 -- unitless or not, of bytes that say a unit or none
-unfoldable pub unitlessIn : List ℕ → Unitless
+unfoldable pub unitlessIn : List ℕ → Answer
 unitlessIn bytes = answeredOr (valueVerdict bytes) (unitlessAnswer (unitIn bytes))
 
 -- the product or quotient of the units that two slices say
@@ -128,11 +126,5 @@ unfoldable pub maybeOrBroken : List ℕ → MaybeUnit
 maybeOrBroken bytes = unlessRefused (valueVerdict bytes) (unitIn bytes) (record { some = true; unit = brokenUnit })
 
 -- convertible or not, of bytes that each say a unit or none
-abbrev pub convertibleIn : List ℕ → List ℕ → Bool → List ℕ → List ℕ → Conversion
+abbrev pub convertibleIn : List ℕ → List ℕ → Bool → List ℕ → List ℕ → Answer
 convertibleIn page names lent left right = convertAnswer page names lent (maybeOrBroken left) (maybeOrBroken right)
-
--- 1 for yes
-abbrev pub conversionCode : Conversion → ℕ
-conversionCode conversion.Yes = packed Passed 1
-conversionCode conversion.No = packed Passed 0
-conversionCode (conversion.Refused r) = packed (Refused r) 0

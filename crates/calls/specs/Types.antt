@@ -30,12 +30,6 @@ abbrev pub madeCode : Made → ℕ
 madeCode (made.At t) = packed Passed t
 madeCode (made.Refused r) = packed (Refused r) 0
 
--- what a plain question answers: 1 for yes
-abbrev pub answerCode : Answer → ℕ
-answerCode answer.Yes = packed Passed 1
-answerCode answer.No = packed Passed 0
-answerCode (answer.Refused r) = packed (Refused r) 0
-
 -- ---- a type that is read
 
 -- how many bytes it takes: its depth, and its entry

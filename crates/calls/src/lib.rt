@@ -18,7 +18,6 @@ use pairs::Factor;
 use pairs::Root;
 use refusals::Answer;
 use refusals::Verdict;
-use sums::Conversion;
 use sums::Sums;
 use text::TEXT_BYTES;
 use types::CHILD_BYTES;
@@ -30,7 +29,6 @@ use units::MaybeUnit;
 use units::PLACES;
 use units::Power;
 use units::Unit;
-use units::Unitless;
 use values::NONE_COUNT;
 use values::UNIT_BYTES;
 use values::UnitBytes;
@@ -53,8 +51,8 @@ ghost use Rattle.checked.specs.Calls.{matchesAnswer, genericAnswer, intoConst, 
 ghost use Rattle.pages.specs.Pad.{pad};
 ghost use Rattle.values.specs.Value.{noneCount, unitMax};
 ghost use Rattle.sums.specs.Calls.{orEmpty};
-ghost use Rattle.calls.specs.Types.{madeCode, typeBytes, bytesOfType, checkedOf, bindingBytes, boundIn, bindingsIn, bytesOfBindings, answerCode, numberIn, constCode, bindingsAfter, unifyIn, unifyArgIn};
-ghost use Rattle.calls.specs.Codes.{packed, addedCode, foundCode, powerCode, unitlessCode, brokenUnit, unitOrBroken, unitlessIn, productIn, textIn, bytesOfUnit, rootCode, factorCode, outAfterFactor, groupSumsIn, bytesOfSums, maybeOrBroken, convertibleIn, conversionCode};
+ghost use Rattle.calls.specs.Types.{madeCode, typeBytes, bytesOfType, checkedOf, bindingBytes, boundIn, bindingsIn, bytesOfBindings, numberIn, constCode, bindingsAfter, unifyIn, unifyArgIn};
+ghost use Rattle.calls.specs.Codes.{packed, addedCode, foundCode, powerCode, answerCode, brokenUnit, unitOrBroken, unitlessIn, productIn, textIn, bytesOfUnit, rootCode, factorCode, outAfterFactor, groupSumsIn, bytesOfSums, maybeOrBroken, convertibleIn};
 ghost use Rattle.calls.specs.Answers.{operandOf, answeredCode, errorBytes, bytesOfErrors, bytesOfMaybe, answerBytes, bytesOfAnswer, outAfterAnswer, binaryIn, unaryIn, unaryPageIn, indexIn, indexPageIn};
 
 // What a name or a factor that the table does not have is answered with, which is no name's number and no symbol.
@@ -178,10 +176,21 @@ pub extern "C" fn riddlepoppy_exponent(unit: &[u8], symbol: u8) -> u32
     }
 }
 
+// A plain answer as one number: 1 for yes.
+fn answer_code(answer: Answer) -> u32
+    ensures { λ r. ⌜ r ≡ answerCode answer ⌝ }
+{
+    match answer {
+        Answer::Yes => packed_as(Verdict::Passed, 1),
+        Answer::No => packed_as(Verdict::Passed, 0),
+        Answer::Refused(r) => packed_as(Verdict::Refused(r), 0),
+    }
+}
+
 // Whether there is no unit, or the empty one: 1 for yes.
 #[no_mangle]
 pub extern "C" fn riddlepoppy_is_dimensionless(bytes: &[u8]) -> u32
-    ensures { λ r. ⌜ r ≡ unitlessCode (unitlessIn (now (bytes .entry))) ⌝ }
+    ensures { λ r. ⌜ r ≡ answerCode (unitlessIn (now (bytes .entry))) ⌝ }
 {
     let value = values::read_value(bytes);
     let verdict = value.verdict;
@@ -189,12 +198,7 @@ pub extern "C" fn riddlepoppy_is_dimensionless(bytes: &[u8]) -> u32
         return packed_as(Verdict::Refused(r), 0);
     }
     let unit = value.unit;
-    let answer = units::is_dimensionless(unit);
-    match answer {
-        Unitless::Yes => packed_as(Verdict::Passed, 1),
-        Unitless::No => packed_as(Verdict::Passed, 0),
-        Unitless::Refused(r) => packed_as(Verdict::Refused(r), 0),
-    }
+    answer_code(units::is_dimensionless(unit))
 }
 
 // The text of a unit, and its length.
@@ -332,16 +336,11 @@ pub extern "C" fn riddlepoppy_is_convertible_to(
     left: &[u8],
     right: &[u8],
 ) -> u32
-    ensures { λ r. ⌜ r ≡ conversionCode (convertibleIn (now (page .entry)) (now (names .entry)) lent (now (left .entry)) (now (right .entry))) ⌝ }
+    ensures { λ r. ⌜ r ≡ answerCode (convertibleIn (now (page .entry)) (now (names .entry)) lent (now (left .entry)) (now (right .entry))) ⌝ }
 {
     let a = maybe_or_broken(left);
     let b = maybe_or_broken(right);
-    let answer = sums::is_convertible_to(page, names, lent, a, b);
-    match answer {
-        Conversion::Yes => packed_as(Verdict::Passed, 1),
-        Conversion::No => packed_as(Verdict::Passed, 0),
-        Conversion::Refused(r) => packed_as(Verdict::Refused(r), 0),
-    }
+    answer_code(sums::is_convertible_to(page, names, lent, a, b))
 }
 
 // Makes the page a store of the fixed types alone.
@@ -521,17 +520,6 @@ fn binding_bytes(bindings: Bindings) -> BindingBytes
     pages::put_bytes(&mut bytes, 1, &names);
     types::put_types(&mut bytes, TYPES_AT, &types);
     bytes
-}
-
-// A plain answer as one number: 1 for yes.
-fn answer_code(answer: Answer) -> u32
-    ensures { λ r. ⌜ r ≡ answerCode answer ⌝ }
-{
-    match answer {
-        Answer::Yes => packed_as(Verdict::Passed, 1),
-        Answer::No => packed_as(Verdict::Passed, 0),
-        Answer::Refused(r) => packed_as(Verdict::Refused(r), 0),
-    }
 }
 
 // Whether a checked type stands for another: 1 for yes.

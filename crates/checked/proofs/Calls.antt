@@ -8,7 +8,7 @@ use native.Mathlib.Omega.{arith}
 use lib.ListN.{length, getD, replicate}
 use lib.Dec.{ltb, eqb}
 use borrow.Author.Tests.{lt-ltb, le-ltb, ltb-true}
-use Rattle.refusals.specs.Lowest.{_when_}
+use Rattle.refusals.specs.Lowest.{_when_, answered}
 use Rattle.refusals.specs.declared.Refusal.{Refusal}
 use Rattle.refusals.specs.declared.Refusal.the-variants.{Broken, Unused}
 use Rattle.refusals.specs.declared.Verdict.the-variants.{Passed, Refused}
@@ -37,7 +37,7 @@ use Rattle.bindings.proofs.Substitution.{substitute-sound}
 use Rattle.bindings.proofs.Rebuilding.{remembered-none}
 use Rattle.unification.specs.Unification.{unified, unifyArg}
 use Rattle.unification.specs.declared.Unified.{Unified}
-use Rattle.checked.specs.Calls.{verdictOf, answered, given, ofMade, constOf, constAfter, matchesAnswer, genericAnswer, intoConst, intoConstPage, bindingsVerdict, substituteAnswer, substitutePage, keptBy, unifyArgAnswer, unifyAnswer}
+use Rattle.checked.specs.Calls.{verdictOf, given, ofMade, constOf, constAfter, matchesAnswer, genericAnswer, intoConst, intoConstPage, bindingsVerdict, substituteAnswer, substitutePage, keptBy, unifyArgAnswer, unifyAnswer}
 use Rattle.checked.specs.declared.Const.{Const}
 
 -- ---- numbers in use

@@ -1,10 +1,10 @@
 -- What the calls on checked types answer, and leave in the page (document 01, "Types" and the table of refusals). Names are lent
 -- where `lent` is true. 2 is for the names, the store and the bindings together, 3 for the numbers together.
-use mathlib.Core.Bool.{Bool, true, false, _&&_, _||_, not}
+use mathlib.Core.Bool.{Bool, true, _&&_, _||_, not}
 use mathlib.Core.List.{List, [], _∷_}
 use Prim.Native.Nat.{ℕ}
 use lib.Dec.{ltb}
-use Rattle.refusals.specs.Lowest.{_when_, lowest, unlessRefused}
+use Rattle.refusals.specs.Lowest.{_when_, lowest, unlessRefused, answered}
 use Rattle.refusals.specs.declared.Refusal.the-variants.{Broken, Unused}
 use Rattle.refusals.specs.declared.Verdict.{Verdict}
 use Rattle.refusals.specs.declared.Verdict.the-variants.{Passed, Refused}
@@ -28,12 +28,6 @@ use Rattle.checked.specs.declared.Const.{Const}
 -- 2 the names, the store, or something else that has a form; 3 a number
 unfoldable pub verdictOf : List ℕ → List ℕ → Bool → Bool → Bool → Verdict
 verdictOf page names lent formed used = lowest ((Broken when (storeBroken page names lent || not formed)) ∷ (Unused when not used) ∷ [])
-
--- a yes or a no, or the refusal
-abbrev pub answered : Verdict → Bool → Answer
-answered Passed true = Answer.Yes
-answered Passed false = Answer.No
-answered (Refused r) b = Answer.Refused r
 
 -- ---- `matches`
 

@@ -14,10 +14,11 @@ use unification::Unified;
 ghost use mathlib.Core.Path.{_≡_};
 ghost use Rattle.types.specs.Types.{Held};
 ghost use Rattle.matching.specs.Matching.{inUse};
+ghost use Rattle.refusals.specs.Lowest.{answered};
 ghost use Rattle.refusals.specs.declared.Verdict.the-variants.{Passed};
 ghost use Rattle.refusals.specs.declared.Answer.{Answer};
 ghost use Rattle.unification.specs.Unification.{unified};
-ghost use Rattle.checked.specs.Calls.{answered, given, ofMade, matchesAnswer, genericAnswer, intoConst, intoConstPage, substituteAnswer, substitutePage, keptBy, unifyArgAnswer, unifyAnswer};
+ghost use Rattle.checked.specs.Calls.{given, ofMade, matchesAnswer, genericAnswer, intoConst, intoConstPage, substituteAnswer, substitutePage, keptBy, unifyArgAnswer, unifyAnswer};
 
 // The const form of a checked type, or Unknown beside the refusal.
 pub struct Const {

@@ -7,6 +7,7 @@ use Rattle.refusals.specs.Numbers.{numberOf}
 use Rattle.refusals.specs.declared.Refusal.{Refusal}
 use Rattle.refusals.specs.declared.Verdict.{Verdict}
 use Rattle.refusals.specs.declared.Verdict.the-variants.{Passed, Refused}
+use Rattle.refusals.specs.declared.Answer.{Answer}
 
 infix 20 _when_
 -- a refusal, and whether its condition holds of the call's input
@@ -27,3 +28,8 @@ lowest ((r when b) ∷ cs) = cond b (lower r (lowest cs)) (lowest cs)
 abbrev pub unlessRefused : {A : Type 0} → Verdict → A → A → A
 unlessRefused Passed new old = new
 unlessRefused (Refused r) new old = old
+
+-- yes or no, or the refusal
+abbrev pub answered : Verdict → Bool → Answer
+answered Passed holds = cond holds Answer.Yes Answer.No
+answered (Refused r) holds = Answer.Refused r

@@ -11,6 +11,7 @@ use Rattle.refusals.specs.declared.Refusal.{Refusal}
 use Rattle.refusals.specs.declared.Refusal.the-variants.{Broken, Unused, BadUnit}
 use Rattle.refusals.specs.declared.Verdict.{Verdict}
 use Rattle.refusals.specs.declared.Verdict.the-variants.{Passed, Refused}
+use Rattle.refusals.specs.declared.Answer.{Answer}
 use Rattle.refusals.proofs.Lowest.{first-holds, passed-parts}
 use Rattle.pages.specs.Bytes.{countOf}
 use Rattle.pages.proofs.Quant.{and-true}
@@ -31,7 +32,6 @@ use Rattle.pairs.proofs.Run.{form-all}
 use Rattle.sums.specs.Sums.{groupSums, convertible, sumsOf}
 use Rattle.sums.specs.Calls.{allUsed, allFormed, unitsVerdict, rootsIn, summed, sumsAnswer, orEmpty, convertAnswer}
 use Rattle.sums.specs.declared.SumsResult.{SumsResult}
-use Rattle.sums.specs.declared.Conversion.{Conversion}
 
 -- ---- two units
 
@@ -134,15 +134,15 @@ module _ (page names : List ℕ) (lent : Bool) (u : Unit) where
 
 module _ (page names : List ℕ) (lent : Bool) (left right : MaybeUnit) where
   pub convert-refused : (r : Refusal) → Refused r ≡ unitsVerdict page names lent (orEmpty left ∷ orEmpty right ∷ [])
-      → Conversion.Refused r ≡ convertAnswer page names lent left right
+      → Answer.Refused r ≡ convertAnswer page names lent left right
   unfolding convertAnswer
   convert-refused r v = rw (← v)
 
   module _ (v : unitsVerdict page names lent (orEmpty left ∷ orEmpty right ∷ []) ≡ Passed) (root : ℕ → ℕ) (same : (s : ℕ) → root s ≡ rootsIn page s) where
-    pub convert-yes : convertible namesMax root (termsOf (orEmpty left)) (termsOf (orEmpty right)) ≡ true → Conversion.Yes ≡ convertAnswer page names lent left right
+    pub convert-yes : convertible namesMax root (termsOf (orEmpty left)) (termsOf (orEmpty right)) ≡ true → Answer.Yes ≡ convertAnswer page names lent left right
     unfolding convertAnswer
     convert-yes h = let e : root ≡ rootsIn page = fun-ext same in rw (v, ← e, h)
 
-    pub convert-no : convertible namesMax root (termsOf (orEmpty left)) (termsOf (orEmpty right)) ≡ false → Conversion.No ≡ convertAnswer page names lent left right
+    pub convert-no : convertible namesMax root (termsOf (orEmpty left)) (termsOf (orEmpty right)) ≡ false → Answer.No ≡ convertAnswer page names lent left right
     unfolding convertAnswer
     convert-no h = let e : root ≡ rootsIn page = fun-ext same in rw (v, ← e, h)

@@ -3,10 +3,11 @@
 use mathlib.Core.Bool.{Bool, true, _&&_, not, cond}
 use mathlib.Core.List.{List, [], _∷_}
 use Prim.Native.Nat.{ℕ}
-use Rattle.refusals.specs.Lowest.{_when_, lowest}
+use Rattle.refusals.specs.Lowest.{_when_, lowest, answered}
 use Rattle.refusals.specs.declared.Refusal.the-variants.{Broken, Unused, BadUnit}
 use Rattle.refusals.specs.declared.Verdict.{Verdict}
 use Rattle.refusals.specs.declared.Verdict.the-variants.{Passed, Refused}
+use Rattle.refusals.specs.declared.Answer.{Answer}
 use Rattle.names.specs.Table.{namesMax}
 use Rattle.names.specs.Calls.{usedOf}
 use Rattle.units.specs.Unit.{placesMax, Term, inUse}
@@ -19,7 +20,6 @@ use Rattle.pairs.specs.Page.{listedIn}
 use Rattle.pairs.specs.Calls.{tableBroken}
 use Rattle.sums.specs.Sums.{groupSums, convertible, sumsOf}
 use Rattle.sums.specs.declared.SumsResult.{SumsResult}
-use Rattle.sums.specs.declared.Conversion.{Conversion}
 
 -- ---- units that a call is given
 
@@ -63,13 +63,8 @@ sumsAnswer page names lent u = summed (unitsVerdict page names lent (u ∷ [])) 
 abbrev pub orEmpty : MaybeUnit → Unit
 orEmpty m = cond (m .some) (m .unit) (unitOf [])
 
--- yes or no, or the refusal
-abbrev pub answered : Verdict → Bool → Conversion
-answered Passed holds = cond holds Conversion.Yes Conversion.No
-answered (Refused r) holds = Conversion.Refused r
-
 -- are two units, or none, convertible (`is_convertible_to`)
-unfoldable pub convertAnswer : List ℕ → List ℕ → Bool → MaybeUnit → MaybeUnit → Conversion
+unfoldable pub convertAnswer : List ℕ → List ℕ → Bool → MaybeUnit → MaybeUnit → Answer
 convertAnswer page names lent left right =
     answered (unitsVerdict page names lent (orEmpty left ∷ orEmpty right ∷ []))
     (convertible namesMax (rootsIn page) (termsOf (orEmpty left)) (termsOf (orEmpty right)))

@@ -4,6 +4,7 @@ use groups::root;
 use names::NAMES;
 use names::Symbol;
 use names::symbol_index;
+use refusals::Answer;
 use refusals::Refusal;
 use refusals::Verdict;
 use units::MaybeUnit;
@@ -37,13 +38,6 @@ pub struct Sums {
 pub struct SumsResult {
     pub verdict: Verdict,
     pub sums: Sums,
-}
-
-// What asking whether two units are convertible answers.
-pub enum Conversion {
-    Yes,
-    No,
-    Refused(Refusal),
 }
 
 fn no_sums() -> Sums
@@ -241,17 +235,17 @@ pub fn is_convertible_to(
     lent: bool,
     left: MaybeUnit,
     right: MaybeUnit,
-) -> Conversion
+) -> Answer
     ensures { λ r. ⌜ r ≡ convertAnswer (now (page .entry)) (now (names .entry)) lent left right ⌝ }
 {
     let a = or_empty(left);
     let b = or_empty(right);
     let verdict = units_verdict(page, names, lent, a, b);
     if let Verdict::Refused(r) = verdict {
-        return Conversion::Refused(r);
+        return Answer::Refused(r);
     }
     if convertible(pairs::parents_of(page), pages::count(page), a, b) {
-        return Conversion::Yes;
+        return Answer::Yes;
     }
-    Conversion::No
+    Answer::No
 }

@@ -13,6 +13,7 @@ use Rattle.refusals.specs.declared.Refusal.{Refusal}
 use Rattle.refusals.specs.declared.Refusal.the-variants.{BadUnit, Exponent, Symbols}
 use Rattle.refusals.specs.declared.Verdict.{Verdict}
 use Rattle.refusals.specs.declared.Verdict.the-variants.{Passed, Refused}
+use Rattle.refusals.specs.declared.Answer.{Answer}
 use Rattle.refusals.proofs.Lowest.{first-holds, passed-parts}
 use Rattle.names.specs.Table.{namesMax}
 use Rattle.units.specs.Unit.{placesMax, Term, term, formed, exponent}
@@ -22,7 +23,6 @@ use Rattle.units.specs.Calls.{termsOf, given, formVerdict, productAnswer
 use Rattle.units.specs.declared.Unit.{Unit}
 use Rattle.units.specs.declared.MaybeUnit.{MaybeUnit}
 use Rattle.units.specs.declared.Power.{Power}
-use Rattle.units.specs.declared.Unitless.{Unitless}
 use Rattle.units.proofs.Form.{Places, symAt, expAt, termsFrom, termsIn, length-terms, from-start, from-step, from-end, formed-count, formed-ordered}
 use Rattle.units.proofs.Order.{Asc, turned-none, ordered-asc, tail-of, first, part-other}
 use Rattle.units.proofs.Si.{merge-product}
@@ -164,12 +164,12 @@ module _ (n : ℕ) (u : Places) (s i : ℕ) (k : Seeking n u s i) where
     }
 
 module _ (m : MaybeUnit) where
-  pub none-unitless : m .some ≡ false → Unitless.Yes ≡ unitlessAnswer m
+  pub none-unitless : m .some ≡ false → Answer.Yes ≡ unitlessAnswer m
   unfolding unitlessAnswer maybeVerdict unitless
   none-unitless h = rw h
 
   module _ (h : m .some ≡ true) where
-    pub broken-refused : formed placesMax namesMax (termsOf (m .unit)) ≡ false → Unitless.Refused BadUnit ≡ unitlessAnswer m
+    pub broken-refused : formed placesMax namesMax (termsOf (m .unit)) ≡ false → Answer.Refused BadUnit ≡ unitlessAnswer m
     unfolding unitlessAnswer maybeVerdict unitless
     broken-refused f = rw (h, f)
 
@@ -177,10 +177,10 @@ module _ (m : MaybeUnit) where
       size : length (termsOf (m .unit)) ≡ m .unit .count
       size = length-terms (m .unit .count) 0 (m .unit .symbols) (m .unit .exponents)
 
-      pub empty-unitless : m .unit .count ≡ 0 → Unitless.Yes ≡ unitlessAnswer m
+      pub empty-unitless : m .unit .count ≡ 0 → Answer.Yes ≡ unitlessAnswer m
       unfolding unitlessAnswer maybeVerdict unitless
       empty-unitless z = rw (h, f, size, eq-eqb (m .unit .count) 0 z)
 
-      pub some-unit : (m .unit .count ≡ 0 → ⊥) → Unitless.No ≡ unitlessAnswer m
+      pub some-unit : (m .unit .count ≡ 0 → ⊥) → Answer.No ≡ unitlessAnswer m
       unfolding unitlessAnswer maybeVerdict unitless
       some-unit z = rw (h, f, size, ne-eqb (m .unit .count) 0 z)

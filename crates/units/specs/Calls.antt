@@ -5,10 +5,11 @@ use Prim.Native.Nat.{ℕ, zero, suc, _+_, _-_}
 use lib.Dec.{eqb, leb}
 use lib.ListN.{length, getD, set}
 use lib.IntN.{ℤ, pos}
-use Rattle.refusals.specs.Lowest.{_when_, lowest}
+use Rattle.refusals.specs.Lowest.{_when_, lowest, answered}
 use Rattle.refusals.specs.declared.Refusal.the-variants.{BadUnit}
 use Rattle.refusals.specs.declared.Verdict.{Verdict}
 use Rattle.refusals.specs.declared.Verdict.the-variants.{Passed, Refused}
+use Rattle.refusals.specs.declared.Answer.{Answer}
 use Rattle.pages.specs.Pad.{pad}
 use Rattle.names.specs.Table.{namesMax}
 use Rattle.units.specs.Unit.{placesMax, Term, term, formed, exponent}
@@ -17,7 +18,6 @@ use Rattle.units.specs.declared.Unit.{Unit}
 use Rattle.units.specs.declared.MaybeUnit.{MaybeUnit}
 use Rattle.units.specs.declared.UnitResult.{UnitResult}
 use Rattle.units.specs.declared.Power.{Power}
-use Rattle.units.specs.declared.Unitless.{Unitless}
 use Rattle.units.specs.declared.Sum.{Sum}
 
 -- ---- a unit in its places
@@ -100,11 +100,6 @@ unitless m = not (m .some) || eqb (length (termsOf (m .unit))) 0
 unfoldable pub maybeVerdict : MaybeUnit → Verdict
 maybeVerdict m = lowest ((BadUnit when (m .some && not (formed placesMax namesMax (termsOf (m .unit))))) ∷ [])
 
--- yes or no, or the refusal
-abbrev pub answered : Verdict → Bool → Unitless
-answered Passed holds = cond holds Unitless.Yes Unitless.No
-answered (Refused r) holds = Unitless.Refused r
-
 -- is a unit in form, or none, unitless
-unfoldable pub unitlessAnswer : MaybeUnit → Unitless
+unfoldable pub unitlessAnswer : MaybeUnit → Answer
 unitlessAnswer m = answered (maybeVerdict m) (unitless m)

@@ -1,6 +1,7 @@
 // Units: products of powers of symbols (document 01, "Units and pairs"; `Unit` of the source's units.rs).
 use names::Symbol;
 use names::symbol_index;
+use refusals::Answer;
 use refusals::Refusal;
 use refusals::Verdict;
 ghost use mathlib.Core.Path.{_≡_};
@@ -42,13 +43,6 @@ pub struct UnitResult {
 // What asking for a symbol's exponent answers.
 pub enum Power {
     Of(i16),
-    Refused(Refusal),
-}
-
-// What asking whether a unit, or none, is unitless answers.
-pub enum Unitless {
-    Yes,
-    No,
     Refused(Refusal),
 }
 
@@ -306,19 +300,19 @@ pub fn exponent(u: Unit, symbol: Symbol) -> Power
 }
 
 // Whether there is no unit, or the empty one.
-pub fn is_dimensionless(m: MaybeUnit) -> Unitless
+pub fn is_dimensionless(m: MaybeUnit) -> Answer
     ensures { λ r. ⌜ r ≡ unitlessAnswer m ⌝ }
 {
     if !m.some {
-        return Unitless::Yes;
+        return Answer::Yes;
     }
     let u = m.unit;
     if !is_formed(u) {
-        return Unitless::Refused(Refusal::BadUnit);
+        return Answer::Refused(Refusal::BadUnit);
     }
     let n = u.count;
     if n == 0 {
-        return Unitless::Yes;
+        return Answer::Yes;
     }
-    Unitless::No
+    Answer::No
 }

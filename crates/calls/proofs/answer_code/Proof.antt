@@ -1,6 +1,6 @@
 -- `calls::answer_code` meets its contract. Assumes nothing.
 use mathlib.Core.Path.{sym, ap, _∙_}
-use Rattle.calls.specs.Types.{answerCode}
+use Rattle.calls.specs.Codes.{answerCode}
 use borrow.Author.Needs.{needs}
 use Rattle.calls.proofs.answer_code.Statement.{statement}
 use Rattle.calls.proofs.answer_code.Tie as tie

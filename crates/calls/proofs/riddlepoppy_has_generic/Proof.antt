@@ -1,6 +1,6 @@
 -- `calls::riddlepoppy_has_generic` meets its contract. Assumes nothing.
 use mathlib.Core.Path.{ap, _∙_}
-use Rattle.calls.specs.Types.{answerCode}
+use Rattle.calls.specs.Codes.{answerCode}
 use borrow.Author.Needs.{needs}
 use Rattle.calls.proofs.riddlepoppy_has_generic.Statement.{statement}
 use Rattle.calls.proofs.riddlepoppy_has_generic.Tie as tie

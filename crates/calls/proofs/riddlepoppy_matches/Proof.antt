@@ -2,7 +2,7 @@
 use mathlib.Core.Path.{ap, ap₂, _∙_}
 use denote.Ref.{now}
 use Rattle.checked.specs.Calls.{matchesAnswer}
-use Rattle.calls.specs.Types.{answerCode}
+use Rattle.calls.specs.Codes.{answerCode}
 use borrow.Author.Needs.{needs}
 use Rattle.calls.proofs.riddlepoppy_matches.Statement.{statement}
 use Rattle.calls.proofs.riddlepoppy_matches.Tie as tie

@@ -2,7 +2,8 @@
 use mathlib.Core.Path.{sym, ap, _∙_}
 use denote.Ref.{now}
 use Rattle.refusals.specs.declared.Answer.{Answer}
-use Rattle.calls.specs.Types.{answerCode, bindingsAfter}
+use Rattle.calls.specs.Codes.{answerCode}
+use Rattle.calls.specs.Types.{bindingsAfter}
 use borrow.Author.Needs.{needs}
 use Rattle.calls.proofs.written_back.Statement.{statement}
 use Rattle.calls.proofs.written_back.Tie as tie
