@@ -44,14 +44,14 @@ fn any_errors(page: &[u8], offsets: &[usize], leaves: &[u16], op: usize, t: usiz
     ensures { λ r. ⌜ r ≡ unaryErrors (now (page .entry)) op t ⌝ }
 {
     let mut types = no_members();
-    let n = flatten(page, offsets, t, &mut types);
-    if n == 0 {
+    let size = flatten(page, offsets, t, &mut types);
+    if size == 0 {
         return operators::one_error(NO_MEMBER);
     }
     let mut count: usize = 0;
     let mut first: usize = 0;
     let mut i: usize = 0;
-    while i < n {
+    while i < size {
         let x = member_at(&types, i);
         if !does_pass(page, offsets, leaves, op, x) {
             if count == 0 {

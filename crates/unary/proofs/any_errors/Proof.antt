@@ -17,11 +17,11 @@ use Rattle.unary.proofs.any_errors.Statement.{statement}
 use Rattle.unary.proofs.any_errors.Tie as tie
 
 abbrev Inv-loop : tie.InvT-loop
-Inv-loop page offsets leaves op t types n count₀ first₀ i₀ count first i =
-    (i ≤ n) × (count ≤ i) × (failures count first 0 ≡ failing page op t i)
+Inv-loop page offsets leaves op t types size count₀ first₀ i₀ count first i =
+    (i ≤ size) × (count ≤ i) × (failures count first 0 ≡ failing page op t i)
 
 abbrev μ-loop : tie.MeasureT-loop
-μ-loop page offsets leaves op t types n count₀ first₀ i₀ count first i = n - i
+μ-loop page offsets leaves op t types size count₀ first₀ i₀ count first i = size - i
 
 no-members-requires : tie.Need-no-members-requires Inv-loop μ-loop
 no-members-requires c κs = search needs
