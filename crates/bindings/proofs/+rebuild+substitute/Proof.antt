@@ -103,8 +103,10 @@ rebuild-loop-holds : (t : ℕ) → rebuild-lts.Need-loop-holds (
   enter-type-reads.Learnt,
 ) (rebuild-at t) rebuild.Post rebuild-Inv-loop rebuild-μ-loop
 rebuild-loop-holds t c =
-    let a = c .before .before .before .before .before .before .before .before .before .before .args in
-    kids-start (a .bindings) (now (a .page)) _ _ _ (a .t) (c .before .before .before .before .before .before .before .before .before .before .pre .1 .0) (c .arity .result) (c .arity .ensures .0) _ (search needs)
+    let start = c .before .before .before .before .before .before .before .before .before .before in
+    let a = start .args in
+    kids-start (a .bindings) (now (a .page)) _ _ _ (a .t) (start .pre .1 .0) (c .arity .result) (c .arity .ensures .0) _
+    (search needs)
 
 rebuild-child-of-requires : (t : ℕ) → rebuild-lts.Need-child-of-requires (
   kind-of-reads.Asked,
@@ -119,9 +121,14 @@ rebuild-child-of-requires : (t : ℕ) → rebuild-lts.Need-child-of-requires (
   enter-type-reads.Learnt,
 ) (rebuild-at t) rebuild.Post rebuild-Inv-loop rebuild-μ-loop
 rebuild-child-of-requires t c κs =
-    let a = c .before .before .before .before .before .before .before .before .before .before .before .before .before .before .args in
-    let l = c .before .before .before .loop in
-    child-asks (a .bindings) (now (a .page)) _ _ _ (a .t) (c .before .before .before .before .before .before .before .before .before .before .before .before .before .before .pre .1 .0) (c .before .before .before .before .arity .result) (c .before .before .before .before .arity .ensures .0) (l .i) (l .kids) (l .page) (l .offsets) (l .depths) (l .done) (l .inv) (c .before .before .loop-test .taken)
+    let start = c .before .before .before .before .before .before .before .before .before .before .before .before .before .before in
+    let loop = c .before .before .before .loop in
+    let arity = c .before .before .before .before .arity in
+    let loop-test = c .before .before .loop-test in
+    let a = start .args in
+    let l = loop in
+    child-asks (a .bindings) (now (a .page)) _ _ _ (a .t) (start .pre .1 .0) (arity .result) (arity .ensures .0) (l .i) (l .kids)
+    (l .page) (l .offsets) (l .depths) (l .done) (l .inv) (loop-test .taken)
 
 rebuild-substitute-requires : (t : ℕ) → rebuild-lts.Need-substitute-requires (
   kind-of-reads.Asked,
@@ -136,11 +143,22 @@ rebuild-substitute-requires : (t : ℕ) → rebuild-lts.Need-substitute-requires
   enter-type-reads.Learnt,
 ) (rebuild-at t) rebuild.Post rebuild-Inv-loop rebuild-μ-loop
 rebuild-substitute-requires t c κs =
-    let a = c .before .before .before .before .before .before .before .before .before .before .before .before .before .before .before .before .before .before .before .args in
-    let l = c .before .before .before .before .before .before .before .before .loop in
-    let c-low = child-low (a .bindings) (now (a .page)) _ _ _ (a .t) (c .before .before .before .before .before .before .before .before .before .before .before .before .before .before .before .before .before .before .before .pre .1 .0) (c .before .before .before .before .before .before .before .before .before .arity .result) (c .before .before .before .before .before .before .before .before .before .arity .ensures .0) (l .i) (l .kids) (l .page) (l .offsets) (l .depths) (l .done) (l .inv) (c .before .before .before .before .before .before .before .loop-test .taken) (c .before .before .before .before .child-of .result) (c .before .before .before .before .child-of .ensures .0) in (
-      omega (arith, c-low, c .before .before .before .before .before .before .before .before .before .before .before .before .before .before .before .before .before .before .before .pre .0),
-      child-works (a .bindings) (now (a .page)) _ _ _ (a .t) (c .before .before .before .before .before .before .before .before .before .before .before .before .before .before .before .before .before .before .before .pre .1 .0) (c .before .before .before .before .before .before .before .before .before .arity .result) (c .before .before .before .before .before .before .before .before .before .arity .ensures .0) (l .i) (l .kids) (l .page) (l .offsets) (l .depths) (l .done) (l .inv) (c .before .before .before .before .before .before .before .loop-test .taken) (c .before .before .before .before .child-of .result) (c .before .before .before .before .child-of .ensures .0),
+    let start =
+    c .before .before .before .before .before .before .before .before .before .before .before .before .before .before .before
+    .before .before .before .before in
+    let loop = c .before .before .before .before .before .before .before .before .loop in
+    let arity = c .before .before .before .before .before .before .before .before .before .arity in
+    let loop-test = c .before .before .before .before .before .before .before .loop-test in
+    let child-of = c .before .before .before .before .child-of in
+    let a = start .args in
+    let l = loop in
+    let c-low =
+    child-low (a .bindings) (now (a .page)) _ _ _ (a .t) (start .pre .1 .0) (arity .result) (arity .ensures .0) (l .i) (l .kids)
+    (l .page) (l .offsets) (l .depths) (l .done) (l .inv) (loop-test .taken) (child-of .result) (child-of .ensures .0) in (
+      omega (arith, c-low, start .pre .0),
+      child-works (a .bindings) (now (a .page)) _ _ _ (a .t) (start .pre .1 .0)
+          (arity .result) (arity .ensures .0) (l .i) (l .kids) (l .page) (l .offsets) (l .depths) (l .done) (l .inv) (loop-test .taken)
+          (child-of .result) (child-of .ensures .0),
     )
 
 rebuild-enum-known-made : (t : ℕ) → rebuild-lts.Need-enum-known-made (
@@ -184,9 +202,20 @@ rebuild-same-length : (t : ℕ) → rebuild-lts.Need-same-length (
   enter-type-reads.Learnt,
 ) (rebuild-at t) rebuild.Post rebuild-Inv-loop rebuild-μ-loop
 rebuild-same-length t c =
-    let a = c .before .before .before .before .before .before .before .before .before .before .before .before .before .before .before .before .before .before .before .before .before .before .before .before .before .before .before .before .before .before .args in
-    let l = c .before .before .before .before .before .before .before .before .before .before .before .before .before .before .before .before .before .before .before .loop in
-    let z = kids-size (a .bindings) (now (a .page)) _ _ _ (a .t) (c .before .before .before .before .before .before .before .before .before .before .before .before .before .before .before .before .before .before .before .before .before .before .before .before .before .before .before .before .before .before .pre .1 .0) (c .before .before .before .before .before .before .before .before .before .before .before .before .before .before .before .before .before .before .before .before .arity .result) (c .before .before .before .before .before .before .before .before .before .before .before .before .before .before .before .before .before .before .before .before .arity .ensures .0) (l .i) (l .kids) (l .page) (l .offsets) (l .depths) (l .done) (l .inv) in
+    let start =
+    c .before .before .before .before .before .before .before .before .before .before .before .before .before .before .before
+    .before .before .before .before .before .before .before .before .before .before .before .before .before .before .before in
+    let loop =
+    c .before .before .before .before .before .before .before .before .before .before .before .before .before .before .before
+    .before .before .before .before .loop in
+    let arity =
+    c .before .before .before .before .before .before .before .before .before .before .before .before .before .before .before
+    .before .before .before .before .before .arity in
+    let a = start .args in
+    let l = loop in
+    let z =
+    kids-size (a .bindings) (now (a .page)) _ _ _ (a .t) (start .pre .1 .0) (arity .result) (arity .ensures .0) (l .i) (l .kids)
+    (l .page) (l .offsets) (l .depths) (l .done) (l .inv) in
     search (needs, z)
 
 rebuild-same-length-2 : (t : ℕ) → rebuild-lts.Need-same-length-2 (
@@ -201,7 +230,14 @@ rebuild-same-length-2 : (t : ℕ) → rebuild-lts.Need-same-length-2 (
   enter-type-reads.Asked,
   enter-type-reads.Learnt,
 ) (rebuild-at t) rebuild.Post rebuild-Inv-loop rebuild-μ-loop
-rebuild-same-length-2 t c = search (needs, c .before .before .before .before .before .before .before .before .before .before .before .before .before .before .before .before .before .before .before .loop .inv .measured .held .size, c .before .before .before .before .before .before .before .before .before .before .before .before .before .before .before .before .before .before .before .before .before .before .before .before .before .before .before .before .before .before .pre .1 .0 .measured .held .size)
+rebuild-same-length-2 t c =
+    let loop =
+    c .before .before .before .before .before .before .before .before .before .before .before .before .before .before .before
+    .before .before .before .before .loop in
+    let start =
+    c .before .before .before .before .before .before .before .before .before .before .before .before .before .before .before
+    .before .before .before .before .before .before .before .before .before .before .before .before .before .before .before in
+    search (needs, loop .inv .measured .held .size, start .pre .1 .0 .measured .held .size)
 
 rebuild-same-length-3 : (t : ℕ) → rebuild-lts.Need-same-length-3 (
   kind-of-reads.Asked,
@@ -215,7 +251,14 @@ rebuild-same-length-3 : (t : ℕ) → rebuild-lts.Need-same-length-3 (
   enter-type-reads.Asked,
   enter-type-reads.Learnt,
 ) (rebuild-at t) rebuild.Post rebuild-Inv-loop rebuild-μ-loop
-rebuild-same-length-3 t c = search (needs, c .before .before .before .before .before .before .before .before .before .before .before .before .before .before .before .before .before .before .before .loop .inv .measured .size, c .before .before .before .before .before .before .before .before .before .before .before .before .before .before .before .before .before .before .before .before .before .before .before .before .before .before .before .before .before .before .pre .1 .0 .measured .size)
+rebuild-same-length-3 t c =
+    let loop =
+    c .before .before .before .before .before .before .before .before .before .before .before .before .before .before .before
+    .before .before .before .before .loop in
+    let start =
+    c .before .before .before .before .before .before .before .before .before .before .before .before .before .before .before
+    .before .before .before .before .before .before .before .before .before .before .before .before .before .before .before in
+    search (needs, loop .inv .measured .size, start .pre .1 .0 .measured .size)
 
 rebuild-same-length-4 : (t : ℕ) → rebuild-lts.Need-same-length-4 (
   kind-of-reads.Asked,
@@ -229,7 +272,14 @@ rebuild-same-length-4 : (t : ℕ) → rebuild-lts.Need-same-length-4 (
   enter-type-reads.Asked,
   enter-type-reads.Learnt,
 ) (rebuild-at t) rebuild.Post rebuild-Inv-loop rebuild-μ-loop
-rebuild-same-length-4 t c = search (needs, c .before .before .before .before .before .before .before .before .before .before .before .before .before .before .before .before .before .before .before .loop .inv .remembered .size, c .before .before .before .before .before .before .before .before .before .before .before .before .before .before .before .before .before .before .before .before .before .before .before .before .before .before .before .before .before .before .pre .1 .0 .remembered .size)
+rebuild-same-length-4 t c =
+    let loop =
+    c .before .before .before .before .before .before .before .before .before .before .before .before .before .before .before
+    .before .before .before .before .loop in
+    let start =
+    c .before .before .before .before .before .before .before .before .before .before .before .before .before .before .before
+    .before .before .before .before .before .before .before .before .before .before .before .before .before .before .before in
+    search (needs, loop .inv .remembered .size, start .pre .1 .0 .remembered .size)
 
 rebuild-returns : (t : ℕ) → rebuild-lts.Need-returns (
   kind-of-reads.Asked,
@@ -244,10 +294,27 @@ rebuild-returns : (t : ℕ) → rebuild-lts.Need-returns (
   enter-type-reads.Learnt,
 ) (rebuild-at t) rebuild.Post rebuild-Inv-loop rebuild-μ-loop
 rebuild-returns t c =
-    let a = c .before .before .before .before .before .before .before .before .before .before .before .before .before .before .before .before .before .before .before .before .before .before .before .before .before .before .before .before .before .before .args in
-    let l = c .before .before .before .before .before .before .before .before .before .before .before .before .before .before .before .before .before .before .before .loop in
-    kids-stop (a .bindings) (now (a .page)) _ _ _ (a .t) (c .before .before .before .before .before .before .before .before .before .before .before .before .before .before .before .before .before .before .before .before .before .before .before .before .before .before .before .before .before .before .pre .1 .0) (c .before .before .before .before .before .before .before .before .before .before .before .before .before .before .before .before .before .before .before .before .arity .result) (c .before .before .before .before .before .before .before .before .before .before .before .before .before .before .before .before .before .before .before .before .arity .ensures .0) (l .i) (l .kids) (l .page) (l .offsets) (l .depths) (l .done) (l .inv) (c .before .before .before .before .before .before .before .before .before .before .before .before .before .before .before .before .before .before .loop-test .taken)
-    (c .before .before .before .before .before .before .before .before .before .before .before .before .before .before .before .child-of .result) (c .before .before .before .before .before .before .before .before .before .before .before .before .before .before .before .child-of .ensures .0) (c .before .before .before .before .before .before .before .before .before .before .substitute .result) _ _ _ _ (c .before .before .before .before .before .before .before .before .before .before .substitute .ensures) (c .before .before .before .before .before .before .before .before .before .before .before .before .before .before .before .before .before .before .before .before .before .before .before .before .before .before .before .before .before .before .pre .1 .1) _ (c .enum-told .given .1)
+    let start =
+    c .before .before .before .before .before .before .before .before .before .before .before .before .before .before .before
+    .before .before .before .before .before .before .before .before .before .before .before .before .before .before .before in
+    let loop =
+    c .before .before .before .before .before .before .before .before .before .before .before .before .before .before .before
+    .before .before .before .before .loop in
+    let arity =
+    c .before .before .before .before .before .before .before .before .before .before .before .before .before .before .before
+    .before .before .before .before .before .arity in
+    let loop-test =
+    c .before .before .before .before .before .before .before .before .before .before .before .before .before .before .before
+    .before .before .before .loop-test in
+    let child-of =
+    c .before .before .before .before .before .before .before .before .before .before .before .before .before .before .before
+    .child-of in
+    let substitute = c .before .before .before .before .before .before .before .before .before .before .substitute in
+    let a = start .args in
+    let l = loop in
+    kids-stop (a .bindings) (now (a .page)) _ _ _ (a .t) (start .pre .1 .0) (arity .result) (arity .ensures .0) (l .i) (l .kids)
+    (l .page) (l .offsets) (l .depths) (l .done) (l .inv) (loop-test .taken) (child-of .result) (child-of .ensures .0)
+    (substitute .result) _ _ _ _ (substitute .ensures) (start .pre .1 .1) _ (c .enum-told .given .1)
 
 rebuild-cast-kids : (t : ℕ) → rebuild-lts.Need-cast-kids (
   kind-of-reads.Asked,
@@ -262,10 +329,30 @@ rebuild-cast-kids : (t : ℕ) → rebuild-lts.Need-cast-kids (
   enter-type-reads.Learnt,
 ) (rebuild-at t) rebuild.Post rebuild-Inv-loop rebuild-μ-loop
 rebuild-cast-kids t c =
-    let a = c .before .before .before .before .before .before .before .before .before .before .before .before .before .before .before .before .before .before .before .before .before .before .before .before .before .before .before .before .before .before .before .args in
-    let l = c .before .before .before .before .before .before .before .before .before .before .before .before .before .before .before .before .before .before .before .before .loop in
-    let z = child-number (a .bindings) (now (a .page)) _ _ _ (a .t) (c .before .before .before .before .before .before .before .before .before .before .before .before .before .before .before .before .before .before .before .before .before .before .before .before .before .before .before .before .before .before .before .pre .1 .0) (c .before .before .before .before .before .before .before .before .before .before .before .before .before .before .before .before .before .before .before .before .before .arity .result) (c .before .before .before .before .before .before .before .before .before .before .before .before .before .before .before .before .before .before .before .before .before .arity .ensures .0) (l .i) (l .kids) (l .page) (l .offsets) (l .depths) (l .done) (l .inv) (c .before .before .before .before .before .before .before .before .before .before .before .before .before .before .before .before .before .before .before .loop-test .taken)
-    (c .before .before .before .before .before .before .before .before .before .before .before .before .before .before .before .before .child-of .result) (c .before .before .before .before .before .before .before .before .before .before .before .before .before .before .before .before .child-of .ensures .0) (c .before .before .before .before .before .before .before .before .before .before .before .substitute .result) _ _ _ _ (c .before .before .before .before .before .before .before .before .before .before .before .substitute .ensures) _ (c .before .made .given .1) in
+    let start =
+    c .before .before .before .before .before .before .before .before .before .before .before .before .before .before .before
+    .before .before .before .before .before .before .before .before .before .before .before .before .before .before .before .before
+    in
+    let loop =
+    c .before .before .before .before .before .before .before .before .before .before .before .before .before .before .before
+    .before .before .before .before .before .loop in
+    let arity =
+    c .before .before .before .before .before .before .before .before .before .before .before .before .before .before .before
+    .before .before .before .before .before .before .arity in
+    let loop-test =
+    c .before .before .before .before .before .before .before .before .before .before .before .before .before .before .before
+    .before .before .before .before .loop-test in
+    let child-of =
+    c .before .before .before .before .before .before .before .before .before .before .before .before .before .before .before
+    .before .child-of in
+    let substitute = c .before .before .before .before .before .before .before .before .before .before .before .substitute in
+    let made = c .before .made in
+    let a = start .args in
+    let l = loop in
+    let z =
+    child-number (a .bindings) (now (a .page)) _ _ _ (a .t) (start .pre .1 .0) (arity .result) (arity .ensures .0) (l .i) (l .kids)
+    (l .page) (l .offsets) (l .depths) (l .done) (l .inv) (loop-test .taken) (child-of .result) (child-of .ensures .0)
+    (substitute .result) _ _ _ _ (substitute .ensures) _ (made .given .1) in
     search (needs, z)
 
 rebuild-mul-kids : (t : ℕ) → rebuild-lts.Need-mul-kids (
@@ -337,10 +424,29 @@ rebuild-loop-again : (t : ℕ) → rebuild-lts.Need-loop-again (
   enter-type-reads.Learnt,
 ) (rebuild-at t) rebuild.Post rebuild-Inv-loop rebuild-μ-loop
 rebuild-loop-again t c =
-    let a = c .before .before .before .before .before .before .before .before .before .before .before .before .before .before .before .before .before .before .before .before .before .before .before .before .before .before .before .before .before .before .before .args in
-    let l = c .before .before .before .before .before .before .before .before .before .before .before .before .before .before .before .before .before .before .before .before .loop in
-    kids-next (a .bindings) (now (a .page)) _ _ _ (a .t) (c .before .before .before .before .before .before .before .before .before .before .before .before .before .before .before .before .before .before .before .before .before .before .before .before .before .before .before .before .before .before .before .pre .1 .0) (c .before .before .before .before .before .before .before .before .before .before .before .before .before .before .before .before .before .before .before .before .before .arity .result) (c .before .before .before .before .before .before .before .before .before .before .before .before .before .before .before .before .before .before .before .before .before .arity .ensures .0) (l .i) (l .kids) (l .page) (l .offsets) (l .depths) (l .done) (l .inv) (c .before .before .before .before .before .before .before .before .before .before .before .before .before .before .before .before .before .before .before .loop-test .taken)
-    (c .before .before .before .before .before .before .before .before .before .before .before .before .before .before .before .before .child-of .result) (c .before .before .before .before .before .before .before .before .before .before .before .before .before .before .before .before .child-of .ensures .0) (c .before .before .before .before .before .before .before .before .before .before .before .substitute .result) _ _ _ _ (c .before .before .before .before .before .before .before .before .before .before .before .substitute .ensures) _ (c .before .made .given .1)
+    let start =
+    c .before .before .before .before .before .before .before .before .before .before .before .before .before .before .before
+    .before .before .before .before .before .before .before .before .before .before .before .before .before .before .before .before
+    in
+    let loop =
+    c .before .before .before .before .before .before .before .before .before .before .before .before .before .before .before
+    .before .before .before .before .before .loop in
+    let arity =
+    c .before .before .before .before .before .before .before .before .before .before .before .before .before .before .before
+    .before .before .before .before .before .before .arity in
+    let loop-test =
+    c .before .before .before .before .before .before .before .before .before .before .before .before .before .before .before
+    .before .before .before .before .loop-test in
+    let child-of =
+    c .before .before .before .before .before .before .before .before .before .before .before .before .before .before .before
+    .before .child-of in
+    let substitute = c .before .before .before .before .before .before .before .before .before .before .before .substitute in
+    let made = c .before .made in
+    let a = start .args in
+    let l = loop in
+    kids-next (a .bindings) (now (a .page)) _ _ _ (a .t) (start .pre .1 .0) (arity .result) (arity .ensures .0) (l .i) (l .kids)
+    (l .page) (l .offsets) (l .depths) (l .done) (l .inv) (loop-test .taken) (child-of .result) (child-of .ensures .0)
+    (substitute .result) _ _ _ _ (substitute .ensures) _ (made .given .1)
 
 rebuild-sub-enter-type : (t : ℕ) → rebuild-lts.Need-sub-enter-type (
   kind-of-reads.Asked,
@@ -397,11 +503,21 @@ rebuild-enter-type-requires : (t : ℕ) → rebuild-lts.Need-enter-type-requires
   enter-type-reads.Learnt,
 ) (rebuild-at t) rebuild.Post rebuild-Inv-loop rebuild-μ-loop
 rebuild-enter-type-requires t c κs =
-    let a = c .before .before .before .before .before .before .before .before .before .before .before .before .before .before .before .before .before .args in
-    let l = c .before .before .before .before .before .before .loop in (
-      rw (sub-zero (c .before .before .before .before .before .before .before .arity .result)) (few-places (a .bindings) (now (a .page)) _ _ _ (a .t) (c .before .before .before .before .before .before .before .before .before .before .before .before .before .before .before .before .before .pre .1 .0) (c .before .before .before .before .before .before .before .arity .result) (c .before .before .before .before .before .before .before .arity .ensures .0) (l .i) (l .kids) (l .page) (l .offsets) (l .depths) (l .done) (l .inv)),
-      rw (sub-zero (c .before .before .before .before .before .before .before .arity .result)) (parent-ready (a .bindings) (now (a .page)) _ _ _ (a .t) (c .before .before .before .before .before .before .before .before .before .before .before .before .before .before .before .before .before .pre .1 .0) (c .before .before .before .before .before .before .before .arity .result) (c .before .before .before .before .before .before .before .arity .ensures .0) (l .i) (l .kids) (l .page) (l .offsets) (l .depths) (l .done) (l .inv) (c .before .before .before .before .before .loop-test .left)
-          (c .before .before .before .before .before .before .before .before .before .before .before .before .before .before .before .before .before .pre .1 .1) (c .before .before .before .before .before .before .before .before .before .before .kind-of .result) (c .before .before .before .before .before .before .before .before .before .before .kind-of .ensures)),
+    let start =
+    c .before .before .before .before .before .before .before .before .before .before .before .before .before .before .before
+    .before .before in
+    let loop = c .before .before .before .before .before .before .loop in
+    let arity = c .before .before .before .before .before .before .before .arity in
+    let loop-test = c .before .before .before .before .before .loop-test in
+    let kind-of = c .before .before .before .before .before .before .before .before .before .before .kind-of in
+    let a = start .args in
+    let l = loop in (
+      rw (sub-zero (arity .result)) (few-places (a .bindings) (now (a .page)) _ _ _ (a .t) (start .pre .1 .0) (arity .result)
+          (arity .ensures .0) (l .i) (l .kids) (l .page) (l .offsets) (l .depths) (l .done) (l .inv)),
+      rw (sub-zero (arity .result))
+          (parent-ready (a .bindings) (now (a .page)) _ _ _ (a .t) (start .pre .1 .0) (arity .result) (arity .ensures .0) (l .i)
+          (l .kids) (l .page) (l .offsets) (l .depths) (l .done) (l .inv) (loop-test .left) (start .pre .1 .1) (kind-of .result)
+          (kind-of .ensures)),
     )
 
 rebuild-same-length-5 : (t : ℕ) → rebuild-lts.Need-same-length-5 (
@@ -417,9 +533,17 @@ rebuild-same-length-5 : (t : ℕ) → rebuild-lts.Need-same-length-5 (
   enter-type-reads.Learnt,
 ) (rebuild-at t) rebuild.Post rebuild-Inv-loop rebuild-μ-loop
 rebuild-same-length-5 t c =
-    let a = c .before .before .before .before .before .before .before .before .before .before .before .before .before .before .before .before .before .before .before .before .before .before .before .before .args in
-    let l = c .before .before .before .before .before .before .before .before .before .before .before .before .before .loop in
-    let z = kids-size (a .bindings) (now (a .page)) _ _ _ (a .t) (c .before .before .before .before .before .before .before .before .before .before .before .before .before .before .before .before .before .before .before .before .before .before .before .before .pre .1 .0) (c .before .before .before .before .before .before .before .before .before .before .before .before .before .before .arity .result) (c .before .before .before .before .before .before .before .before .before .before .before .before .before .before .arity .ensures .0) (l .i) (l .kids) (l .page) (l .offsets) (l .depths) (l .done) (l .inv) in
+    let start =
+    c .before .before .before .before .before .before .before .before .before .before .before .before .before .before .before
+    .before .before .before .before .before .before .before .before .before in
+    let loop = c .before .before .before .before .before .before .before .before .before .before .before .before .before .loop in
+    let arity =
+    c .before .before .before .before .before .before .before .before .before .before .before .before .before .before .arity in
+    let a = start .args in
+    let l = loop in
+    let z =
+    kids-size (a .bindings) (now (a .page)) _ _ _ (a .t) (start .pre .1 .0) (arity .result) (arity .ensures .0) (l .i) (l .kids)
+    (l .page) (l .offsets) (l .depths) (l .done) (l .inv) in
     search (needs, z)
 
 rebuild-same-length-6 : (t : ℕ) → rebuild-lts.Need-same-length-6 (
@@ -434,7 +558,12 @@ rebuild-same-length-6 : (t : ℕ) → rebuild-lts.Need-same-length-6 (
   enter-type-reads.Asked,
   enter-type-reads.Learnt,
 ) (rebuild-at t) rebuild.Post rebuild-Inv-loop rebuild-μ-loop
-rebuild-same-length-6 t c = search (needs, c .before .before .before .before .before .before .before .before .before .before .before .before .before .loop .inv .measured .held .size, c .before .before .before .before .before .before .before .before .before .before .before .before .before .before .before .before .before .before .before .before .before .before .before .before .pre .1 .0 .measured .held .size)
+rebuild-same-length-6 t c =
+    let loop = c .before .before .before .before .before .before .before .before .before .before .before .before .before .loop in
+    let start =
+    c .before .before .before .before .before .before .before .before .before .before .before .before .before .before .before
+    .before .before .before .before .before .before .before .before .before in
+    search (needs, loop .inv .measured .held .size, start .pre .1 .0 .measured .held .size)
 
 rebuild-same-length-7 : (t : ℕ) → rebuild-lts.Need-same-length-7 (
   kind-of-reads.Asked,
@@ -448,7 +577,12 @@ rebuild-same-length-7 : (t : ℕ) → rebuild-lts.Need-same-length-7 (
   enter-type-reads.Asked,
   enter-type-reads.Learnt,
 ) (rebuild-at t) rebuild.Post rebuild-Inv-loop rebuild-μ-loop
-rebuild-same-length-7 t c = search (needs, c .before .before .before .before .before .before .before .before .before .before .before .before .before .loop .inv .measured .size, c .before .before .before .before .before .before .before .before .before .before .before .before .before .before .before .before .before .before .before .before .before .before .before .before .pre .1 .0 .measured .size)
+rebuild-same-length-7 t c =
+    let loop = c .before .before .before .before .before .before .before .before .before .before .before .before .before .loop in
+    let start =
+    c .before .before .before .before .before .before .before .before .before .before .before .before .before .before .before
+    .before .before .before .before .before .before .before .before .before in
+    search (needs, loop .inv .measured .size, start .pre .1 .0 .measured .size)
 
 rebuild-same-length-8 : (t : ℕ) → rebuild-lts.Need-same-length-8 (
   kind-of-reads.Asked,
@@ -462,7 +596,12 @@ rebuild-same-length-8 : (t : ℕ) → rebuild-lts.Need-same-length-8 (
   enter-type-reads.Asked,
   enter-type-reads.Learnt,
 ) (rebuild-at t) rebuild.Post rebuild-Inv-loop rebuild-μ-loop
-rebuild-same-length-8 t c = search (needs, c .before .before .before .before .before .before .before .before .before .before .before .before .before .loop .inv .remembered .size, c .before .before .before .before .before .before .before .before .before .before .before .before .before .before .before .before .before .before .before .before .before .before .before .before .pre .1 .0 .remembered .size)
+rebuild-same-length-8 t c =
+    let loop = c .before .before .before .before .before .before .before .before .before .before .before .before .before .loop in
+    let start =
+    c .before .before .before .before .before .before .before .before .before .before .before .before .before .before .before
+    .before .before .before .before .before .before .before .before .before in
+    search (needs, loop .inv .remembered .size, start .pre .1 .0 .remembered .size)
 
 rebuild-returns-2 : (t : ℕ) → rebuild-lts.Need-returns-2 (
   kind-of-reads.Asked,
@@ -477,11 +616,23 @@ rebuild-returns-2 : (t : ℕ) → rebuild-lts.Need-returns-2 (
   enter-type-reads.Learnt,
 ) (rebuild-at t) rebuild.Post rebuild-Inv-loop rebuild-μ-loop
 rebuild-returns-2 t c =
-    let a = c .before .before .before .before .before .before .before .before .before .before .before .before .before .before .before .before .before .before .before .before .before .before .before .before .args in
-    let l = c .before .before .before .before .before .before .before .before .before .before .before .before .before .loop in
-    let e = rw (sub-zero (c .before .before .before .before .before .before .before .before .before .before .before .before .before .before .arity .result)) at (c .before .before .before .before .before .before .enter-type .ensures) in
-    parent-done (a .bindings) (now (a .page)) _ _ _ (a .t) (c .before .before .before .before .before .before .before .before .before .before .before .before .before .before .before .before .before .before .before .before .before .before .before .before .pre .1 .0) (c .before .before .before .before .before .before .before .before .before .before .before .before .before .before .arity .result) (c .before .before .before .before .before .before .before .before .before .before .before .before .before .before .arity .ensures .0) (l .i) (l .kids) (l .page) (l .offsets) (l .depths) (l .done) (l .inv) (c .before .before .before .before .before .before .before .before .before .before .before .before .loop-test .left)
-    (c .before .before .before .before .before .before .before .before .before .before .before .before .before .before .before .before .before .before .before .before .before .before .before .before .pre .1 .1) (c .before .before .before .before .before .before .before .before .before .before .before .before .before .before .before .before .before .kind-of .result) (c .before .before .before .before .before .before .before .before .before .before .before .before .before .before .before .before .before .kind-of .ensures) (c .before .before .before .before .before .before .enter-type .result) _ _ _ (e .0) (e .1) (e .2)
+    let start =
+    c .before .before .before .before .before .before .before .before .before .before .before .before .before .before .before
+    .before .before .before .before .before .before .before .before .before in
+    let loop = c .before .before .before .before .before .before .before .before .before .before .before .before .before .loop in
+    let arity =
+    c .before .before .before .before .before .before .before .before .before .before .before .before .before .before .arity in
+    let enter-type = c .before .before .before .before .before .before .enter-type in
+    let loop-test = c .before .before .before .before .before .before .before .before .before .before .before .before .loop-test in
+    let kind-of =
+    c .before .before .before .before .before .before .before .before .before .before .before .before .before .before .before
+    .before .before .kind-of in
+    let a = start .args in
+    let l = loop in
+    let e = rw (sub-zero (arity .result)) at (enter-type .ensures) in
+    parent-done (a .bindings) (now (a .page)) _ _ _ (a .t) (start .pre .1 .0) (arity .result) (arity .ensures .0) (l .i) (l .kids)
+    (l .page) (l .offsets) (l .depths) (l .done) (l .inv) (loop-test .left) (start .pre .1 .1) (kind-of .result) (kind-of .ensures)
+    (enter-type .result) _ _ _ (e .0) (e .1) (e .2)
 
 substitute-kind-of-requires : (t : ℕ) → substitute-lts.Need-kind-of-requires (
   kind-of-reads.Asked,
@@ -520,8 +671,17 @@ substitute-name-of-requires : (t : ℕ) → substitute-lts.Need-name-of-requires
   set-done-reads.Learnt,
 ) (substitute-at t) substitute.Post
 substitute-name-of-requires t c κs =
-    let w = c .before .before .before .before .before .before .before .before .before .before .pre .1 in
-    (w .measured .held, (w .used, generic-named (kindOf (now (c .before .before .before .before .before .before .before .before .before .before .args .page)) (c .before .before .before .before .before .before .before .before .before .before .args .t)) (eq-eqb (kindOf (now (c .before .before .before .before .before .before .before .before .before .before .args .page)) (c .before .before .before .before .before .before .before .before .before .before .args .t)) generic (sym (c .before .before .before .kind-of .ensures) ∙ c .before .before .if1 .taken))))
+    let start = c .before .before .before .before .before .before .before .before .before .before in
+    let kind-of = c .before .before .before .kind-of in
+    let if1 = c .before .before .if1 in
+    let w = start .pre .1 in (
+      w .measured .held,
+      (
+        w .used,
+        generic-named (kindOf (now (start .args .page)) (start .args .t))
+            (eq-eqb (kindOf (now (start .args .page)) (start .args .t)) generic (sym (kind-of .ensures) ∙ if1 .taken)),
+      ),
+    )
 
 substitute-bound-or-requires : (t : ℕ) → substitute-lts.Need-bound-or-requires (
   kind-of-reads.Asked,
@@ -539,7 +699,9 @@ substitute-bound-or-requires : (t : ℕ) → substitute-lts.Need-bound-or-requir
   set-done-reads.Asked,
   set-done-reads.Learnt,
 ) (substitute-at t) substitute.Post
-substitute-bound-or-requires t c κs = c .before .before .before .before .before .before .before .before .before .before .before .pre .1 .usable .few
+substitute-bound-or-requires t c κs =
+    let start = c .before .before .before .before .before .before .before .before .before .before .before in
+    start .pre .1 .usable .few
 
 substitute-same-length : (t : ℕ) → substitute-lts.Need-same-length (
   kind-of-reads.Asked,
@@ -594,8 +756,13 @@ substitute-returns : (t : ℕ) → substitute-lts.Need-returns (
   set-done-reads.Learnt,
 ) (substitute-at t) substitute.Post
 substitute-returns t c =
-    let a = c .before .before .before .before .before .before .before .before .before .before .before .before .args in
-    done-generic (a .bindings) (now (a .page)) _ _ _ (a .t) (c .before .before .before .before .before .before .before .before .before .before .before .before .pre .1) (c .before .before .before .before .before .kind-of .result) (c .before .before .before .before .before .kind-of .ensures) (c .before .name-of .result) (c .bound-or .result) (c .before .before .before .before .if1 .taken) (c .before .name-of .ensures) (c .bound-or .ensures)
+    let start = c .before .before .before .before .before .before .before .before .before .before .before .before in
+    let kind-of = c .before .before .before .before .before .kind-of in
+    let name-of = c .before .name-of in
+    let if1 = c .before .before .before .before .if1 in
+    let a = start .args in
+    done-generic (a .bindings) (now (a .page)) _ _ _ (a .t) (start .pre .1) (kind-of .result) (kind-of .ensures) (name-of .result)
+    (c .bound-or .result) (if1 .taken) (name-of .ensures) (c .bound-or .ensures)
 
 substitute-is-entered-requires : (t : ℕ) → substitute-lts.Need-is-entered-requires (
   kind-of-reads.Asked,
@@ -668,8 +835,13 @@ substitute-returns-2 : (t : ℕ) → substitute-lts.Need-returns-2 (
   set-done-reads.Learnt,
 ) (substitute-at t) substitute.Post
 substitute-returns-2 t c =
-    let a = c .before .before .before .before .before .before .before .before .before .before .args in
-    done-closed (a .bindings) (now (a .page)) _ _ _ (a .t) (c .before .before .before .before .before .before .before .before .before .before .pre .1) (c .before .before .before .kind-of .result) (c .before .before .before .kind-of .ensures) (c .before .before .if1 .left) (sym (c .before .is-entered .ensures) ∙ not-true (c .before .is-entered .result) (c .if2 .taken))
+    let start = c .before .before .before .before .before .before .before .before .before .before in
+    let kind-of = c .before .before .before .kind-of in
+    let if1 = c .before .before .if1 in
+    let is-entered = c .before .is-entered in
+    let a = start .args in
+    done-closed (a .bindings) (now (a .page)) _ _ _ (a .t) (start .pre .1) (kind-of .result) (kind-of .ensures) (if1 .left)
+    (sym (is-entered .ensures) ∙ not-true (is-entered .result) (c .if2 .taken))
 
 substitute-done-at-requires : (t : ℕ) → substitute-lts.Need-done-at-requires (
   kind-of-reads.Asked,
@@ -781,8 +953,10 @@ substitute-returns-3 : (t : ℕ) → substitute-lts.Need-returns-3 (
   set-done-reads.Learnt,
 ) (substitute-at t) substitute.Post
 substitute-returns-3 t c =
-    let a = c .before .before .before .before .before .before .before .before .before .before .before .before .before .args in
-    done-before (a .bindings) (now (a .page)) _ _ _ (a .t) (c .before .before .before .before .before .before .before .before .before .before .before .before .before .pre .1) (c .before .done-at .result) (c .before .done-at .ensures) (c .if3 .taken)
+    let start = c .before .before .before .before .before .before .before .before .before .before .before .before .before in
+    let done-at = c .before .done-at in
+    let a = start .args in
+    done-before (a .bindings) (now (a .page)) _ _ _ (a .t) (start .pre .1) (done-at .result) (done-at .ensures) (c .if3 .taken)
 
 substitute-rebuild-requires : (t : ℕ) → substitute-lts.Need-rebuild-requires (
   kind-of-reads.Asked,
@@ -801,7 +975,15 @@ substitute-rebuild-requires : (t : ℕ) → substitute-lts.Need-rebuild-requires
   set-done-reads.Learnt,
 ) (substitute-at t) substitute.Post
 substitute-rebuild-requires t c κs =
-    (omega (arith, c .before .before .before .before .before .before .before .before .before .before .before .before .before .before .before .before .before .pre .0), (c .before .before .before .before .before .before .before .before .before .before .before .before .before .before .before .before .before .pre .1, rw (← c .before .before .before .before .before .before .before .before .before .before .kind-of .ensures) (sym (c .before .before .before .before .before .before .before .before .is-entered .ensures) ∙ not-false (c .before .before .before .before .before .before .before .before .is-entered .result) (c .before .before .before .before .before .before .before .if2 .left))))
+    let start =
+    c .before .before .before .before .before .before .before .before .before .before .before .before .before .before .before
+    .before .before in
+    let kind-of = c .before .before .before .before .before .before .before .before .before .before .kind-of in
+    let is-entered = c .before .before .before .before .before .before .before .before .is-entered in
+    let if2 = c .before .before .before .before .before .before .before .if2 in (
+      omega (arith, start .pre .0),
+      (start .pre .1, rw (← kind-of .ensures) (sym (is-entered .ensures) ∙ not-false (is-entered .result) (if2 .left))),
+    )
 
 substitute-enum-known-made : (t : ℕ) → substitute-lts.Need-enum-known-made (
   kind-of-reads.Asked,
@@ -838,9 +1020,18 @@ substitute-set-done-requires : (t : ℕ) → substitute-lts.Need-set-done-requir
   set-done-reads.Learnt,
 ) (substitute-at t) substitute.Post
 substitute-set-done-requires t c κs =
-    let a = c .before .before .before .before .before .before .before .before .before .before .before .before .before .before .before .before .before .before .before .before .before .before .before .before .before .before .before .before .before .before .args in
-    let w = c .before .before .before .before .before .before .before .before .before .before .before .before .before .before .before .before .before .before .before .before .before .before .before .before .before .before .before .before .before .before .pre .1 in
-    (search (needs, c .before .before .before .before .before .before .before .before .before .before .before .before .rebuild .ensures .1 .1 .size), low (a .bindings) (now (a .page)) _ _ _ (a .t) w, done-low (a .bindings) (now (a .page)) _ _ _ (a .t) w _ _ _ _ (c .before .before .before .before .before .before .before .before .before .before .before .before .rebuild .result) (c .before .before .before .before .before .before .before .before .before .before .before .before .rebuild .ensures) _ (c .before .before .made .given .1))
+    let start =
+    c .before .before .before .before .before .before .before .before .before .before .before .before .before .before .before
+    .before .before .before .before .before .before .before .before .before .before .before .before .before .before .before in
+    let rebuild = c .before .before .before .before .before .before .before .before .before .before .before .before .rebuild in
+    let made = c .before .before .made in
+    let a = start .args in
+    let w = start .pre .1 in (
+      search (needs, rebuild .ensures .1 .1 .size),
+      low (a .bindings) (now (a .page)) _ _ _ (a .t) w,
+      done-low (a .bindings)
+          (now (a .page)) _ _ _ (a .t) w _ _ _ _ (rebuild .result) (rebuild .ensures) _ (made .given .1),
+    )
 
 substitute-enum-told : (t : ℕ) → substitute-lts.Need-enum-told (
   kind-of-reads.Asked,
@@ -949,9 +1140,18 @@ substitute-returns-4 : (t : ℕ) → substitute-lts.Need-returns-4 (
   set-done-reads.Learnt,
 ) (substitute-at t) substitute.Post
 substitute-returns-4 t c =
-    let a = c .before .before .before .before .before .before .before .before .before .before .before .before .before .before .before .before .before .before .before .before .before .before .before .before .before .before .before .before .before .before .before .before .before .args in
-    rw (c .before .before .set-done .ensures)
-    (done-noted (a .bindings) (now (a .page)) _ _ _ (a .t) (c .before .before .before .before .before .before .before .before .before .before .before .before .before .before .before .before .before .before .before .before .before .before .before .before .before .before .before .before .before .before .before .before .before .pre .1) _ _ _ _ _ (rw (c .before .before .before .before .before .made .given .1) at (c .before .before .before .before .before .before .before .before .before .before .before .before .before .before .before .rebuild .ensures)))
+    let start =
+    c .before .before .before .before .before .before .before .before .before .before .before .before .before .before .before
+    .before .before .before .before .before .before .before .before .before .before .before .before .before .before .before .before
+    .before .before in
+    let set-done = c .before .before .set-done in
+    let made = c .before .before .before .before .before .made in
+    let rebuild =
+    c .before .before .before .before .before .before .before .before .before .before .before .before .before .before .before
+    .rebuild in
+    let a = start .args in
+    rw (set-done .ensures) (done-noted (a .bindings) (now (a .page)) _ _ _ (a .t) (start .pre .1) _ _ _ _ _
+    (rw (made .given .1) at (rebuild .ensures)))
 
 substitute-same-length-12 : (t : ℕ) → substitute-lts.Need-same-length-12 (
   kind-of-reads.Asked,

@@ -25,17 +25,24 @@ kind-of-requires c κs = search needs
 
 returns : tie.Need-returns Inv-loop μ-loop
 returns c =
-    let a = c .before .before .before .before .before .args in
-    generic-itself (now (a .page)) (c .before .before .before .before .before .pre .0 .sound) (a .t) (c .before .before .before .before .before .pre .1 .0) (c .before .kind-of .result) (c .before .kind-of .ensures) (c .if1 .taken)
+    let start = c .before .before .before .before .before in
+    let kind-of = c .before .kind-of in
+    let a = start .args in
+    generic-itself (now (a .page)) (start .pre .0 .sound) (a .t) (start .pre .1 .0) (kind-of .result) (kind-of .ensures)
+    (c .if1 .taken)
 
 is-entered-requires : tie.Need-is-entered-requires Inv-loop μ-loop
 is-entered-requires c κs = search needs
 
 returns-2 : tie.Need-returns-2 Inv-loop μ-loop
 returns-2 c =
-    let a = c .before .before .before .before .before .before .before .args in
-    generic-closed (now (a .page)) (c .before .before .before .before .before .before .before .pre .0 .sound) (a .t) (c .before .before .before .before .before .before .before .pre .1 .0) (c .before .before .before .kind-of .result) (c .before .before .before .kind-of .ensures) (c .before .before .if1 .left)
-    (sym (c .before .is-entered .ensures) ∙ not-true (c .before .is-entered .result) (c .if2 .taken))
+    let start = c .before .before .before .before .before .before .before in
+    let kind-of = c .before .before .before .kind-of in
+    let if1 = c .before .before .if1 in
+    let is-entered = c .before .is-entered in
+    let a = start .args in
+    generic-closed (now (a .page)) (start .pre .0 .sound) (a .t) (start .pre .1 .0) (kind-of .result) (kind-of .ensures)
+    (if1 .left) (sym (is-entered .ensures) ∙ not-true (is-entered .result) (c .if2 .taken))
 
 arity-requires : tie.Need-arity-requires Inv-loop μ-loop
 arity-requires c κs = search needs
@@ -44,20 +51,36 @@ loop-holds : tie.Need-loop-holds Inv-loop μ-loop
 loop-holds c = (omega arith, any-none _)
 
 child-of-requires : tie.Need-child-of-requires Inv-loop μ-loop
-child-of-requires c κs = (c .before .before .before .before .before .before .before .before .before .before .pre .0, (c .before .before .before .before .before .before .before .before .before .before .pre .1 .0, rw (← c .before .before .arity .ensures .0) (c .loop-test .taken)))
+child-of-requires c κs =
+    let start = c .before .before .before .before .before .before .before .before .before .before in
+    let size = c .before .before .arity in
+    (start .pre .0, (start .pre .1 .0, rw (← size .ensures .0) (c .loop-test .taken)))
 
 shared-slice-read-if3 : tie.Need-shared-slice-read-if3 Inv-loop μ-loop
-shared-slice-read-if3 c = omega (arith, c .before .child-of .ensures .1, c .before .before .before .before .before .before .before .before .before .before .before .before .pre .1 .1)
+shared-slice-read-if3 c =
+    let child-of = c .before .child-of in
+    let start = c .before .before .before .before .before .before .before .before .before .before .before .before in
+    omega (arith, child-of .ensures .1, start .pre .1 .1)
 
 returns-3 : tie.Need-returns-3 Inv-loop μ-loop
 returns-3 c =
-    let a = c .before .before .before .before .before .before .before .before .before .before .before .before .before .args in
+    let start = c .before .before .before .before .before .before .before .before .before .before .before .before .before in
+    let loop = c .before .before .before .before .loop in
+    let child-of = c .before .before .child-of in
+    let kind-of = c .before .before .before .before .before .before .before .before .before .kind-of in
+    let if1 = c .before .before .before .before .before .before .before .before .if1 in
+    let is-entered = c .before .before .before .before .before .before .before .is-entered in
+    let if2 = c .before .before .before .before .before .before .if2 in
+    let size = c .before .before .before .before .before .arity in
+    let loop-test = c .before .before .before .loop-test in
+    let a = start .args in
     let page = now (a .page) in
-    let hit : hasGeneric page (childOf page (a .t) (c .before .before .before .before .loop .i)) ≡ true =
-    rw (← c .before .before .child-of .ensures .0) (sym (c .before .before .before .before .before .before .before .before .before .before .before .before .before .pre .1 .2 (c .before .before .child-of .result) (c .before .before .child-of .ensures .1)) ∙ c .if3 .taken) in
-    generic-inside page (c .before .before .before .before .before .before .before .before .before .before .before .before .before .pre .0 .sound) (a .t) (c .before .before .before .before .before .before .before .before .before .before .before .before .before .pre .1 .0) (c .before .before .before .before .before .before .before .before .before .kind-of .result) (c .before .before .before .before .before .before .before .before .before .kind-of .ensures) (c .before .before .before .before .before .before .before .before .if1 .left)
-    (sym (c .before .before .before .before .before .before .before .is-entered .ensures) ∙ not-false (c .before .before .before .before .before .before .before .is-entered .result) (c .before .before .before .before .before .before .if2 .left)) true
-    (any-found (λ j. hasGeneric page (childOf page (a .t) j)) (arity page (a .t)) (c .before .before .before .before .loop .i) (rw (← c .before .before .before .before .before .arity .ensures .0) (c .before .before .before .loop-test .taken)) hit)
+    let hit : hasGeneric page (childOf page (a .t) (loop .i)) ≡ true =
+    rw (← child-of .ensures .0) (sym (start .pre .1 .2 (child-of .result) (child-of .ensures .1)) ∙ c .if3 .taken) in
+    generic-inside page (start .pre .0 .sound) (a .t) (start .pre .1 .0) (kind-of .result) (kind-of .ensures) (if1 .left)
+    (sym (is-entered .ensures) ∙ not-false (is-entered .result) (if2 .left)) true
+    (any-found (λ j. hasGeneric page (childOf page (a .t) j)) (arity page (a .t)) (loop .i)
+    (rw (← size .ensures .0) (loop-test .taken)) hit)
 
 add-i : tie.Need-add-i Inv-loop μ-loop
 add-i c = search needs
@@ -67,19 +90,29 @@ loop-less c = search needs
 
 loop-again : tie.Need-loop-again Inv-loop μ-loop
 loop-again c =
-    let a = c .before .before .before .before .before .before .before .before .before .before .before .before .before .args in
+    let start = c .before .before .before .before .before .before .before .before .before .before .before .before .before in
+    let loop = c .before .before .before .before .loop in
+    let child-of = c .before .before .child-of in
+    let a = start .args in
     let page = now (a .page) in
-    let miss : hasGeneric page (childOf page (a .t) (c .before .before .before .before .loop .i)) ≡ false =
-    rw (← c .before .before .child-of .ensures .0) (sym (c .before .before .before .before .before .before .before .before .before .before .before .before .before .pre .1 .2 (c .before .before .child-of .result) (c .before .before .child-of .ensures .1)) ∙ c .if3 .left) in
-    (omega arith, any-more (λ j. hasGeneric page (childOf page (a .t) j)) (c .before .before .before .before .loop .i) (c .before .before .before .before .loop .inv .1) miss)
+    let miss : hasGeneric page (childOf page (a .t) (loop .i)) ≡ false =
+    rw (← child-of .ensures .0) (sym (start .pre .1 .2 (child-of .result) (child-of .ensures .1)) ∙ c .if3 .left) in
+    (omega arith, any-more (λ j. hasGeneric page (childOf page (a .t) j)) (loop .i) (loop .inv .1) miss)
 
 returns-4 : tie.Need-returns-4 Inv-loop μ-loop
 returns-4 c =
-    let a = c .before .before .before .before .before .before .before .before .before .before .args in
+    let start = c .before .before .before .before .before .before .before .before .before .before in
+    let loop = c .before .loop in
+    let size = c .before .before .arity in
+    let kind-of = c .before .before .before .before .before .before .kind-of in
+    let if1 = c .before .before .before .before .before .if1 in
+    let is-entered = c .before .before .before .before .is-entered in
+    let if2 = c .before .before .before .if2 in
+    let a = start .args in
     let page = now (a .page) in
-    let e : c .before .loop .i ≡ arity page (a .t) = omega (arith, c .before .before .arity .ensures .0) in
-    generic-inside page (c .before .before .before .before .before .before .before .before .before .before .pre .0 .sound) (a .t) (c .before .before .before .before .before .before .before .before .before .before .pre .1 .0) (c .before .before .before .before .before .before .kind-of .result) (c .before .before .before .before .before .before .kind-of .ensures) (c .before .before .before .before .before .if1 .left)
-    (sym (c .before .before .before .before .is-entered .ensures) ∙ not-false (c .before .before .before .before .is-entered .result) (c .before .before .before .if2 .left)) false (rw e at (c .before .loop .inv .1))
+    let e : loop .i ≡ arity page (a .t) = omega (arith, size .ensures .0) in
+    generic-inside page (start .pre .0 .sound) (a .t) (start .pre .1 .0) (kind-of .result) (kind-of .ensures) (if1 .left)
+    (sym (is-entered .ensures) ∙ not-false (is-entered .result) (if2 .left)) false (rw e at (loop .inv .1))
 
 pub generic-in-spec : {M : Type 1} → statement M
 generic-in-spec =

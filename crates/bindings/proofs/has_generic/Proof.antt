@@ -30,16 +30,28 @@ slice-aggregate-generic-in c = search needs
 
 generic-in-requires : tie.Need-generic-in-requires Inv-loop μ-loop
 generic-in-requires c κs =
-    let few = types-few (now (c .before .before .before .before .before .before .args .page)) (c .before .before .before .before .before .before .pre .0 .sound) in
-    (c .before .before .before .before .before .before .pre .0, (omega (arith, c .before .before .before .before .before .before .pre .1, c .before .loop-test .taken), omega (arith, few, c .before .before .before .before .before .before .pre .1, c .before .loop-test .taken, c .before .before .loop .inv .1), c .before .before .loop .inv .2))
+    let start = c .before .before .before .before .before .before in
+    let loop-test = c .before .loop-test in
+    let loop = c .before .before .loop in
+    let few = types-few (now (start .args .page)) (start .pre .0 .sound) in (
+      start .pre .0,
+      (
+        omega (arith, start .pre .1, loop-test .taken),
+        omega (arith, few, start .pre .1, loop-test .taken, loop .inv .1),
+        loop .inv .2,
+      ),
+    )
 
 slice-aggregate-set-found : tie.Need-slice-aggregate-set-found Inv-loop μ-loop
 slice-aggregate-set-found c = search needs
 
 set-found-requires : tie.Need-set-found-requires Inv-loop μ-loop
 set-found-requires c κs =
-    let few = types-few (now (c .before .before .before .before .before .before .before .before .args .page)) (c .before .before .before .before .before .before .before .before .pre .0 .sound) in
-    omega (arith, few, c .before .before .before .before .before .before .before .before .pre .1, c .before .before .before .loop-test .taken, c .before .before .before .before .loop .inv .1)
+    let start = c .before .before .before .before .before .before .before .before in
+    let loop-test = c .before .before .before .loop-test in
+    let loop = c .before .before .before .before .loop in
+    let few = types-few (now (start .args .page)) (start .pre .0 .sound) in
+    omega (arith, few, start .pre .1, loop-test .taken, loop .inv .1)
 
 add-i : tie.Need-add-i Inv-loop μ-loop
 add-i c = search needs
@@ -49,18 +61,31 @@ loop-less c = search needs
 
 loop-again : tie.Need-loop-again Inv-loop μ-loop
 loop-again c =
-    let few = types-few (now (c .before .before .before .before .before .before .before .before .before .before .args .page)) (c .before .before .before .before .before .before .before .before .before .before .pre .0 .sound) in
-    rw (c .before .set-found .ensures)
-    (omega arith, length-set (c .before .before .before .before .before .before .loop .found) (c .before .before .before .before .before .before .loop .i) _ ∙ c .before .before .before .before .before .before .loop .inv .1, told-more (now (c .before .before .before .before .before .before .before .before .before .before .args .page)) (c .before .before .before .before .before .before .loop .found) (c .before .before .before .before .before .before .loop .i) (c .before .before .before .generic-in .result) (omega (arith, few, c .before .before .before .before .before .before .before .before .before .before .pre .1, c .before .before .before .before .before .loop-test .taken, c .before .before .before .before .before .before .loop .inv .1)) (c .before .before .before .before .before .before .loop .inv .2) (c .before .before .before .generic-in .ensures))
+    let start = c .before .before .before .before .before .before .before .before .before .before in
+    let set-found = c .before .set-found in
+    let loop = c .before .before .before .before .before .before .loop in
+    let generic-in = c .before .before .before .generic-in in
+    let loop-test = c .before .before .before .before .before .loop-test in
+    let few = types-few (now (start .args .page)) (start .pre .0 .sound) in
+    rw (set-found .ensures) (
+      omega arith,
+      length-set (loop .found) (loop .i) _ ∙ loop .inv .1,
+      told-more (now (start .args .page))
+          (loop .found) (loop .i) (generic-in .result) (omega (arith, few, start .pre .1, loop-test .taken, loop .inv .1)) (loop .inv .2)
+          (generic-in .ensures),
+    )
 
 slice-aggregate-generic-in-2 : tie.Need-slice-aggregate-generic-in-2 Inv-loop μ-loop
 slice-aggregate-generic-in-2 c = search needs
 
 generic-in-requires-2 : tie.Need-generic-in-requires-2 Inv-loop μ-loop
 generic-in-requires-2 c κs =
-    let few = types-few (now (c .before .before .before .before .before .before .args .page)) (c .before .before .before .before .before .before .pre .0 .sound) in
-    let e : c .before .before .loop .i ≡ c .before .before .before .before .before .before .args .t = omega (arith, c .before .before .loop .inv .0, c .before .loop-test .left) in
-    (c .before .before .before .before .before .before .pre .0, (c .before .before .before .before .before .before .pre .1, omega (arith, few, c .before .before .before .before .before .before .pre .1, c .before .before .loop .inv .1), rw e at (c .before .before .loop .inv .2)))
+    let start = c .before .before .before .before .before .before in
+    let loop = c .before .before .loop in
+    let loop-test = c .before .loop-test in
+    let few = types-few (now (start .args .page)) (start .pre .0 .sound) in
+    let e : loop .i ≡ start .args .t = omega (arith, loop .inv .0, loop-test .left) in
+    (start .pre .0, (start .pre .1, omega (arith, few, start .pre .1, loop .inv .1), rw e at (loop .inv .2)))
 
 returns : tie.Need-returns Inv-loop μ-loop
 returns c = c .generic-in2 .ensures

@@ -31,9 +31,15 @@ is-good-requires c κs = search needs
 
 returns-2 : tie.Need-returns-2 Inv-loop μ-loop
 returns-2 c =
-    let a = c .before .before .before .before .before .args in
-    formed-rest (a .n) (a .t) (a .bindings) (c .before .before .before .before .if1 .left) false
-    (all-failed (goodBinding (a .n) (a .t) (a .bindings)) (a .bindings .count) (c .before .before .before .loop .i) (c .before .before .loop-test .taken) (sym (c .before .is-good .ensures) ∙ not-true (c .before .is-good .result) (c .if2 .taken)))
+    let start = c .before .before .before .before .before in
+    let if1 = c .before .before .before .before .if1 in
+    let loop = c .before .before .before .loop in
+    let loop-test = c .before .before .loop-test in
+    let is-good = c .before .is-good in
+    let a = start .args in
+    formed-rest (a .n) (a .t) (a .bindings) (if1 .left) false
+    (all-failed (goodBinding (a .n) (a .t) (a .bindings)) (a .bindings .count) (loop .i) (loop-test .taken)
+    (sym (is-good .ensures) ∙ not-true (is-good .result) (c .if2 .taken)))
 
 add-i : tie.Need-add-i Inv-loop μ-loop
 add-i c = search needs
@@ -43,8 +49,14 @@ loop-less c = search needs
 
 loop-again : tie.Need-loop-again Inv-loop μ-loop
 loop-again c =
-    let a = c .before .before .before .before .before .args in
-    (omega arith, all-more (goodBinding (a .n) (a .t) (a .bindings)) (c .before .before .before .loop .i) (c .before .before .before .loop .inv .1) (sym (c .before .is-good .ensures) ∙ not-false (c .before .is-good .result) (c .if2 .left)))
+    let start = c .before .before .before .before .before in
+    let loop = c .before .before .before .loop in
+    let is-good = c .before .is-good in
+    let a = start .args in (
+      omega arith,
+      all-more (goodBinding (a .n) (a .t) (a .bindings)) (loop .i) (loop .inv .1)
+          (sym (is-good .ensures) ∙ not-false (is-good .result) (c .if2 .left)),
+    )
 
 returns-3 : tie.Need-returns-3 Inv-loop μ-loop
 returns-3 c =

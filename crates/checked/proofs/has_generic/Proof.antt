@@ -26,34 +26,56 @@ opened-requires c κs = search needs
 
 returns : tie.Need-returns
 returns c =
-    let a = c .before .before .before .before .before .before .before .before .before .before .args in
-    generic-broken (now (a .page)) (now (a .names)) (a .lent) (a .t) (c .before .before .before .opened .ensures .0 ∙ ap not (not-true (c .before .before .before .opened .result) (c .if1 .taken)))
+    let start = c .before .before .before .before .before .before .before .before .before .before in
+    let opened = c .before .before .before .opened in
+    let a = start .args in
+    generic-broken (now (a .page)) (now (a .names)) (a .lent) (a .t)
+    (opened .ensures .0 ∙ ap not (not-true (opened .result) (c .if1 .taken)))
 
 count-requires : tie.Need-count-requires
 count-requires c κs =
-    let f = c .before .before .before .opened .ensures .1 (not-false (c .before .before .before .opened .result) (c .if1 .left)) .held .sound in
-    whole (now (c .before .before .before .before .before .before .before .before .before .before .args .page)) (f .names) (f .form) .two
+    let opened = c .before .before .before .opened in
+    let start = c .before .before .before .before .before .before .before .before .before .before in
+    let f = opened .ensures .1 (not-false (opened .result) (c .if1 .left)) .held .sound in
+    whole (now (start .args .page)) (f .names) (f .form) .two
 
 returns-2 : tie.Need-returns-2
 returns-2 c =
-    let a = c .before .before .before .before .before .before .before .before .before .before .before .before .args in
-    let b = c .before .before .before .before .before .opened .ensures .0 ∙ ap not (not-false (c .before .before .before .before .before .opened .result) (c .before .before .if1 .left)) in
-    generic-unused (now (a .page)) (now (a .names)) (a .lent) (a .t) b (rw (c .before .count .ensures) at (c .if2 .taken))
+    let start = c .before .before .before .before .before .before .before .before .before .before .before .before in
+    let opened = c .before .before .before .before .before .opened in
+    let if1 = c .before .before .if1 in
+    let count = c .before .count in
+    let a = start .args in
+    let b = opened .ensures .0 ∙ ap not (not-false (opened .result) (if1 .left)) in
+    generic-unused (now (a .page)) (now (a .names)) (a .lent) (a .t) b (rw (count .ensures) at (c .if2 .taken))
 
 slice-aggregate-has-generic : tie.Need-slice-aggregate-has-generic
 slice-aggregate-has-generic c = search needs
 
 has-generic-requires : tie.Need-has-generic-requires
-has-generic-requires c κs = (c .before .before .before .before .before .before .opened .ensures .1 (not-false (c .before .before .before .before .before .before .opened .result) (c .before .before .before .if1 .left)) .held, rw (c .before .before .count .ensures) at (c .before .if2 .left))
+has-generic-requires c κs =
+    let opened = c .before .before .before .before .before .before .opened in
+    let if1 = c .before .before .before .if1 in
+    let count = c .before .before .count in
+    let if2 = c .before .if2 in
+    (opened .ensures .1 (not-false (opened .result) (if1 .left)) .held, rw (count .ensures) at (if2 .left))
 
 say-requires : tie.Need-say-requires
 say-requires c κs = search needs
 
 returns-3 : tie.Need-returns-3
 returns-3 c =
-    let a = c .before .before .before .before .before .before .before .before .before .before .before .before .before .before .before .args in
-    let b = c .before .before .before .before .before .before .before .before .opened .ensures .0 ∙ ap not (not-false (c .before .before .before .before .before .before .before .before .opened .result) (c .before .before .before .before .before .if1 .left)) in
-    c .say .ensures ∙ generic-says (now (a .page)) (now (a .names)) (a .lent) (a .t) b (rw (c .before .before .before .before .count .ensures) at (c .before .before .before .if2 .left)) (c .before .has-generic .result) (c .before .has-generic .ensures)
+    let start =
+    c .before .before .before .before .before .before .before .before .before .before .before .before .before .before .before in
+    let opened = c .before .before .before .before .before .before .before .before .opened in
+    let if1 = c .before .before .before .before .before .if1 in
+    let count = c .before .before .before .before .count in
+    let if2 = c .before .before .before .if2 in
+    let has-generic = c .before .has-generic in
+    let a = start .args in
+    let b = opened .ensures .0 ∙ ap not (not-false (opened .result) (if1 .left)) in
+    c .say .ensures ∙ generic-says (now (a .page)) (now (a .names)) (a .lent) (a .t) b (rw (count .ensures) at (if2 .left))
+    (has-generic .result) (has-generic .ensures)
 
 pub has-generic-spec : {M : Type 1} → statement M
 has-generic-spec =

@@ -31,15 +31,23 @@ same-length c = search needs
 
 returns : tie.Need-returns
 returns c =
-    let a = c .before .before .before .before .before .before .before .before .before .before .before .before .args in
-    let z = const-broken (now (a .page)) (now (a .names)) (a .lent) (a .c) (c .before .before .before .before .opened .ensures .0 ∙ ap not (not-true (c .before .before .before .before .opened .result) (c .before .if1 .taken))) in
+    let start = c .before .before .before .before .before .before .before .before .before .before .before .before in
+    let opened = c .before .before .before .before .opened in
+    let if1 = c .before .if1 in
+    let a = start .args in
+    let z =
+    const-broken (now (a .page)) (now (a .names)) (a .lent) (a .c)
+    (opened .ensures .0 ∙ ap not (not-true (opened .result) (if1 .taken))) in
     (c .of-made .ensures ∙ z .0, z .1)
 
 slice-aggregate-is-used : tie.Need-slice-aggregate-is-used
 slice-aggregate-is-used c = search needs
 
 is-used-requires : tie.Need-is-used-requires
-is-used-requires c κs = c .before .before .before .before .before .opened .ensures .1 (not-false (c .before .before .before .before .before .opened .result) (c .before .before .if1 .left)) .held
+is-used-requires c κs =
+    let opened = c .before .before .before .before .before .opened in
+    let if1 = c .before .before .if1 in
+    opened .ensures .1 (not-false (opened .result) (if1 .left)) .held
 
 of-made-requires-2 : tie.Need-of-made-requires-2
 of-made-requires-2 c κs = search needs
@@ -49,9 +57,18 @@ same-length-2 c = search needs
 
 returns-2 : tie.Need-returns-2
 returns-2 c =
-    let a = c .before .before .before .before .before .before .before .before .before .before .before .before .before .before .before .before .args in
-    let b = c .before .before .before .before .before .before .before .before .opened .ensures .0 ∙ ap not (not-false (c .before .before .before .before .before .before .before .before .opened .result) (c .before .before .before .before .before .if1 .left)) in
-    let z = const-unused (now (a .page)) (now (a .names)) (a .lent) (a .c) b (sym (c .before .before .is-used .ensures) ∙ not-true (c .before .before .is-used .result) (c .before .if2 .taken)) in
+    let start =
+    c .before .before .before .before .before .before .before .before .before .before .before .before .before .before .before
+    .before in
+    let opened = c .before .before .before .before .before .before .before .before .opened in
+    let if1 = c .before .before .before .before .before .if1 in
+    let is-used = c .before .before .is-used in
+    let if2 = c .before .if2 in
+    let a = start .args in
+    let b = opened .ensures .0 ∙ ap not (not-false (opened .result) (if1 .left)) in
+    let z =
+    const-unused (now (a .page)) (now (a .names)) (a .lent) (a .c) b
+    (sym (is-used .ensures) ∙ not-true (is-used .result) (if2 .taken)) in
     (c .of-made2 .ensures ∙ z .0, z .1)
 
 enum-told : tie.Need-enum-told
@@ -77,8 +94,20 @@ slice-aggregate-const-form-2 c = search needs
 
 const-form-requires : tie.Need-const-form-requires
 const-form-requires c κs =
-    let u = sym (c .before .before .before .before .before .before .before .is-used .ensures) ∙ not-false (c .before .before .before .before .before .before .before .is-used .result) (c .before .before .before .before .before .before .if2 .left) in
-    (c .before .before .before .before .before .before .before .before .before .before .before .before .before .opened .ensures .1 (not-false (c .before .before .before .before .before .before .before .before .before .before .before .before .before .opened .result) (c .before .before .before .before .before .before .before .before .before .before .if1 .left)), known-used (now (c .before .before .before .before .before .before .before .before .before .before .before .before .before .before .before .before .before .before .before .before .before .args .page)) (c .before .before .before .before .before .before .before .before .before .before .before .before .before .before .before .before .before .before .before .before .before .args .c) _ (c .before .before .before .before .c2 .given .1) u)
+    let is-used = c .before .before .before .before .before .before .before .is-used in
+    let if2 = c .before .before .before .before .before .before .if2 in
+    let opened =
+    c .before .before .before .before .before .before .before .before .before .before .before .before .before .opened in
+    let if1 = c .before .before .before .before .before .before .before .before .before .before .if1 in
+    let start =
+    c .before .before .before .before .before .before .before .before .before .before .before .before .before .before .before
+    .before .before .before .before .before .before in
+    let c2 = c .before .before .before .before .c2 in
+    let u = sym (is-used .ensures) ∙ not-false (is-used .result) (if2 .left) in (
+      opened .ensures .1 (not-false (opened .result) (if1 .left)),
+      known-used (now (start .args .page)) (start .args .c) _
+          (c2 .given .1) u,
+    )
 
 of-made-requires-3 : tie.Need-of-made-requires-3
 of-made-requires-3 c κs = search needs
@@ -88,10 +117,18 @@ same-length-3 c = search needs
 
 returns-3 : tie.Need-returns-3
 returns-3 c =
-    let a = c .before .before .before .before .before .before .before .before .before .before .before .before .before .before .before .before .before .before .args in
-    let b = c .before .before .before .before .before .before .before .before .before .before .opened .ensures .0 ∙ ap not (not-false (c .before .before .before .before .before .before .before .before .before .before .opened .result) (c .before .before .before .before .before .before .before .if1 .left)) in
-    let u = sym (c .before .before .before .before .is-used .ensures) ∙ not-false (c .before .before .before .before .is-used .result) (c .before .before .before .if2 .left) in
-    let z = const-unknown (now (a .page)) (now (a .names)) (a .lent) (a .c) b u (c .before .enum-told .given .1) in
+    let start =
+    c .before .before .before .before .before .before .before .before .before .before .before .before .before .before .before
+    .before .before .before in
+    let opened = c .before .before .before .before .before .before .before .before .before .before .opened in
+    let if1 = c .before .before .before .before .before .before .before .if1 in
+    let is-used = c .before .before .before .before .is-used in
+    let if2 = c .before .before .before .if2 in
+    let enum-told = c .before .enum-told in
+    let a = start .args in
+    let b = opened .ensures .0 ∙ ap not (not-false (opened .result) (if1 .left)) in
+    let u = sym (is-used .ensures) ∙ not-false (is-used .result) (if2 .left) in
+    let z = const-unknown (now (a .page)) (now (a .names)) (a .lent) (a .c) b u (enum-told .given .1) in
     (c .pass .ensures ∙ z .0, z .1)
 
 same-length-4 : tie.Need-same-length-4
@@ -99,10 +136,18 @@ same-length-4 c = search needs
 
 returns-4 : tie.Need-returns-4
 returns-4 c =
-    let a = c .before .before .before .before .before .before .before .before .before .before .before .before .before .before .before .before .before .before .before .args in
-    let b = c .before .before .before .before .before .before .before .before .before .before .before .opened .ensures .0 ∙ ap not (not-false (c .before .before .before .before .before .before .before .before .before .before .before .opened .result) (c .before .before .before .before .before .before .before .before .if1 .left)) in
-    let u = sym (c .before .before .before .before .before .is-used .ensures) ∙ not-false (c .before .before .before .before .before .is-used .result) (c .before .before .before .before .if2 .left) in
-    let z = const-function (now (a .page)) (now (a .names)) (a .lent) (a .c) b u _ (c .before .before .c .given .1) in
+    let start =
+    c .before .before .before .before .before .before .before .before .before .before .before .before .before .before .before
+    .before .before .before .before in
+    let opened = c .before .before .before .before .before .before .before .before .before .before .before .opened in
+    let if1 = c .before .before .before .before .before .before .before .before .if1 in
+    let is-used = c .before .before .before .before .before .is-used in
+    let if2 = c .before .before .before .before .if2 in
+    let which = c .before .before .c in
+    let a = start .args in
+    let b = opened .ensures .0 ∙ ap not (not-false (opened .result) (if1 .left)) in
+    let u = sym (is-used .ensures) ∙ not-false (is-used .result) (if2 .left) in
+    let z = const-function (now (a .page)) (now (a .names)) (a .lent) (a .c) b u _ (which .given .1) in
     (c .pass2 .ensures ∙ z .0, z .1)
 
 same-length-5 : tie.Need-same-length-5
@@ -110,10 +155,26 @@ same-length-5 c = search needs
 
 returns-5 : tie.Need-returns-5
 returns-5 c =
-    let a = c .before .before .before .before .before .before .before .before .before .before .before .before .before .before .before .before .before .before .before .before .before .before .before .before .before .before .before .args in
-    let b = c .before .before .before .before .before .before .before .before .before .before .before .before .before .before .before .before .before .before .before .opened .ensures .0 ∙ ap not (not-false (c .before .before .before .before .before .before .before .before .before .before .before .before .before .before .before .before .before .before .before .opened .result) (c .before .before .before .before .before .before .before .before .before .before .before .before .before .before .before .before .if1 .left)) in
-    let u = sym (c .before .before .before .before .before .before .before .before .before .before .before .before .before .is-used .ensures) ∙ not-false (c .before .before .before .before .before .before .before .before .before .before .before .before .before .is-used .result) (c .before .before .before .before .before .before .before .before .before .before .before .before .if2 .left) in
-    let z = const-known (now (a .page)) (now (a .names)) (a .lent) (a .c) b u _ (c .before .before .before .before .before .before .before .before .before .before .c2 .given .1) (c .before .before .before .before .before .const-form .result) _ (c .before .before .before .before .before .const-form .ensures .0) (c .before .before .before .before .before .const-form .ensures .1) in
+    let start =
+    c .before .before .before .before .before .before .before .before .before .before .before .before .before .before .before
+    .before .before .before .before .before .before .before .before .before .before .before .before in
+    let opened =
+    c .before .before .before .before .before .before .before .before .before .before .before .before .before .before .before
+    .before .before .before .before .opened in
+    let if1 =
+    c .before .before .before .before .before .before .before .before .before .before .before .before .before .before .before
+    .before .if1 in
+    let is-used =
+    c .before .before .before .before .before .before .before .before .before .before .before .before .before .is-used in
+    let if2 = c .before .before .before .before .before .before .before .before .before .before .before .before .if2 in
+    let c2 = c .before .before .before .before .before .before .before .before .before .before .c2 in
+    let const-form = c .before .before .before .before .before .const-form in
+    let a = start .args in
+    let b = opened .ensures .0 ∙ ap not (not-false (opened .result) (if1 .left)) in
+    let u = sym (is-used .ensures) ∙ not-false (is-used .result) (if2 .left) in
+    let z =
+    const-known (now (a .page)) (now (a .names)) (a .lent) (a .c) b u _ (c2 .given .1) (const-form .result) _
+    (const-form .ensures .0) (const-form .ensures .1) in
     (c .of-made3 .ensures ∙ z .0, z .1)
 
 pub into-const-spec : {M : Type 1} → statement M

@@ -29,17 +29,31 @@ kind-of-requires : tie.Need-kind-of-requires
 kind-of-requires c κs = search needs
 
 returns : tie.Need-returns
-returns c = used-unknown (now (c .before .before .before .before .args .page)) (c .before .before .before .before .args .c) (c .enum-told .given .1)
+returns c =
+    let start = c .before .before .before .before in
+    used-unknown (now (start .args .page)) (start .args .c) (c .enum-told .given .1)
 
 returns-2 : tie.Need-returns-2
-returns-2 c = used-known (now (c .before .before .before .before .before .before .args .page)) (c .before .before .before .before .before .before .args .c) _ (c .count .result) (c .before .before .c .given .1) (c .count .ensures)
+returns-2 c =
+    let start = c .before .before .before .before .before .before in
+    let which = c .before .before .c in
+    used-known (now (start .args .page)) (start .args .c) _ (c .count .result) (which .given .1) (c .count .ensures)
 
 returns-3 : tie.Need-returns-3
 returns-3 c =
-    used-function (now (c .before .before .before .before .before .before .before .before .args .page)) (c .before .before .before .before .before .before .before .before .args .c) _ (c .before .before .count2 .result) (c .before .before .before .before .c2 .given .1) (c .before .before .count2 .ensures) (c .before .if1 .taken) (c .kind-of .result) (c .kind-of .ensures)
+    let start = c .before .before .before .before .before .before .before .before in
+    let count2 = c .before .before .count2 in
+    let c2 = c .before .before .before .before .c2 in
+    let if1 = c .before .if1 in
+    used-function (now (start .args .page)) (start .args .c) _ (count2 .result) (c2 .given .1) (count2 .ensures) (if1 .taken)
+    (c .kind-of .result) (c .kind-of .ensures)
 
 returns-4 : tie.Need-returns-4
-returns-4 c = unused-function (now (c .before .before .before .before .before .before .before .args .page)) (c .before .before .before .before .before .before .before .args .c) _ (c .before .count2 .result) (c .before .before .before .c2 .given .1) (c .before .count2 .ensures) (c .if1 .left)
+returns-4 c =
+    let start = c .before .before .before .before .before .before .before in
+    let count2 = c .before .count2 in
+    let c2 = c .before .before .before .c2 in
+    unused-function (now (start .args .page)) (start .args .c) _ (count2 .result) (c2 .given .1) (count2 .ensures) (c .if1 .left)
 
 pub is-used-spec : {M : Type 1} → statement M
 is-used-spec =

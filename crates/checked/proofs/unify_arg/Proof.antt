@@ -35,20 +35,29 @@ refuse-requires c κs = search needs
 
 returns : tie.Need-returns
 returns c =
-    let a = c .before .before .before .before .before .before .before .before .before .before .before .args in
-    c .refuse .ensures ∙ unify-broken (now (a .page)) (now (a .names)) (a .lent) (a .bound) (a .e) (a .actual) (c .before .before .before .before .opened .ensures .0 ∙ ap not (not-true (c .before .before .before .before .opened .result) (c .before .if1 .taken)))
+    let start = c .before .before .before .before .before .before .before .before .before .before .before in
+    let opened = c .before .before .before .before .opened in
+    let if1 = c .before .if1 in
+    let a = start .args in
+    c .refuse .ensures ∙ unify-broken (now (a .page)) (now (a .names)) (a .lent) (a .bound) (a .e) (a .actual)
+    (opened .ensures .0 ∙ ap not (not-true (opened .result) (if1 .taken)))
 
 count-requires : tie.Need-count-requires
 count-requires c κs =
-    let f = c .before .before .before .opened .ensures .1 (not-false (c .before .before .before .opened .result) (c .if1 .left)) .held .sound in
-    whole (now (c .before .before .before .before .before .before .before .before .before .before .args .page)) (f .names) (f .form) .two
+    let opened = c .before .before .before .opened in
+    let start = c .before .before .before .before .before .before .before .before .before .before in
+    let f = opened .ensures .1 (not-false (opened .result) (c .if1 .left)) .held .sound in
+    whole (now (start .args .page)) (f .names) (f .form) .two
 
 in-use-requires : tie.Need-in-use-requires
 in-use-requires c κs =
-    let a = c .before .before .before .before .before .before .before .before .before .before .before .args in
+    let start = c .before .before .before .before .before .before .before .before .before .before .before in
+    let opened = c .before .before .before .before .opened in
+    let if1 = c .before .if1 in
+    let a = start .args in
     let page = now (a .page) in
     let names = now (a .names) in
-    let b = c .before .before .before .before .opened .ensures .0 ∙ ap not (not-false (c .before .before .before .before .opened .result) (c .before .if1 .left)) in
+    let b = opened .ensures .0 ∙ ap not (not-false (opened .result) (if1 .left)) in
     unbroken-both page names (a .lent) b .0
 
 is-formed-requires : tie.Need-is-formed-requires
@@ -59,42 +68,77 @@ refuse-requires-2 c κs = search needs
 
 returns-2 : tie.Need-returns-2
 returns-2 c =
-    let a = c .before .before .before .before .before .before .before .before .before .before .before .before .before .before .before .args in
+    let start =
+    c .before .before .before .before .before .before .before .before .before .before .before .before .before .before .before in
+    let opened = c .before .before .before .before .before .before .before .before .opened in
+    let if1 = c .before .before .before .before .before .if1 in
+    let in-use = c .before .before .before .in-use in
+    let count = c .before .before .before .before .count in
+    let is-formed = c .before .before .is-formed in
+    let if2 = c .before .if2 in
+    let a = start .args in
     let page = now (a .page) in
     let names = now (a .names) in
-    let b = c .before .before .before .before .before .before .before .before .opened .ensures .0 ∙ ap not (not-false (c .before .before .before .before .before .before .before .before .opened .result) (c .before .before .before .before .before .if1 .left)) in
-    c .refuse2 .ensures
-    ∙ unify-unformed page names (a .lent) (a .bound) (a .e) (a .actual) b (rw (← c .before .before .before .in-use .ensures .0, ← c .before .before .before .before .count .ensures) (sym (c .before .before .is-formed .ensures) ∙ not-true (c .before .before .is-formed .result) (c .before .if2 .taken)))
+    let b = opened .ensures .0 ∙ ap not (not-false (opened .result) (if1 .left)) in
+    c .refuse2 .ensures ∙ unify-unformed page names (a .lent) (a .bound) (a .e) (a .actual) b
+    (rw (← in-use .ensures .0, ← count .ensures) (sym (is-formed .ensures) ∙ not-true (is-formed .result) (if2 .taken)))
 
 refuse-requires-3 : tie.Need-refuse-requires-3
 refuse-requires-3 c κs = search needs
 
 returns-3 : tie.Need-returns-3
 returns-3 c =
-    let a = c .before .before .before .before .before .before .before .before .before .before .before .before .before .before .before .before .args in
+    let start =
+    c .before .before .before .before .before .before .before .before .before .before .before .before .before .before .before
+    .before in
+    let opened = c .before .before .before .before .before .before .before .before .before .opened in
+    let if1 = c .before .before .before .before .before .before .if1 in
+    let in-use = c .before .before .before .before .in-use in
+    let count = c .before .before .before .before .before .count in
+    let is-formed = c .before .before .before .is-formed in
+    let if2 = c .before .before .if2 in
+    let if3 = c .before .if3 in
+    let a = start .args in
     let page = now (a .page) in
     let names = now (a .names) in
-    let b = c .before .before .before .before .before .before .before .before .before .opened .ensures .0 ∙ ap not (not-false (c .before .before .before .before .before .before .before .before .before .opened .result) (c .before .before .before .before .before .before .if1 .left)) in
-    let k : formed (usedOf names (a .lent)) (typesIn page) (a .bound) ≡ true = rw (← c .before .before .before .before .in-use .ensures .0, ← c .before .before .before .before .before .count .ensures) (sym (c .before .before .before .is-formed .ensures) ∙ not-false (c .before .before .before .is-formed .result) (c .before .before .if2 .left)) in
-    c .refuse3 .ensures ∙ unify-unused page names (a .lent) (a .bound) (a .e) (a .actual) b k (rw (c .before .before .before .before .before .count .ensures) at (c .before .if3 .taken))
+    let b = opened .ensures .0 ∙ ap not (not-false (opened .result) (if1 .left)) in
+    let k : formed (usedOf names (a .lent)) (typesIn page) (a .bound) ≡ true =
+    rw (← in-use .ensures .0, ← count .ensures) (sym (is-formed .ensures) ∙ not-false (is-formed .result) (if2 .left)) in
+    c .refuse3 .ensures ∙ unify-unused page names (a .lent) (a .bound) (a .e) (a .actual) b k (rw (count .ensures) at (if3 .taken))
 
 slice-aggregate-is-used : tie.Need-slice-aggregate-is-used
 slice-aggregate-is-used c = search needs
 
 is-used-requires : tie.Need-is-used-requires
-is-used-requires c κs = c .before .before .before .before .before .before .before .before .before .opened .ensures .1 (not-false (c .before .before .before .before .before .before .before .before .before .opened .result) (c .before .before .before .before .before .before .if1 .left)) .held
+is-used-requires c κs =
+    let opened = c .before .before .before .before .before .before .before .before .before .opened in
+    let if1 = c .before .before .before .before .before .before .if1 in
+    opened .ensures .1 (not-false (opened .result) (if1 .left)) .held
 
 refuse-requires-4 : tie.Need-refuse-requires-4
 refuse-requires-4 c κs = search needs
 
 returns-4 : tie.Need-returns-4
 returns-4 c =
-    let a = c .before .before .before .before .before .before .before .before .before .before .before .before .before .before .before .before .before .before .before .args in
+    let start =
+    c .before .before .before .before .before .before .before .before .before .before .before .before .before .before .before
+    .before .before .before .before in
+    let opened = c .before .before .before .before .before .before .before .before .before .before .before .before .opened in
+    let if1 = c .before .before .before .before .before .before .before .before .before .if1 in
+    let in-use = c .before .before .before .before .before .before .before .in-use in
+    let count = c .before .before .before .before .before .before .before .before .count in
+    let is-formed = c .before .before .before .before .before .before .is-formed in
+    let if2 = c .before .before .before .before .before .if2 in
+    let is-used = c .before .before .is-used in
+    let if4 = c .before .if4 in
+    let a = start .args in
     let page = now (a .page) in
     let names = now (a .names) in
-    let b = c .before .before .before .before .before .before .before .before .before .before .before .before .opened .ensures .0 ∙ ap not (not-false (c .before .before .before .before .before .before .before .before .before .before .before .before .opened .result) (c .before .before .before .before .before .before .before .before .before .if1 .left)) in
-    let k : formed (usedOf names (a .lent)) (typesIn page) (a .bound) ≡ true = rw (← c .before .before .before .before .before .before .before .in-use .ensures .0, ← c .before .before .before .before .before .before .before .before .count .ensures) (sym (c .before .before .before .before .before .before .is-formed .ensures) ∙ not-false (c .before .before .before .before .before .before .is-formed .result) (c .before .before .before .before .before .if2 .left)) in
-    c .refuse4 .ensures ∙ unify-unused-actual page names (a .lent) (a .bound) (a .e) (a .actual) b k (sym (c .before .before .is-used .ensures) ∙ not-true (c .before .before .is-used .result) (c .before .if4 .taken))
+    let b = opened .ensures .0 ∙ ap not (not-false (opened .result) (if1 .left)) in
+    let k : formed (usedOf names (a .lent)) (typesIn page) (a .bound) ≡ true =
+    rw (← in-use .ensures .0, ← count .ensures) (sym (is-formed .ensures) ∙ not-false (is-formed .result) (if2 .left)) in
+    c .refuse4 .ensures ∙ unify-unused-actual page names (a .lent) (a .bound) (a .e) (a .actual) b k
+    (sym (is-used .ensures) ∙ not-true (is-used .result) (if4 .taken))
 
 no-memo-requires : tie.Need-no-memo-requires
 no-memo-requires c κs = search needs
@@ -113,29 +157,78 @@ slice-aggregate-unify-arg-3 c = search needs
 
 unify-arg-requires : tie.Need-unify-arg-requires
 unify-arg-requires c κs =
-    let a = c .before .before .before .before .before .before .before .before .before .before .before .before .before .before .before .before .before .before .before .before .before .before .before .args in
+    let start =
+    c .before .before .before .before .before .before .before .before .before .before .before .before .before .before .before
+    .before .before .before .before .before .before .before .before in
+    let opened =
+    c .before .before .before .before .before .before .before .before .before .before .before .before .before .before .before
+    .before .opened in
+    let if1 = c .before .before .before .before .before .before .before .before .before .before .before .before .before .if1 in
+    let in-use = c .before .before .before .before .before .before .before .before .before .before .before .in-use in
+    let count = c .before .before .before .before .before .before .before .before .before .before .before .before .count in
+    let is-formed = c .before .before .before .before .before .before .before .before .before .before .is-formed in
+    let if2 = c .before .before .before .before .before .before .before .before .before .if2 in
+    let if3 = c .before .before .before .before .before .before .before .before .if3 in
+    let is-used = c .before .before .before .before .before .before .is-used in
+    let if4 = c .before .before .before .before .before .if4 in
+    let no-memo = c .before .before .before .before .no-memo in
+    let no-memo2 = c .before .before .before .no-memo2 in
+    let a = start .args in
     let page = now (a .page) in
     let names = now (a .names) in
-    let b = c .before .before .before .before .before .before .before .before .before .before .before .before .before .before .before .before .opened .ensures .0 ∙ ap not (not-false (c .before .before .before .before .before .before .before .before .before .before .before .before .before .before .before .before .opened .result) (c .before .before .before .before .before .before .before .before .before .before .before .before .before .if1 .left)) in
-    let k : formed (usedOf names (a .lent)) (typesIn page) (a .bound) ≡ true = rw (← c .before .before .before .before .before .before .before .before .before .before .before .in-use .ensures .0, ← c .before .before .before .before .before .before .before .before .before .before .before .before .count .ensures) (sym (c .before .before .before .before .before .before .before .before .before .before .is-formed .ensures) ∙ not-false (c .before .before .before .before .before .before .before .before .before .before .is-formed .result) (c .before .before .before .before .before .before .before .before .before .if2 .left)) in
-    let h = c .before .before .before .before .before .before .before .before .before .before .before .before .before .before .before .before .opened .ensures .1 (not-false (c .before .before .before .before .before .before .before .before .before .before .before .before .before .before .before .before .opened .result) (c .before .before .before .before .before .before .before .before .before .before .before .before .before .if1 .left)) .held in
-    let l = rw (c .before .before .before .before .before .before .before .before .before .before .before .before .count .ensures) at (c .before .before .before .before .before .before .before .before .if3 .left) in
-    let u = sym (c .before .before .before .before .before .before .is-used .ensures) ∙ not-false (c .before .before .before .before .before .before .is-used .result) (c .before .before .before .before .before .if4 .left) in
-    (h, ((l, u), (usable (usedOf names (a .lent)) (typesIn page) (a .bound) k, (rw (c .before .before .before .before .no-memo .ensures) (noted-none _), rw (c .before .before .before .no-memo2 .ensures) (noted-none _)))))
+    let b = opened .ensures .0 ∙ ap not (not-false (opened .result) (if1 .left)) in
+    let k : formed (usedOf names (a .lent)) (typesIn page) (a .bound) ≡ true =
+    rw (← in-use .ensures .0, ← count .ensures) (sym (is-formed .ensures) ∙ not-false (is-formed .result) (if2 .left)) in
+    let h = opened .ensures .1 (not-false (opened .result) (if1 .left)) .held in
+    let l = rw (count .ensures) at (if3 .left) in
+    let u = sym (is-used .ensures) ∙ not-false (is-used .result) (if4 .left) in (
+      h,
+      (
+        (l, u),
+        (
+          usable (usedOf names (a .lent)) (typesIn page) (a .bound) k,
+          (rw (no-memo .ensures) (noted-none _), rw (no-memo2 .ensures) (noted-none _)),
+        ),
+      ),
+    )
 
 kept-by-requires : tie.Need-kept-by-requires
 kept-by-requires c κs = search needs
 
 returns-5 : tie.Need-returns-5
 returns-5 c =
-    let a = c .before .before .before .before .before .before .before .before .before .before .before .before .before .before .before .before .before .before .before .before .before .before .before .before .before .before .before .args in
+    let start =
+    c .before .before .before .before .before .before .before .before .before .before .before .before .before .before .before
+    .before .before .before .before .before .before .before .before .before .before .before .before in
+    let opened =
+    c .before .before .before .before .before .before .before .before .before .before .before .before .before .before .before
+    .before .before .before .before .before .opened in
+    let if1 =
+    c .before .before .before .before .before .before .before .before .before .before .before .before .before .before .before
+    .before .before .if1 in
+    let in-use =
+    c .before .before .before .before .before .before .before .before .before .before .before .before .before .before .before
+    .in-use in
+    let count =
+    c .before .before .before .before .before .before .before .before .before .before .before .before .before .before .before
+    .before .count in
+    let is-formed =
+    c .before .before .before .before .before .before .before .before .before .before .before .before .before .before .is-formed in
+    let if2 = c .before .before .before .before .before .before .before .before .before .before .before .before .before .if2 in
+    let if3 = c .before .before .before .before .before .before .before .before .before .before .before .before .if3 in
+    let is-used = c .before .before .before .before .before .before .before .before .before .before .is-used in
+    let if4 = c .before .before .before .before .before .before .before .before .before .if4 in
+    let unify-arg = c .before .before .before .unify-arg in
+    let a = start .args in
     let page = now (a .page) in
     let names = now (a .names) in
-    let b = c .before .before .before .before .before .before .before .before .before .before .before .before .before .before .before .before .before .before .before .before .opened .ensures .0 ∙ ap not (not-false (c .before .before .before .before .before .before .before .before .before .before .before .before .before .before .before .before .before .before .before .before .opened .result) (c .before .before .before .before .before .before .before .before .before .before .before .before .before .before .before .before .before .if1 .left)) in
-    let k : formed (usedOf names (a .lent)) (typesIn page) (a .bound) ≡ true = rw (← c .before .before .before .before .before .before .before .before .before .before .before .before .before .before .before .in-use .ensures .0, ← c .before .before .before .before .before .before .before .before .before .before .before .before .before .before .before .before .count .ensures) (sym (c .before .before .before .before .before .before .before .before .before .before .before .before .before .before .is-formed .ensures) ∙ not-false (c .before .before .before .before .before .before .before .before .before .before .before .before .before .before .is-formed .result) (c .before .before .before .before .before .before .before .before .before .before .before .before .before .if2 .left)) in
-    let l = rw (c .before .before .before .before .before .before .before .before .before .before .before .before .before .before .before .before .count .ensures) at (c .before .before .before .before .before .before .before .before .before .before .before .before .if3 .left) in
-    let u = sym (c .before .before .before .before .before .before .before .before .before .before .is-used .ensures) ∙ not-false (c .before .before .before .before .before .before .before .before .before .before .is-used .result) (c .before .before .before .before .before .before .before .before .before .if4 .left) in
-    c .kept-by .ensures ∙ unify-says page names (a .lent) (a .bound) (a .e) (a .actual) b k l u (c .before .before .before .unify-arg .result) (c .before .before .before .unify-arg .ensures .0)
+    let b = opened .ensures .0 ∙ ap not (not-false (opened .result) (if1 .left)) in
+    let k : formed (usedOf names (a .lent)) (typesIn page) (a .bound) ≡ true =
+    rw (← in-use .ensures .0, ← count .ensures) (sym (is-formed .ensures) ∙ not-false (is-formed .result) (if2 .left)) in
+    let l = rw (count .ensures) at (if3 .left) in
+    let u = sym (is-used .ensures) ∙ not-false (is-used .result) (if4 .left) in
+    c .kept-by .ensures ∙ unify-says page names (a .lent) (a .bound) (a .e) (a .actual) b k l u (unify-arg .result)
+    (unify-arg .ensures .0)
 
 pub unify-arg-spec : {M : Type 1} → statement M
 unify-arg-spec =

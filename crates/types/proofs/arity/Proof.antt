@@ -14,24 +14,36 @@ returns c =
 
 offset-of-requires : tie.Need-offset-of-requires
 offset-of-requires c κs =
-    offset-asks (now (c .before .before .before .args .page)) (now (c .before .before .before .args .offsets)) (c .before .before .before .pre .0) (c .before .before .before .args .t) (c .before .before .before .pre .1) (c .if1 .left)
+    let start = c .before .before .before in
+    offset-asks (now (start .args .page)) (now (start .args .offsets)) (start .pre .0) (start .args .t) (start .pre .1)
+    (c .if1 .left)
 
 shared-slice-read-index : tie.Need-shared-slice-read-index
 shared-slice-read-index c =
-    let page = now (c .before .before .before .before .before .args .page) in
-    let e = offset-is page (now (c .before .before .before .before .before .args .offsets)) (c .before .before .before .before .before .pre .0) (c .before .before .before .before .before .args .t) (c .before .before .before .before .before .pre .1) (c .before .offset-of .result) (c .before .before .if1 .left) (c .before .offset-of .ensures) in
-    omega (arith, e, head-inside page (c .before .before .before .before .before .pre .0 .sound) (c .before .before .before .before .before .args .t) (c .before .before .before .before .before .pre .1) (c .before .before .if1 .left))
+    let start = c .before .before .before .before .before in
+    let offset-of = c .before .offset-of in
+    let if1 = c .before .before .if1 in
+    let page = now (start .args .page) in
+    let e =
+    offset-is page (now (start .args .offsets)) (start .pre .0) (start .args .t) (start .pre .1) (offset-of .result) (if1 .left)
+    (offset-of .ensures) in
+    omega (arith, e, head-inside page (start .pre .0 .sound) (start .args .t) (start .pre .1) (if1 .left))
 
 index-requires : tie.Need-index-requires
 index-requires c κs = search needs
 
 returns-2 : tie.Need-returns-2
 returns-2 c =
-    let page = now (c .before .before .before .before .before .before .args .page) in
-    let e = offset-is page (now (c .before .before .before .before .before .before .args .offsets)) (c .before .before .before .before .before .before .pre .0) (c .before .before .before .before .before .before .args .t) (c .before .before .before .before .before .before .pre .1) (c .before .before .offset-of .result) (c .before .before .before .if1 .left) (c .before .before .offset-of .ensures) in
+    let start = c .before .before .before .before .before .before in
+    let offset-of = c .before .before .offset-of in
+    let if1 = c .before .before .before .if1 in
+    let page = now (start .args .page) in
+    let e =
+    offset-is page (now (start .args .offsets)) (start .pre .0) (start .args .t) (start .pre .1) (offset-of .result) (if1 .left)
+    (offset-of .ensures) in
     let r = rw e at (c .index .ensures .0) in
-    let q = r ∙ arity-entry page (c .before .before .before .before .before .before .args .t) (c .before .before .before .if1 .left) in
-    (q, rw q (few-children page (c .before .before .before .before .before .before .pre .0 .sound) (c .before .before .before .before .before .before .args .t) (c .before .before .before .before .before .before .pre .1)))
+    let q = r ∙ arity-entry page (start .args .t) (if1 .left) in
+    (q, rw q (few-children page (start .pre .0 .sound) (start .args .t) (start .pre .1)))
 
 pub arity-spec : {M : Type 1} → statement M
 arity-spec =

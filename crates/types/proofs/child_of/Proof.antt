@@ -8,43 +8,74 @@ use Rattle.types.proofs.child_of.Tie as tie
 
 offset-of-requires : tie.Need-offset-of-requires
 offset-of-requires c κs =
-    let page = now (c .before .before .args .page) in
-    offset-asks page (now (c .before .before .args .offsets)) (c .before .before .pre .0) (c .before .before .args .t) (c .before .before .pre .1 .0) (child-above page (c .before .before .pre .0 .sound) (c .before .before .args .t) (c .before .before .pre .1 .0) (c .before .before .args .i) (c .before .before .pre .1 .1))
+    let start = c .before .before in
+    let page = now (start .args .page) in
+    offset-asks page (now (start .args .offsets)) (start .pre .0) (start .args .t) (start .pre .1 .0)
+    (child-above page (start .pre .0 .sound) (start .args .t) (start .pre .1 .0) (start .args .i) (start .pre .1 .1))
 
 add-word-at : tie.Need-add-word-at
 add-word-at c =
-    let page = now (c .before .before .before .args .page) in
-    let a = child-above page (c .before .before .before .pre .0 .sound) (c .before .before .before .args .t) (c .before .before .before .pre .1 .0) (c .before .before .before .args .i) (c .before .before .before .pre .1 .1) in
-    let e = offset-is page (now (c .before .before .before .args .offsets)) (c .before .before .before .pre .0) (c .before .before .before .args .t) (c .before .before .before .pre .1 .0) (c .offset-of .result) a (c .offset-of .ensures) in
-    search (needs, e, child-inside page (c .before .before .before .pre .0 .sound) (c .before .before .before .args .t) (c .before .before .before .pre .1 .0) (c .before .before .before .args .i) (c .before .before .before .pre .1 .1))
+    let start = c .before .before .before in
+    let page = now (start .args .page) in
+    let a = child-above page (start .pre .0 .sound) (start .args .t) (start .pre .1 .0) (start .args .i) (start .pre .1 .1) in
+    let e =
+    offset-is page (now (start .args .offsets)) (start .pre .0) (start .args .t) (start .pre .1 .0) (c .offset-of .result) a
+    (c .offset-of .ensures) in
+    search (
+      needs,
+      e,
+      child-inside page (start .pre .0 .sound) (start .args .t) (start .pre .1 .0) (start .args .i)
+          (start .pre .1 .1),
+    )
 
 mul-word-at : tie.Need-mul-word-at
 mul-word-at c =
-    let page = now (c .before .before .before .args .page) in
-    search (needs, child-inside page (c .before .before .before .pre .0 .sound) (c .before .before .before .args .t) (c .before .before .before .pre .1 .0) (c .before .before .before .args .i) (c .before .before .before .pre .1 .1))
+    let start = c .before .before .before in
+    let page = now (start .args .page) in
+    search (needs, child-inside page (start .pre .0 .sound) (start .args .t) (start .pre .1 .0) (start .args .i) (start .pre .1 .1))
 
 add-word-at-2 : tie.Need-add-word-at-2
 add-word-at-2 c =
-    let page = now (c .before .before .before .args .page) in
-    let a = child-above page (c .before .before .before .pre .0 .sound) (c .before .before .before .args .t) (c .before .before .before .pre .1 .0) (c .before .before .before .args .i) (c .before .before .before .pre .1 .1) in
-    let e = offset-is page (now (c .before .before .before .args .offsets)) (c .before .before .before .pre .0) (c .before .before .before .args .t) (c .before .before .before .pre .1 .0) (c .offset-of .result) a (c .offset-of .ensures) in
-    search (needs, e, child-inside page (c .before .before .before .pre .0 .sound) (c .before .before .before .args .t) (c .before .before .before .pre .1 .0) (c .before .before .before .args .i) (c .before .before .before .pre .1 .1))
+    let start = c .before .before .before in
+    let page = now (start .args .page) in
+    let a = child-above page (start .pre .0 .sound) (start .args .t) (start .pre .1 .0) (start .args .i) (start .pre .1 .1) in
+    let e =
+    offset-is page (now (start .args .offsets)) (start .pre .0) (start .args .t) (start .pre .1 .0) (c .offset-of .result) a
+    (c .offset-of .ensures) in
+    search (
+      needs,
+      e,
+      child-inside page (start .pre .0 .sound) (start .args .t) (start .pre .1 .0) (start .args .i)
+          (start .pre .1 .1),
+    )
 
 word-at-requires : tie.Need-word-at-requires
 word-at-requires c κs =
-    let page = now (c .before .before .before .args .page) in
-    let a = child-above page (c .before .before .before .pre .0 .sound) (c .before .before .before .args .t) (c .before .before .before .pre .1 .0) (c .before .before .before .args .i) (c .before .before .before .pre .1 .1) in
-    let e = offset-is page (now (c .before .before .before .args .offsets)) (c .before .before .before .pre .0) (c .before .before .before .args .t) (c .before .before .before .pre .1 .0) (c .offset-of .result) a (c .offset-of .ensures) in
-    search (needs, e, child-inside page (c .before .before .before .pre .0 .sound) (c .before .before .before .args .t) (c .before .before .before .pre .1 .0) (c .before .before .before .args .i) (c .before .before .before .pre .1 .1))
+    let start = c .before .before .before in
+    let page = now (start .args .page) in
+    let a = child-above page (start .pre .0 .sound) (start .args .t) (start .pre .1 .0) (start .args .i) (start .pre .1 .1) in
+    let e =
+    offset-is page (now (start .args .offsets)) (start .pre .0) (start .args .t) (start .pre .1 .0) (c .offset-of .result) a
+    (c .offset-of .ensures) in
+    search (
+      needs,
+      e,
+      child-inside page (start .pre .0 .sound) (start .args .t) (start .pre .1 .0) (start .args .i)
+          (start .pre .1 .1),
+    )
 
 returns : tie.Need-returns
 unfolding childOf
 returns c =
-    let page = now (c .before .before .before .before .args .page) in
-    let a = child-above page (c .before .before .before .before .pre .0 .sound) (c .before .before .before .before .args .t) (c .before .before .before .before .pre .1 .0) (c .before .before .before .before .args .i) (c .before .before .before .before .pre .1 .1) in
-    let e = offset-is page (now (c .before .before .before .before .args .offsets)) (c .before .before .before .before .pre .0) (c .before .before .before .before .args .t) (c .before .before .before .before .pre .1 .0) (c .before .offset-of .result) a (c .before .offset-of .ensures) in
+    let start = c .before .before .before .before in
+    let offset-of = c .before .offset-of in
+    let page = now (start .args .page) in
+    let a = child-above page (start .pre .0 .sound) (start .args .t) (start .pre .1 .0) (start .args .i) (start .pre .1 .1) in
+    let e =
+    offset-is page (now (start .args .offsets)) (start .pre .0) (start .args .t) (start .pre .1 .0) (offset-of .result) a
+    (offset-of .ensures) in
     let r = rw e at (c .word-at .ensures .0) in
-    (r, rw r (child-lower page (c .before .before .before .before .pre .0 .sound) (c .before .before .before .before .args .t) (c .before .before .before .before .pre .1 .0) (c .before .before .before .before .args .i) (c .before .before .before .before .pre .1 .1)))
+    (r, rw r (child-lower page (start .pre .0 .sound) (start .args .t) (start .pre .1 .0) (start .args .i) (start .pre .1 .1)))
 
 pub child-of-spec : {M : Type 1} → statement M
 child-of-spec =

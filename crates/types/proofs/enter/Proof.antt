@@ -7,10 +7,15 @@ use Rattle.types.proofs.enter.Statement.{statement}
 use Rattle.types.proofs.enter.Tie as tie
 
 count-requires : tie.Need-count-requires
-count-requires c κs = enter-two (now (c .before .before .before .before .before .args .page)) _ _ _ (c .before .before .before .before .before .pre)
+count-requires c κs =
+    let start = c .before .before .before .before .before in
+    enter-two (now (start .args .page)) _ _ _ (start .pre)
 
 find-entry-requires : tie.Need-find-entry-requires
-find-entry-requires c κs = enter-end (now (c .before .before .before .before .before .before .before .args .page)) _ _ _ (c .before .before .before .before .before .before .before .pre) (c .before .count .result) (c .before .count .ensures .0)
+find-entry-requires c κs =
+    let start = c .before .before .before .before .before .before .before in
+    let count = c .before .count in
+    enter-end (now (start .args .page)) _ _ _ (start .pre) (count .result) (count .ensures .0)
 
 add-t15 : tie.Need-add-t15
 add-t15 c = search needs
@@ -20,11 +25,17 @@ same-length c = search needs
 
 returns : tie.Need-returns
 returns c =
-    let a = c .before .before .before .before .before .before .before .before .before .args in
-    enter-known (now (a .page)) _ _ (now (a .entry)) (c .before .before .before .before .before .before .before .before .before .pre) (c .before .before .before .count .result) (c .before .find-entry .result) (c .before .before .before .count .ensures .0) (c .before .find-entry .ensures .0) (c .if1 .taken)
+    let start = c .before .before .before .before .before .before .before .before .before in
+    let count = c .before .before .before .count in
+    let find-entry = c .before .find-entry in
+    let a = start .args in
+    enter-known (now (a .page)) _ _ (now (a .entry)) (start .pre) (count .result) (find-entry .result) (count .ensures .0)
+    (find-entry .ensures .0) (c .if1 .taken)
 
 entry-depth-requires : tie.Need-entry-depth-requires
-entry-depth-requires c κs = enter-asks (now (c .before .before .before .before .before .before .before .before .before .before .args .page)) _ _ (now (c .before .before .before .before .before .before .before .before .before .before .args .entry)) (c .before .before .before .before .before .before .before .before .before .before .pre)
+entry-depth-requires c κs =
+    let start = c .before .before .before .before .before .before .before .before .before .before in
+    enter-asks (now (start .args .page)) _ _ (now (start .args .entry)) (start .pre)
 
 same-length-2 : tie.Need-same-length-2
 same-length-2 c = search needs
@@ -34,10 +45,17 @@ same-length-3 c = search needs
 
 returns-2 : tie.Need-returns-2
 returns-2 c =
-    let a = c .before .before .before .before .before .before .before .before .before .before .before .before .args in
-    let d = enter-depth (now (a .page)) (now (a .offsets)) (now (a .depths)) (now (a .entry)) (c .before .before .before .before .before .before .before .before .before .before .before .before .pre) (c .before .entry-depth .result) (c .before .entry-depth .ensures .0) in
-    enter-deep (now (a .page)) _ _ (now (a .entry)) (c .before .before .before .before .before .before .before .before .before .before .before .before .pre) (c .before .before .before .before .before .before .count .result) (c .before .before .before .before .find-entry .result) (c .before .before .before .before .before .before .count .ensures .0) (c .before .before .before .before .find-entry .ensures .0) (c .before .before .before .if1 .left)
-    (c .before .entry-depth .result) d (c .if2 .taken)
+    let start = c .before .before .before .before .before .before .before .before .before .before .before .before in
+    let entry-depth = c .before .entry-depth in
+    let count = c .before .before .before .before .before .before .count in
+    let find-entry = c .before .before .before .before .find-entry in
+    let if1 = c .before .before .before .if1 in
+    let a = start .args in
+    let d =
+    enter-depth (now (a .page)) (now (a .offsets)) (now (a .depths)) (now (a .entry)) (start .pre) (entry-depth .result)
+    (entry-depth .ensures .0) in
+    enter-deep (now (a .page)) _ _ (now (a .entry)) (start .pre) (count .result) (find-entry .result) (count .ensures .0)
+    (find-entry .ensures .0) (if1 .left) (entry-depth .result) d (c .if2 .taken)
 
 same-length-4 : tie.Need-same-length-4
 same-length-4 c = search needs
@@ -47,10 +65,18 @@ same-length-5 c = search needs
 
 returns-3 : tie.Need-returns-3
 returns-3 c =
-    let a = c .before .before .before .before .before .before .before .before .before .before .before .before .before .args in
-    let d = enter-depth (now (a .page)) (now (a .offsets)) (now (a .depths)) (now (a .entry)) (c .before .before .before .before .before .before .before .before .before .before .before .before .before .pre) (c .before .before .entry-depth .result) (c .before .before .entry-depth .ensures .0) in
-    enter-many (now (a .page)) _ _ (now (a .entry)) (c .before .before .before .before .before .before .before .before .before .before .before .before .before .pre) (c .before .before .before .before .before .before .before .count .result) (c .before .before .before .before .before .find-entry .result) (c .before .before .before .before .before .before .before .count .ensures .0) (c .before .before .before .before .before .find-entry .ensures .0) (c .before .before .before .before .if1 .left)
-    (c .before .before .entry-depth .result) d (c .before .if2 .left) (c .if3 .taken)
+    let start = c .before .before .before .before .before .before .before .before .before .before .before .before .before in
+    let entry-depth = c .before .before .entry-depth in
+    let count = c .before .before .before .before .before .before .before .count in
+    let find-entry = c .before .before .before .before .before .find-entry in
+    let if1 = c .before .before .before .before .if1 in
+    let if2 = c .before .if2 in
+    let a = start .args in
+    let d =
+    enter-depth (now (a .page)) (now (a .offsets)) (now (a .depths)) (now (a .entry)) (start .pre) (entry-depth .result)
+    (entry-depth .ensures .0) in
+    enter-many (now (a .page)) _ _ (now (a .entry)) (start .pre) (count .result) (find-entry .result) (count .ensures .0)
+    (find-entry .ensures .0) (if1 .left) (entry-depth .result) d (if2 .left) (c .if3 .taken)
 
 add-offset-of : tie.Need-add-offset-of
 add-offset-of c = search needs
@@ -60,9 +86,19 @@ offset-of-requires c κs = search needs
 
 add-if4 : tie.Need-add-if4
 add-if4 c =
-    let a = c .before .before .before .before .before .before .before .before .before .before .before .before .before .before .before .args in
-    let e = enter-place (now (a .page)) (now (a .offsets)) (now (a .depths)) (now (a .entry)) (c .before .before .before .before .before .before .before .before .before .before .before .before .before .before .before .pre) (c .before .before .before .before .before .before .before .before .before .count .result) (c .offset-of .result) (c .before .before .before .before .before .before .before .before .before .count .ensures .0) (c .offset-of .ensures) in
-    search (needs, e, enter-end (now (a .page)) (now (a .offsets)) (now (a .depths)) (now (a .entry)) (c .before .before .before .before .before .before .before .before .before .before .before .before .before .before .before .pre) (c .before .before .before .before .before .before .before .before .before .count .result) (c .before .before .before .before .before .before .before .before .before .count .ensures .0))
+    let start =
+    c .before .before .before .before .before .before .before .before .before .before .before .before .before .before .before in
+    let count = c .before .before .before .before .before .before .before .before .before .count in
+    let a = start .args in
+    let e =
+    enter-place (now (a .page)) (now (a .offsets)) (now (a .depths)) (now (a .entry)) (start .pre) (count .result)
+    (c .offset-of .result) (count .ensures .0) (c .offset-of .ensures) in
+    search (
+      needs,
+      e,
+      enter-end (now (a .page)) (now (a .offsets)) (now (a .depths)) (now (a .entry)) (start .pre) (count .result)
+          (count .ensures .0),
+    )
 
 same-length-6 : tie.Need-same-length-6
 same-length-6 c = search needs
@@ -75,11 +111,25 @@ same-length-8 c = search needs
 
 returns-4 : tie.Need-returns-4
 returns-4 c =
-    let a = c .before .before .before .before .before .before .before .before .before .before .before .before .before .before .before .before .args in
-    let d = enter-depth (now (a .page)) (now (a .offsets)) (now (a .depths)) (now (a .entry)) (c .before .before .before .before .before .before .before .before .before .before .before .before .before .before .before .before .pre) (c .before .before .before .before .before .entry-depth .result) (c .before .before .before .before .before .entry-depth .ensures .0) in
-    let e = enter-place (now (a .page)) (now (a .offsets)) (now (a .depths)) (now (a .entry)) (c .before .before .before .before .before .before .before .before .before .before .before .before .before .before .before .before .pre) (c .before .before .before .before .before .before .before .before .before .before .count .result) (c .before .offset-of .result) (c .before .before .before .before .before .before .before .before .before .before .count .ensures .0) (c .before .offset-of .ensures) in
-    enter-short (now (a .page)) _ _ (now (a .entry)) (c .before .before .before .before .before .before .before .before .before .before .before .before .before .before .before .before .pre) (c .before .before .before .before .before .before .before .before .before .before .count .result) (c .before .before .before .before .before .before .before .before .find-entry .result) (c .before .before .before .before .before .before .before .before .before .before .count .ensures .0) (c .before .before .before .before .before .before .before .before .find-entry .ensures .0) (c .before .before .before .before .before .before .before .if1 .left)
-    (c .before .before .before .before .before .entry-depth .result) d (c .before .before .before .before .if2 .left) (c .before .before .before .if3 .left) (c .before .offset-of .result) e (c .if4 .taken)
+    let start =
+    c .before .before .before .before .before .before .before .before .before .before .before .before .before .before .before
+    .before in
+    let entry-depth = c .before .before .before .before .before .entry-depth in
+    let count = c .before .before .before .before .before .before .before .before .before .before .count in
+    let offset-of = c .before .offset-of in
+    let find-entry = c .before .before .before .before .before .before .before .before .find-entry in
+    let if1 = c .before .before .before .before .before .before .before .if1 in
+    let if2 = c .before .before .before .before .if2 in
+    let if3 = c .before .before .before .if3 in
+    let a = start .args in
+    let d =
+    enter-depth (now (a .page)) (now (a .offsets)) (now (a .depths)) (now (a .entry)) (start .pre) (entry-depth .result)
+    (entry-depth .ensures .0) in
+    let e =
+    enter-place (now (a .page)) (now (a .offsets)) (now (a .depths)) (now (a .entry)) (start .pre) (count .result)
+    (offset-of .result) (count .ensures .0) (offset-of .ensures) in
+    enter-short (now (a .page)) _ _ (now (a .entry)) (start .pre) (count .result) (find-entry .result) (count .ensures .0)
+    (find-entry .ensures .0) (if1 .left) (entry-depth .result) d (if2 .left) (if3 .left) (offset-of .result) e (c .if4 .taken)
 
 add-count-bytes : tie.Need-add-count-bytes
 add-count-bytes c = search needs
@@ -95,7 +145,12 @@ slice-aggregate-put-bytes c = search needs
 
 put-bytes-requires-2 : tie.Need-put-bytes-requires-2
 put-bytes-requires-2 c κs =
-    let two = enter-two (now (c .before .before .before .before .before .before .before .before .before .before .before .before .before .before .before .before .before .before .before .before .before .before .before .args .page)) (now (c .before .before .before .before .before .before .before .before .before .before .before .before .before .before .before .before .before .before .before .before .before .before .before .args .offsets)) (now (c .before .before .before .before .before .before .before .before .before .before .before .before .before .before .before .before .before .before .before .before .before .before .before .args .depths)) (now (c .before .before .before .before .before .before .before .before .before .before .before .before .before .before .before .before .before .before .before .before .before .before .before .args .entry)) (c .before .before .before .before .before .before .before .before .before .before .before .before .before .before .before .before .before .before .before .before .before .before .before .pre) in
+    let start =
+    c .before .before .before .before .before .before .before .before .before .before .before .before .before .before .before
+    .before .before .before .before .before .before .before .before in
+    let two =
+    enter-two (now (start .args .page)) (now (start .args .offsets)) (now (start .args .depths)) (now (start .args .entry))
+    (start .pre) in
     search (needs, two)
 
 add-set-offset : tie.Need-add-set-offset
@@ -108,7 +163,18 @@ set-offset-requires : tie.Need-set-offset-requires
 set-offset-requires c κs = search needs
 
 set-depth-requires : tie.Need-set-depth-requires
-set-depth-requires c κs = (omega (arith, c .before .before .before .before .before .before .before .before .before .before .before .before .before .before .before .before .before .before .before .before .before .before .before .before .before .before .before .before .before .before .before .pre .measured .size, c .before .before .before .before .before .before .before .before .before .before .before .before .before .before .before .before .before .before .if3 .left), omega (arith, c .before .before .before .before .before .before .before .before .before .before .before .before .before .before .before .before .before .before .before .if2 .left))
+set-depth-requires c κs =
+    let start =
+    c .before .before .before .before .before .before .before .before .before .before .before .before .before .before .before
+    .before .before .before .before .before .before .before .before .before .before .before .before .before .before .before .before
+    in
+    let if3 =
+    c .before .before .before .before .before .before .before .before .before .before .before .before .before .before .before
+    .before .before .before .if3 in
+    let if2 =
+    c .before .before .before .before .before .before .before .before .before .before .before .before .before .before .before
+    .before .before .before .before .if2 in
+    (omega (arith, start .pre .measured .size, if3 .left), omega (arith, if2 .left))
 
 add-t24 : tie.Need-add-t24
 add-t24 c = search needs
@@ -124,12 +190,53 @@ same-length-11 c = search needs
 
 returns-5 : tie.Need-returns-5
 returns-5 c =
-    let a = c .before .before .before .before .before .before .before .before .before .before .before .before .before .before .before .before .before .before .before .before .before .before .before .before .before .before .before .before .before .before .before .before .before .before .args in
-    let d = enter-depth (now (a .page)) (now (a .offsets)) (now (a .depths)) (now (a .entry)) (c .before .before .before .before .before .before .before .before .before .before .before .before .before .before .before .before .before .before .before .before .before .before .before .before .before .before .before .before .before .before .before .before .before .before .pre) (c .before .before .before .before .before .before .before .before .before .before .before .before .before .before .before .before .before .before .before .before .before .before .before .entry-depth .result) (c .before .before .before .before .before .before .before .before .before .before .before .before .before .before .before .before .before .before .before .before .before .before .before .entry-depth .ensures .0) in
-    let e = enter-place (now (a .page)) (now (a .offsets)) (now (a .depths)) (now (a .entry)) (c .before .before .before .before .before .before .before .before .before .before .before .before .before .before .before .before .before .before .before .before .before .before .before .before .before .before .before .before .before .before .before .before .before .before .pre) (c .before .before .before .before .before .before .before .before .before .before .before .before .before .before .before .before .before .before .before .before .before .before .before .before .before .before .before .before .count .result) (c .before .before .before .before .before .before .before .before .before .before .before .before .before .before .before .before .before .before .before .offset-of .result) (c .before .before .before .before .before .before .before .before .before .before .before .before .before .before .before .before .before .before .before .before .before .before .before .before .before .before .before .before .count .ensures .0) (c .before .before .before .before .before .before .before .before .before .before .before .before .before .before .before .before .before .before .before .offset-of .ensures) in
-    rw (c .before .before .before .before .before .before .before .before .before .before .put-bytes2 .ensures, c .before .before .before .before .before .before .before .before .before .before .before .before .before .before .before .put-bytes .ensures, c .before .before .before .before .before .before .set-offset .ensures, c .before .before .set-depth .ensures, c .before .before .before .before .before .before .before .before .before .before .before .before .before .before .before .before .before .count-bytes .ensures)
-    (enter-new (now (a .page)) _ _ (now (a .entry)) (c .before .before .before .before .before .before .before .before .before .before .before .before .before .before .before .before .before .before .before .before .before .before .before .before .before .before .before .before .before .before .before .before .before .before .pre) (c .before .before .before .before .before .before .before .before .before .before .before .before .before .before .before .before .before .before .before .before .before .before .before .before .before .before .before .before .count .result) (c .before .before .before .before .before .before .before .before .before .before .before .before .before .before .before .before .before .before .before .before .before .before .before .before .before .before .find-entry .result) (c .before .before .before .before .before .before .before .before .before .before .before .before .before .before .before .before .before .before .before .before .before .before .before .before .before .before .before .before .count .ensures .0) (c .before .before .before .before .before .before .before .before .before .before .before .before .before .before .before .before .before .before .before .before .before .before .before .before .before .before .find-entry .ensures .0) (c .before .before .before .before .before .before .before .before .before .before .before .before .before .before .before .before .before .before .before .before .before .before .before .before .before .if1 .left)
-    (c .before .before .before .before .before .before .before .before .before .before .before .before .before .before .before .before .before .before .before .before .before .before .before .entry-depth .result) d (c .before .before .before .before .before .before .before .before .before .before .before .before .before .before .before .before .before .before .before .before .before .before .if2 .left) (c .before .before .before .before .before .before .before .before .before .before .before .before .before .before .before .before .before .before .before .before .before .if3 .left) (c .before .before .before .before .before .before .before .before .before .before .before .before .before .before .before .before .before .before .before .offset-of .result) e (c .before .before .before .before .before .before .before .before .before .before .before .before .before .before .before .before .before .before .if4 .left))
+    let start =
+    c .before .before .before .before .before .before .before .before .before .before .before .before .before .before .before
+    .before .before .before .before .before .before .before .before .before .before .before .before .before .before .before .before
+    .before .before .before in
+    let entry-depth =
+    c .before .before .before .before .before .before .before .before .before .before .before .before .before .before .before
+    .before .before .before .before .before .before .before .before .entry-depth in
+    let count =
+    c .before .before .before .before .before .before .before .before .before .before .before .before .before .before .before
+    .before .before .before .before .before .before .before .before .before .before .before .before .before .count in
+    let offset-of =
+    c .before .before .before .before .before .before .before .before .before .before .before .before .before .before .before
+    .before .before .before .before .offset-of in
+    let put-bytes2 = c .before .before .before .before .before .before .before .before .before .before .put-bytes2 in
+    let put-bytes =
+    c .before .before .before .before .before .before .before .before .before .before .before .before .before .before .before
+    .put-bytes in
+    let set-offset = c .before .before .before .before .before .before .set-offset in
+    let set-depth = c .before .before .set-depth in
+    let count-bytes =
+    c .before .before .before .before .before .before .before .before .before .before .before .before .before .before .before
+    .before .before .count-bytes in
+    let find-entry =
+    c .before .before .before .before .before .before .before .before .before .before .before .before .before .before .before
+    .before .before .before .before .before .before .before .before .before .before .before .find-entry in
+    let if1 =
+    c .before .before .before .before .before .before .before .before .before .before .before .before .before .before .before
+    .before .before .before .before .before .before .before .before .before .before .if1 in
+    let if2 =
+    c .before .before .before .before .before .before .before .before .before .before .before .before .before .before .before
+    .before .before .before .before .before .before .before .if2 in
+    let if3 =
+    c .before .before .before .before .before .before .before .before .before .before .before .before .before .before .before
+    .before .before .before .before .before .before .if3 in
+    let if4 =
+    c .before .before .before .before .before .before .before .before .before .before .before .before .before .before .before
+    .before .before .before .if4 in
+    let a = start .args in
+    let d =
+    enter-depth (now (a .page)) (now (a .offsets)) (now (a .depths)) (now (a .entry)) (start .pre) (entry-depth .result)
+    (entry-depth .ensures .0) in
+    let e =
+    enter-place (now (a .page)) (now (a .offsets)) (now (a .depths)) (now (a .entry)) (start .pre) (count .result)
+    (offset-of .result) (count .ensures .0) (offset-of .ensures) in
+    rw (put-bytes2 .ensures, put-bytes .ensures, set-offset .ensures, set-depth .ensures, count-bytes .ensures)
+    (enter-new (now (a .page)) _ _ (now (a .entry)) (start .pre) (count .result) (find-entry .result) (count .ensures .0)
+    (find-entry .ensures .0) (if1 .left) (entry-depth .result) d (if2 .left) (if3 .left) (offset-of .result) e (if4 .left))
 
 pub enter-spec : {M : Type 1} → statement M
 enter-spec =

@@ -17,13 +17,19 @@ part-enter-start c = search needs
 
 part-enter-end : tie.Need-part-enter-end
 part-enter-end c =
-    let a = c .before .before .before .before .before .before .before .before .before .before .args in
-    entry-places (entryOf (a .kind) (now (a .children)) (a .name)) (c .before .before .before .before .before .entry-of .result .bytes) (c .before .before .before .before .before .entry-of .result .size) (c .before .before .before .before .before .entry-of .ensures)
+    let start = c .before .before .before .before .before .before .before .before .before .before in
+    let entry-of = c .before .before .before .before .before .entry-of in
+    let a = start .args in
+    entry-places (entryOf (a .kind) (now (a .children)) (a .name)) (entry-of .result .bytes) (entry-of .result .size)
+    (entry-of .ensures)
 
 enter-requires : tie.Need-enter-requires
 enter-requires c κs =
-    let a = c .before .before .before .before .before .before .before .before .before .before .before .args in
-    rw (entry-front (entryOf (a .kind) (now (a .children)) (a .name)) (c .before .before .before .before .before .before .entry-of .result .bytes) (c .before .before .before .before .before .before .entry-of .result .size) (c .before .before .before .before .before .before .entry-of .ensures)) (c .before .before .before .before .before .before .before .before .before .before .before .pre .1)
+    let start = c .before .before .before .before .before .before .before .before .before .before .before in
+    let entry-of = c .before .before .before .before .before .before .entry-of in
+    let a = start .args in
+    rw (entry-front (entryOf (a .kind) (now (a .children)) (a .name)) (entry-of .result .bytes) (entry-of .result .size)
+    (entry-of .ensures)) (start .pre .1)
 
 same-length : tie.Need-same-length
 same-length c = search needs
@@ -36,9 +42,17 @@ same-length-3 c = search needs
 
 returns : tie.Need-returns
 returns c =
-    let a = c .before .before .before .before .before .before .before .before .before .before .before .before .before .before .before .before .before .before .args in
-    let e = entry-front (entryOf (a .kind) (now (a .children)) (a .name)) (c .before .before .before .before .before .before .before .before .before .before .before .before .before .entry-of .result .bytes) (c .before .before .before .before .before .before .before .before .before .before .before .before .before .entry-of .result .size) (c .before .before .before .before .before .before .before .before .before .before .before .before .before .entry-of .ensures) in
-    rw e at (c .before .before .before .before .before .before .enter .ensures)
+    let start =
+    c .before .before .before .before .before .before .before .before .before .before .before .before .before .before .before
+    .before .before .before in
+    let entry-of =
+    c .before .before .before .before .before .before .before .before .before .before .before .before .before .entry-of in
+    let enter = c .before .before .before .before .before .before .enter in
+    let a = start .args in
+    let e =
+    entry-front (entryOf (a .kind) (now (a .children)) (a .name)) (entry-of .result .bytes) (entry-of .result .size)
+    (entry-of .ensures) in
+    rw e at (enter .ensures)
 
 pub enter-type-spec : {M : Type 1} → statement M
 enter-type-spec =

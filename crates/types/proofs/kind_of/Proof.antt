@@ -14,25 +14,41 @@ returns c = kind-fixed (now (c .before .before .before .args .page)) (c .before 
 
 offset-of-requires : tie.Need-offset-of-requires
 offset-of-requires c κs =
-    offset-asks (now (c .before .before .before .args .page)) (now (c .before .before .before .args .offsets)) (c .before .before .before .pre .0) (c .before .before .before .args .t) (c .before .before .before .pre .1) (c .if1 .left)
+    let start = c .before .before .before in
+    offset-asks (now (start .args .page)) (now (start .args .offsets)) (start .pre .0) (start .args .t) (start .pre .1)
+    (c .if1 .left)
 
 add-result : tie.Need-add-result
 add-result c =
-    let page = now (c .before .before .before .before .args .page) in
-    let e = offset-is page (now (c .before .before .before .before .args .offsets)) (c .before .before .before .before .pre .0) (c .before .before .before .before .args .t) (c .before .before .before .before .pre .1) (c .offset-of .result) (c .before .if1 .left) (c .offset-of .ensures) in
-    search (needs, e, head-inside page (c .before .before .before .before .pre .0 .sound) (c .before .before .before .before .args .t) (c .before .before .before .before .pre .1) (c .before .if1 .left))
+    let start = c .before .before .before .before in
+    let if1 = c .before .if1 in
+    let page = now (start .args .page) in
+    let e =
+    offset-is page (now (start .args .offsets)) (start .pre .0) (start .args .t) (start .pre .1) (c .offset-of .result) (if1 .left)
+    (c .offset-of .ensures) in
+    search (needs, e, head-inside page (start .pre .0 .sound) (start .args .t) (start .pre .1) (if1 .left))
 
 shared-slice-read-result : tie.Need-shared-slice-read-result
 shared-slice-read-result c =
-    let page = now (c .before .before .before .before .before .args .page) in
-    let e = offset-is page (now (c .before .before .before .before .before .args .offsets)) (c .before .before .before .before .before .pre .0) (c .before .before .before .before .before .args .t) (c .before .before .before .before .before .pre .1) (c .before .offset-of .result) (c .before .before .if1 .left) (c .before .offset-of .ensures) in
-    omega (arith, e, head-inside page (c .before .before .before .before .before .pre .0 .sound) (c .before .before .before .before .before .args .t) (c .before .before .before .before .before .pre .1) (c .before .before .if1 .left))
+    let start = c .before .before .before .before .before in
+    let offset-of = c .before .offset-of in
+    let if1 = c .before .before .if1 in
+    let page = now (start .args .page) in
+    let e =
+    offset-is page (now (start .args .offsets)) (start .pre .0) (start .args .t) (start .pre .1) (offset-of .result) (if1 .left)
+    (offset-of .ensures) in
+    omega (arith, e, head-inside page (start .pre .0 .sound) (start .args .t) (start .pre .1) (if1 .left))
 
 returns-2 : tie.Need-returns-2
 returns-2 c =
-    let page = now (c .before .before .before .before .before .args .page) in
-    let e = offset-is page (now (c .before .before .before .before .before .args .offsets)) (c .before .before .before .before .before .pre .0) (c .before .before .before .before .before .args .t) (c .before .before .before .before .before .pre .1) (c .before .offset-of .result) (c .before .before .if1 .left) (c .before .offset-of .ensures) in
-    rw e (kind-entry page (c .before .before .before .before .before .args .t) (c .before .before .if1 .left))
+    let start = c .before .before .before .before .before in
+    let offset-of = c .before .offset-of in
+    let if1 = c .before .before .if1 in
+    let page = now (start .args .page) in
+    let e =
+    offset-is page (now (start .args .offsets)) (start .pre .0) (start .args .t) (start .pre .1) (offset-of .result) (if1 .left)
+    (offset-of .ensures) in
+    rw e (kind-entry page (start .args .t) (if1 .left))
 
 pub kind-of-spec : {M : Type 1} → statement M
 kind-of-spec =
