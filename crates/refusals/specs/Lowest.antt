@@ -1,9 +1,9 @@
--- "The lowest number that applies comes first" (document 01, below the table): a call lists its conditions, and the
--- refusal with the lowest number among those that apply is given, in whatever order they are listed.
+-- "The lowest number that applies comes first" (document 01, below the table): a call lists its conditions, and of the refusals
+-- that apply the first in the order of refusals is given, in whatever order they are listed.
 use mathlib.Core.Bool.{Bool, cond}
 use mathlib.Core.List.{List, [], _∷_}
 use lib.Dec.{leb}
-use Rattle.refusals.specs.Numbers.{numberOf}
+use Rattle.refusals.specs.Numbers.{rankOf}
 use Rattle.refusals.specs.declared.Refusal.{Refusal}
 use Rattle.refusals.specs.declared.Verdict.{Verdict}
 use Rattle.refusals.specs.declared.Verdict.the-variants.{Passed, Refused}
@@ -14,12 +14,12 @@ infix 20 _when_
 pub data Condition : Type 0 where
   _when_ : Refusal → Bool → Condition
 
--- of a refusal and a verdict, what has the lower number
+-- of a refusal and a verdict, what comes first
 abbrev pub lower : Refusal → Verdict → Verdict
 lower r Passed = Refused r
-lower r (Refused s) = Refused (cond (leb (numberOf r) (numberOf s)) r s)
+lower r (Refused s) = Refused (cond (leb (rankOf r) (rankOf s)) r s)
 
--- the lowest refusal that applies
+-- the first refusal that applies
 abbrev pub lowest : List Condition → Verdict
 lowest [] = Passed
 lowest ((r when b) ∷ cs) = cond b (lower r (lowest cs)) (lowest cs)

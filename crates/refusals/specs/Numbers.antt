@@ -20,6 +20,10 @@ numberOf Symbols = 9
 numberOf Full = 10
 numberOf Sheet = 11
 
+-- its place in the order in which refusals are given: "The lowest number that applies comes first"
+abbrev pub rankOf : Refusal → ℕ
+rankOf r = numberOf r
+
 -- a verdict as a number: 0 where nothing is refused
 abbrev pub codeOf : Verdict → ℕ
 codeOf Passed = 0
