@@ -2,13 +2,14 @@
 use mathlib.Core.Path.{_≡_, refl, sym, _∙_, ap}
 use mathlib.Core.Bool.{Bool, true, false, _&&_}
 use mathlib.Core.Logic.{⊎-elim}
-use mathlib.Core.List.{List, [], _∷_}
+use mathlib.Core.List.{List, [], _∷_, _++_}
 use Prim.Native.Nat.{ℕ, zero, suc, _+_, _-_, _*_, _/_, _%_, _^_, _<_, _≤_}
-use native.Mathlib.Nat.{add-zero, pow-suc, div-one, mod-eq-of-lt, div-eq-of-lt, div-div-eq-div-mul, sub-zero, not-suc-le-zero, le-of-suc-le-suc, eq-or-lt-of-le}
+use native.Mathlib.Nat.{add-zero, pow-suc, div-one, div-eq-of-lt, div-div-eq-div-mul, sub-zero, not-suc-le-zero, le-of-suc-le-suc, eq-or-lt-of-le}
 use native.Mathlib.Numerals.{add-one}
 use native.Mathlib.Omega.{arith}
-use lib.ListN.{length, getD, drop, replicate, drop-of-length-le}
-use lib.Seq.{drop-cons}
+use lib.ListN.{length, getD, take, drop, replicate, length-drop, drop-of-length-le, take-append-drop}
+use lib.Seq.{take-all, drop-cons, drop-drop}
+use lib.Bits.{bitOr, or-zero-l, or-add-and, and-le-r}
 use lib.Dec.{eqb}
 use borrow.Author.Tests.{eq-eqb, ne-eqb, eqb-true}
 use Rattle.pages.specs.Bytes.{eqs, zeros, wordAt, bigEndian, numberAt, longBytes}
@@ -40,20 +41,57 @@ eqs-length [] (y ∷ m) h = refl
 eqs-length (x ∷ l) [] h = refl
 eqs-length (x ∷ l) (y ∷ m) h = rw (eqs-length l m (λ e. h (ap suc e))) (and-false (eqb x y))
 
+-- an OR is 0 where both numbers are
+bits-zero : (a b : ℕ) → eqb (bitOr a b) 0 ≡ (eqb a 0 && eqb b 0)
+bits-zero zero b = rw (or-zero-l b)
+bits-zero (suc a) b =
+    let more : bitOr (suc a) b ≡ 0 → ⊥ = λ e. omega (arith, or-add-and (suc a) b, and-le-r (suc a) b) in
+    rw (ne-eqb (bitOr (suc a) b) 0 more, ne-eqb (suc a) 0 (λ e. omega arith))
+
+and-assoc : (a b c : Bool) → ((a && b) && c) ≡ (a && (b && c))
+and-assoc true b c = refl
+and-assoc false b c = refl
+
+and-self : (a : Bool) → (a && true) ≡ a
+and-self true = refl
+and-self false = refl
+
 module _ (l : List ℕ) (i : ℕ) (il : i < length l) where
   zero-at : zeros (drop i l) ≡ (eqb (getD l i 0) 0 && zeros (drop (i + 1) l))
   unfolding zeros
   zero-at = rw (drop-cons l i 0 il, add-one i)
 
-  pub zeros-on : getD l i 0 ≡ 0 → zeros (drop i l) ≡ zeros (drop (i + 1) l)
-  zeros-on e = zero-at ∙ rw (eq-eqb (getD l i 0) 0 e)
+  -- the bits of one more byte
+  pub bits-more : (a : ℕ) → (eqb a 0 && zeros (drop i l)) ≡ (eqb (bitOr a (getD l i 0)) 0 && zeros (drop (i + 1) l))
+  bits-more a = rw (zero-at, bits-zero a (getD l i 0)) (sym (and-assoc (eqb a 0) (eqb (getD l i 0) 0) (zeros (drop (i + 1) l))))
 
-  pub zeros-off : (getD l i 0 ≡ 0 → ⊥) → zeros (drop i l) ≡ false
-  zeros-off e = zero-at ∙ rw (ne-eqb (getD l i 0) 0 e)
-
-pub zeros-end : (l : List ℕ) (i : ℕ) → length l ≤ i → zeros (drop i l) ≡ true
+-- the bits of every byte
+pub bits-all : (a : ℕ) (l : List ℕ) (i : ℕ) → length l ≤ i → eqb a 0 ≡ (eqb a 0 && zeros (drop i l))
 unfolding zeros
-zeros-end l i h = rw (drop-of-length-le l h)
+bits-all a l i h = rw (drop-of-length-le l h) (sym (and-self (eqb a 0)))
+
+zeros-append : (l m : List ℕ) → zeros (l ++ m) ≡ (zeros l && zeros m)
+unfolding zeros
+zeros-append [] m = refl
+zeros-append (x ∷ l) m = rw (zeros-append l m) (sym (and-assoc (eqb x 0) (zeros l) (zeros m)))
+
+-- a block of n bytes, and what is after it
+module _ (l : List ℕ) (i n : ℕ) where
+  zero-block : zeros (drop i l) ≡ (zeros (take n (drop i l)) && zeros (drop (i + n) l))
+  zero-block = ap zeros (sym (take-append-drop n (drop i l))) ∙ zeros-append (take n (drop i l)) (drop n (drop i l)) ∙ rw (drop-drop n i l)
+
+  part : i + n - i ≡ n
+  part = omega arith
+
+  pub zeros-on : zeros (take (i + n - i) (drop i l)) ≡ true → zeros (drop i l) ≡ zeros (drop (i + n) l)
+  zeros-on e = zero-block ∙ rw (rw part at e)
+
+  pub zeros-off : zeros (take (i + n - i) (drop i l)) ≡ false → zeros (drop i l) ≡ false
+  zeros-off e = zero-block ∙ rw (rw part at e)
+
+-- the bytes that are left
+pub zeros-rest : (l : List ℕ) (i : ℕ) → zeros (take (length l - i) (drop i l)) ≡ zeros (drop i l)
+zeros-rest l i = rw (take-all (length l - i) (drop i l) (omega (arith, length-drop i l)))
 
 -- lists that are equal byte for byte are equal
 pub eqs-true : (l m : List ℕ) → eqs l m ≡ true → l ≡ m
@@ -112,22 +150,6 @@ front bytes at n w h e (suc k) l =
     let o : w - suc k ≡ w - 1 - k = omega arith in
     rw (e k l, getD-big w n k l, front bytes at n w h e k (omega arith), m, pow-suc, o) (next-byte n (256 ^ (w - 1 - k)))
 
--- and say no more than it, however few they are
-front-most : (bytes : List ℕ) (at n w : ℕ)
-    → ((i : ℕ) → i < w → getD bytes (at + i) 0 ≡ getD (bigEndian w n) i 0) → (k : ℕ) → k ≤ w → numberAt bytes at k ≤ n / 256 ^ (w - k)
-front-most bytes at n w e zero l = omega arith
-front-most bytes at n w e (suc k) l =
-    let m : w - k ≡ suc (w - 1 - k) = omega arith in
-    let o : w - suc k ≡ w - 1 - k = omega arith in
-    let before : numberAt bytes at k ≤ n / (256 ^ (w - 1 - k) * 256) = rw (m, pow-suc) at (front-most bytes at n w e k (omega arith)) in
-    rw (e k l, getD-big w n k l, o) (omega (arith, before, next-byte n (256 ^ (w - 1 - k))))
-
-pub number-most : (bytes : List ℕ) (at n w : ℕ)
-    → ((i : ℕ) → i < w → getD bytes (at + i) 0 ≡ getD (bigEndian w n) i 0) → numberAt bytes at w ≤ n
-number-most bytes at n w e =
-    let z : w - w ≡ 0 = omega arith in
-    rw (z, div-one n) at (front-most bytes at n w e w (omega arith))
-
 -- the bytes of a number are as many as were asked for
 pub big-length : (k n : ℕ) → length (bigEndian k n) ≡ k
 big-length zero n = refl
@@ -161,8 +183,8 @@ number-one bytes at = rw add-zero (omega arith)
 pub number-two : (bytes : List ℕ) (at : ℕ) → numberAt bytes at 2 ≡ wordAt bytes at
 number-two bytes at = rw add-zero (omega arith)
 
-pub big-one : (n : ℕ) → n < 256 → bigEndian 1 n ≡ n ∷ []
-big-one n h = rw (div-one n, mod-eq-of-lt h) refl
+pub big-one : (n : ℕ) → bigEndian 1 n ≡ n % 256 ∷ []
+big-one n = rw (div-one n) refl
 
 -- eight bytes are four words
 pub four-words : (bytes : List ℕ) (at : ℕ)

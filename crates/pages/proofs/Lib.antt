@@ -2,4 +2,6 @@
 pub mod Quant
 pub mod Bytes
 pub mod Put
+pub mod Words
 pub mod Pad
+pub mod Low

@@ -1,7 +1,7 @@
 -- Tests over the numbers below n: what a loop over the numbers needs of them. Assumes nothing.
 use Prim.Native.Nat.{ℕ, zero, suc, _+_, _<_, _≤_}
 use mathlib.Core.Bool.{Bool, true, false, cond, _&&_, and-eq-true-iff}
-use mathlib.Core.Path.{_≡_, refl}
+use mathlib.Core.Path.{_≡_, refl, ap, _∙_}
 use mathlib.Core.Logic.{⊎-elim}
 use native.Mathlib.Numerals.{add-one}
 use native.Mathlib.Omega.{arith}
@@ -103,6 +103,20 @@ pub first-cong : (p q : ℕ → Bool) (n : ℕ) → ((i : ℕ) → i < n → p i
 unfolding firstTo
 first-cong p q zero h = refl
 first-cong p q (suc n) h = rw (any-cong p q n (λ i l. h i (omega arith)), first-cong p q n (λ i l. h i (omega arith)), h n (omega arith))
+
+-- the first number, and those after it
+pub all-front : (n : ℕ) (p : ℕ → Bool) → allTo (suc n) p ≡ (p 0 && allTo n (λ i. p (suc i)))
+unfolding allTo
+all-front zero p = go (p 0)
+  where
+    go : (b : Bool) → b ≡ (b && true)
+    go true = refl
+    go false = refl
+all-front (suc n) p = ap (λ (b : Bool). cond b (p (suc n)) false) (all-front n p) ∙ go (p 0) (allTo n (λ i. p (suc i))) (p (suc n))
+  where
+    go : (a b x : Bool) → cond (a && b) x false ≡ (a && cond b x false)
+    go true b x = refl
+    go false b x = refl
 
 pub all-each : (n : ℕ) (p : ℕ → Bool) → ((i : ℕ) → i < n → p i ≡ true) → allTo n p ≡ true
 unfolding allTo

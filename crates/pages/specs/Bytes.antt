@@ -22,9 +22,13 @@ zeros (x ∷ xs) = eqb x 0 && zeros xs
 abbrev pub within : ℕ → ℕ → ℕ → Bool
 within a b x = leb a x && leb x b
 
--- how many bytes the count at a page's front takes
+-- how many bytes a word, a number below 65,536, takes
+abbrev pub wordBytes : ℕ
+wordBytes = 2
+
+-- and the count at a page's front
 abbrev pub countBytes : ℕ
-countBytes = 2
+countBytes = wordBytes
 
 -- the number at index i, two bytes big-endian
 abbrev pub wordAt : List ℕ → ℕ → ℕ
@@ -37,6 +41,16 @@ countOf page = wordAt page 0
 -- the two bytes that say a number
 abbrev pub bytesOf : ℕ → List ℕ
 bytesOf n = n / 256 ∷ n % 256 ∷ []
+
+-- numbers, two bytes each
+unfoldable pub words : List ℕ → List ℕ
+words [] = []
+words (n ∷ ns) = n / 256 ∷ n % 256 ∷ words ns
+
+-- the k numbers from index i on, two bytes each
+unfoldable pub wordsAt : List ℕ → ℕ → ℕ → List ℕ
+wordsAt bytes i zero = []
+wordsAt bytes i (suc k) = wordAt bytes i ∷ wordsAt bytes (i + wordBytes) k
 
 -- the k bytes that say a number, big-endian
 abbrev pub bigEndian : ℕ → ℕ → List ℕ
@@ -51,6 +65,11 @@ numberAt bytes i (suc k) = numberAt bytes i k * 256 + getD bytes (i + k) 0
 -- how many bytes a number of 64 bits takes
 abbrev pub longBytes : ℕ
 longBytes = 8
+
+-- the lowest byte of each number
+unfoldable pub lowBytes : List ℕ → List ℕ
+lowBytes [] = []
+lowBytes (n ∷ ns) = n % 256 ∷ lowBytes ns
 
 -- the page with other bytes from index at on, and every other byte as it was
 abbrev pub put : List ℕ → ℕ → List ℕ → List ℕ

@@ -1,11 +1,15 @@
 // Bytes in lent pages.
 ghost use mathlib.Core.Path.{_≡_};
 ghost use Prim.Native.Nat.{_+_, _*_, _≤_, _<_};
-ghost use lib.ListN.{length, drop, replicate};
-ghost use Rattle.pages.specs.Bytes.{eqs, zeros, countBytes, wordAt, countOf, bytesOf, bigEndian, numberAt, longBytes, put};
+ghost use lib.ListN.{length, take, drop, replicate};
+ghost use lib.Dec.{eqb};
+ghost use Rattle.pages.specs.Bytes.{eqs, zeros, wordBytes, countBytes, wordAt, countOf, bytesOf, words, wordsAt, bigEndian, numberAt, longBytes, lowBytes, put};
+
+// How many bytes a word, a number below 65,536, takes.
+pub const WORD_BYTES: usize = 2;
 
 // How many bytes the count at a page's front takes.
-pub const COUNT_BYTES: usize = 2;
+pub const COUNT_BYTES: usize = WORD_BYTES;
 
 // A byte as an index.
 pub fn index(b: u8) -> usize
@@ -31,24 +35,41 @@ pub fn same(a: &[u8], b: &[u8]) -> bool
     true
 }
 
+// The bits that the bytes have together.
+fn bits_of(bytes: &[u8]) -> u8
+    ensures { λ r. ⌜ eqb r 0 ≡ zeros (now (bytes .entry)) ⌝ }
+{
+    let mut bits: u8 = 0;
+    let mut i: usize = 0;
+    while i < bytes.len() {
+        bits = bits | bytes[i];
+        i += 1;
+    }
+    bits
+}
+
+// How many bytes are tested for zeros at once.
+const BLOCK: usize = 256;
+
 // Whether the bytes from index at on are all 0.
 pub fn zeros_from(page: &[u8], at: usize) -> bool
     requires { ⌜ at ≤ length (now page) ⌝ }
     ensures { λ r. ⌜ r ≡ zeros (drop at (now (page .entry))) ⌝ }
 {
     let mut i = at;
-    while i < page.len() {
-        if page[i] != 0 {
+    while page.len() - i >= BLOCK {
+        let end = i + BLOCK;
+        if bits_of(&page[i..end]) != 0 {
             return false;
         }
-        i += 1;
+        i = end;
     }
-    true
+    bits_of(&page[i..]) == 0
 }
 
 // The number that two bytes from index at on say.
 pub fn word_at(page: &[u8], at: usize) -> usize
-    requires { ⌜ at + countBytes ≤ length (now page) ⌝ }
+    requires { ⌜ at + wordBytes ≤ length (now page) ⌝ }
     ensures { λ r. ⌜ (r ≡ wordAt (now (page .entry)) at) × (r < 65536) ⌝ }
 {
     index(page[at]) * 256 + index(page[at + 1])
@@ -63,9 +84,9 @@ pub fn count(page: &[u8]) -> usize
 }
 
 // A number in two bytes, big-endian.
-pub type Word = [u8; COUNT_BYTES];
+pub type Word = [u8; WORD_BYTES];
 
-// The two bytes that say a count.
+// The two bytes that say a number below 65,536.
 pub fn count_bytes(n: usize) -> Word
     requires { ⌜ n < 65536 ⌝ }
     ensures { λ r. ⌜ r ≡ bytesOf n ⌝ }
@@ -119,6 +140,38 @@ pub fn put_bytes(page: &mut [u8], at: usize, bytes: &[u8])
     }
 }
 
+// A word as an index.
+pub fn word_index(n: u16) -> usize
+    ensures { λ r. ⌜ (r ≡ n) × (r < 65536) ⌝ }
+{
+    n as usize
+}
+
+// Writes numbers into the page from index at on, two bytes each.
+pub fn put_words(page: &mut [u8], at: usize, numbers: &[u16])
+    requires { ⌜ at + wordBytes * length (now numbers) ≤ length (now page) ⌝ }
+    ensures { λ _. ⌜ now (page .exit) ≡ put (now (page .entry)) at (words (now (numbers .entry))) ⌝ }
+{
+    let mut i: usize = 0;
+    while i < numbers.len() {
+        let word = count_bytes(word_index(numbers[i]));
+        put_bytes(page, at + WORD_BYTES * i, &word);
+        i += 1;
+    }
+}
+
+// Reads numbers from the page, from index at on, two bytes each: as many as there are places for.
+pub fn read_words(page: &[u8], at: usize, numbers: &mut [u16])
+    requires { ⌜ at + wordBytes * length (now numbers) ≤ length (now page) ⌝ }
+    ensures { λ _. ⌜ now (numbers .exit) ≡ wordsAt (now (page .entry)) at (length (now (numbers .entry))) ⌝ }
+{
+    let mut i: usize = 0;
+    while i < numbers.len() {
+        numbers[i] = word_at(page, at + WORD_BYTES * i) as u16;
+        i += 1;
+    }
+}
+
 // Makes every byte of the page 0.
 pub fn clear(page: &mut [u8])
     ensures { λ _. ⌜ now (page .exit) ≡ replicate (length (now (page .entry))) 0 ⌝ }
@@ -126,6 +179,30 @@ pub fn clear(page: &mut [u8])
     let mut i: usize = 0;
     while i < page.len() {
         page[i] = 0;
+        i += 1;
+    }
+}
+
+// Writes the lowest byte of each number from index at on.
+pub fn put_low_bytes(page: &mut [u8], at: usize, numbers: &[u16])
+    requires { ⌜ at + length (now numbers) ≤ length (now page) ⌝ }
+    ensures { λ _. ⌜ now (page .exit) ≡ put (now (page .entry)) at (lowBytes (now (numbers .entry))) ⌝ }
+{
+    let mut i: usize = 0;
+    while i < numbers.len() {
+        page[at + i] = (numbers[i] % 256) as u8;
+        i += 1;
+    }
+}
+
+// Reads a byte for each place, from index at on.
+pub fn read_bytes(page: &[u8], at: usize, numbers: &mut [u16])
+    requires { ⌜ at + length (now numbers) ≤ length (now page) ⌝ }
+    ensures { λ _. ⌜ now (numbers .exit) ≡ take (length (now (numbers .entry))) (drop at (now (page .entry))) ⌝ }
+{
+    let mut i: usize = 0;
+    while i < numbers.len() {
+        numbers[i] = index(page[at + i]) as u16;
         i += 1;
     }
 }
