@@ -19,7 +19,7 @@ use Rattle.pages.specs.Bytes.{zeros, countBytes, countOf, bytesOf, put}
 use Rattle.pages.proofs.Quant.{all-at, and-true}
 use Rattle.pages.proofs.Put.{put-cons, put-length}
 use Rattle.names.specs.Table.{namesMax, nameMax, wellNamed, offset, nameAt, numberOf, goodAt, formed}
-use Rattle.names.specs.Calls.{lentBroken, usedOf, emptyVerdict, emptyPage, isKnown, roomy, withName, addVerdict, addAnswer, pageAfter, findVerdict, findAnswer, readVerdict, readAnswer, nameOf, noName}
+use Rattle.names.specs.Calls.{lentBroken, usedOf, isUsed, emptyVerdict, emptyPage, isKnown, roomy, withName, addVerdict, addAnswer, pageAfter, findVerdict, findAnswer, readVerdict, readAnswer, nameOf, noName}
 use Rattle.names.specs.declared.Added.{Added}
 use Rattle.names.specs.declared.Found.{Found}
 
@@ -114,71 +114,71 @@ module _ (page : List ℕ) where
 one-byte : (l : List ℕ) (at x : ℕ) → at + 1 ≤ length l → set l at x ≡ put l at (x ∷ [])
 one-byte l at x h = ap (λ (r : List ℕ). set r at x) (paste-zero l (at + 1) []) ∙ put-cons l at x [] (omega arith)
 
-module _ (page name : List ℕ) where
-  refused-add : (r : Refusal) → addVerdict page name ≡ Refused r → (Added.Refused r ≡ addAnswer page name) × (page ≡ pageAfter page name)
+module _ (limit : ℕ) (page name : List ℕ) where
+  refused-add : (r : Refusal) → addVerdict limit page name ≡ Refused r → (Added.Refused r ≡ addAnswer limit page name) × (page ≡ pageAfter limit page name)
   unfolding addAnswer pageAfter
   refused-add r v = (rw v, rw v)
 
-  passed-add : (known : Bool) → isKnown page name ≡ known → addVerdict page name ≡ Passed
-      → (Added.At (numberOf page (countOf page) name) ≡ addAnswer page name) × (cond known page (withName page name) ≡ pageAfter page name)
+  passed-add : (known : Bool) → isKnown page name ≡ known → addVerdict limit page name ≡ Passed
+      → (Added.At (numberOf page (countOf page) name) ≡ addAnswer limit page name) × (cond known page (withName page name) ≡ pageAfter limit page name)
   unfolding addAnswer pageAfter
   passed-add known k v = (rw v, rw (v, k))
 
-  pub add-broken : formed page ≡ false → (Added.Refused Broken ≡ addAnswer page name) × (page ≡ pageAfter page name)
+  pub add-broken : formed page ≡ false → (Added.Refused Broken ≡ addAnswer limit page name) × (page ≡ pageAfter limit page name)
   unfolding addVerdict
   add-broken f = refused-add Broken v
     where
-      v : addVerdict page name ≡ Refused Broken
-      v = rw f (first-holds Broken ((Malformed when not (wellNamed name)) ∷ (Full when (not (isKnown page name) && not (roomy page name))) ∷ []) refl)
+      v : addVerdict limit page name ≡ Refused Broken
+      v = rw f (first-holds Broken ((Malformed when not (wellNamed name)) ∷ (Full when (not (isKnown page name) && not (roomy limit page name))) ∷ []) refl)
 
   module _ (f : formed page ≡ true) where
-    pub add-malformed : wellNamed name ≡ false → (Added.Refused Malformed ≡ addAnswer page name) × (page ≡ pageAfter page name)
+    pub add-malformed : wellNamed name ≡ false → (Added.Refused Malformed ≡ addAnswer limit page name) × (page ≡ pageAfter limit page name)
     unfolding addVerdict
     add-malformed w = refused-add Malformed v
       where
-        v : addVerdict page name ≡ Refused Malformed
-        v = rw (f, w) (first-holds Malformed ((Full when (not (isKnown page name) && not (roomy page name))) ∷ []) refl)
+        v : addVerdict limit page name ≡ Refused Malformed
+        v = rw (f, w) (first-holds Malformed ((Full when (not (isKnown page name) && not (roomy limit page name))) ∷ []) refl)
 
     module _ (w : wellNamed name ≡ true) (n k : ℕ) (e : n ≡ countOf page) (q : k ≡ numberOf page n name) where
-      pub add-known : k < n → (Added.At k ≡ addAnswer page name) × (page ≡ pageAfter page name)
+      pub add-known : k < n → (Added.At k ≡ addAnswer limit page name) × (page ≡ pageAfter limit page name)
       unfolding addVerdict
       add-known l = rw (← e, ← q) at (passed-add true (rw (← e, ← q) (lt-ltb k n l)) v)
         where
-          v : addVerdict page name ≡ Passed
+          v : addVerdict limit page name ≡ Passed
           v = rw (f, w, ← e, ← q, lt-ltb k n l)
 
       module _ (new : n ≤ k) where
         not-known : isKnown page name ≡ false
         not-known = rw (← e, ← q) (le-ltb k n new)
 
-        full : roomy page name ≡ false → (Added.Refused Full ≡ addAnswer page name) × (page ≡ pageAfter page name)
+        full : roomy limit page name ≡ false → (Added.Refused Full ≡ addAnswer limit page name) × (page ≡ pageAfter limit page name)
         unfolding addVerdict
         full r = refused-add Full v
           where
-            v : addVerdict page name ≡ Refused Full
+            v : addVerdict limit page name ≡ Refused Full
             v = rw (f, w, not-known, r)
 
-        pub add-many : namesMax ≤ n → (Added.Refused Full ≡ addAnswer page name) × (page ≡ pageAfter page name)
+        pub add-many : limit ≤ n → (Added.Refused Full ≡ addAnswer limit page name) × (page ≡ pageAfter limit page name)
         unfolding roomy
         add-many h = full r
           where
-            r : roomy page name ≡ false
-            r = rw (← e, le-ltb n namesMax h)
+            r : roomy limit page name ≡ false
+            r = rw (← e, le-ltb n limit h)
 
-        module _ (h : n < namesMax) (end : ℕ) (o : end ≡ offset page n) where
-          pub add-short : length page < end + 1 + length name → (Added.Refused Full ≡ addAnswer page name) × (page ≡ pageAfter page name)
+        module _ (h : n < limit) (end : ℕ) (o : end ≡ offset page n) where
+          pub add-short : length page < end + 1 + length name → (Added.Refused Full ≡ addAnswer limit page name) × (page ≡ pageAfter limit page name)
           unfolding roomy
           add-short s = full r
             where
-              r : roomy page name ≡ false
-              r = rw (← e, lt-ltb n namesMax h, ← o, lt-leb (end + 1 + length name) (length page) s)
+              r : roomy limit page name ≡ false
+              r = rw (← e, lt-ltb n limit h, ← o, lt-leb (end + 1 + length name) (length page) s)
 
-          pub add-new : k ≡ n → end + 1 + length name ≤ length page → (Added.At n ≡ addAnswer page name) × (put (put (put page (end + 1) name) end (length name ∷ [])) 0 (bytesOf (n + 1)) ≡ pageAfter page name)
+          pub add-new : k ≡ n → end + 1 + length name ≤ length page → (Added.At n ≡ addAnswer limit page name) × (put (put (put page (end + 1) name) end (length name ∷ [])) 0 (bytesOf (n + 1)) ≡ pageAfter limit page name)
           unfolding addVerdict roomy withName
           add-new kn s = let z = passed-add false not-known v in (rw (← e, ← q, kn) at (z .0), there ∙ z .1)
             where
-              v : addVerdict page name ≡ Passed
-              v = rw (f, w, not-known, ← e, lt-ltb n namesMax h, ← o, le-leb (end + 1 + length name) (length page) s)
+              v : addVerdict limit page name ≡ Passed
+              v = rw (f, w, not-known, ← e, lt-ltb n limit h, ← o, le-leb (end + 1 + length name) (length page) s)
 
               there : put (put (put page (end + 1) name) end (length name ∷ [])) 0 (bytesOf (n + 1)) ≡ withName page name
               there =
@@ -187,8 +187,9 @@ module _ (page name : List ℕ) where
                   sym (one-byte (put page (end + 1) name) end (length name) (omega arith)) ∙ put-cons page end (length name) name (omega arith) in
                   rw (j, ← e, ← o)
 
-  -- ---- looking for a name
+-- ---- looking for a name
 
+module _ (page name : List ℕ) where
   pub find-broken : formed page ≡ false → Found.Refused Broken ≡ findAnswer page name
   unfolding findAnswer findVerdict
   find-broken f = rw v
@@ -218,13 +219,13 @@ module _ (page : List ℕ) (k : ℕ) where
   read-broken f = rw v
     where
       v : readVerdict page k ≡ Refused Broken
-      v = rw f (first-holds Broken ((Unused when leb (countOf page) k) ∷ []) refl)
+      v = rw f (first-holds Broken ((Unused when not (isUsed (countOf page) k)) ∷ []) refl)
 
   module _ (f : formed page ≡ true) (n : ℕ) (e : n ≡ countOf page) where
-    pub read-unused : n ≤ k → noName Unused ≡ readAnswer page k
+    pub read-unused : isUsed n k ≡ false → noName Unused ≡ readAnswer page k
     unfolding readAnswer readVerdict
-    read-unused h = rw (f, ← e, le-leb n k h)
+    read-unused h = rw (f, ← e, h)
 
-    pub read-name : k < n → nameOf (nameAt page k) ≡ readAnswer page k
+    pub read-name : isUsed n k ≡ true → nameOf (nameAt page k) ≡ readAnswer page k
     unfolding readAnswer readVerdict
-    read-name h = rw (f, ← e, lt-leb n k h)
+    read-name h = rw (f, ← e, h)

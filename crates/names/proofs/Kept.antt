@@ -143,27 +143,27 @@ module _ (page name : List ℕ) (f : Form page) (w : wellNamed name ≡ true) (n
 
 -- ---- whatever is added
 
-room-parts : (page name : List ℕ) → roomy page name ≡ true → (countOf page < namesMax) × (offset page (countOf page) + 1 + length name ≤ length page)
+room-parts : (limit : ℕ) (page name : List ℕ) → roomy limit page name ≡ true → (countOf page < limit) × (offset page (countOf page) + 1 + length name ≤ length page)
 unfolding roomy
-room-parts page name r =
-    let z = and-true (ltb (countOf page) namesMax) (leb (offset page (countOf page) + 1 + length name) (length page)) r in
-    (ltb-true (countOf page) namesMax (z .0), leb-true (offset page (countOf page) + 1 + length name) (length page) (z .1))
+room-parts limit page name r =
+    let z = and-true (ltb (countOf page) limit) (leb (offset page (countOf page) + 1 + length name) (length page)) r in
+    (ltb-true (countOf page) limit (z .0), leb-true (offset page (countOf page) + 1 + length name) (length page) (z .1))
 
-pub added-formed : (page name : List ℕ) → formed page ≡ true → formed (pageAfter page name) ≡ true
+pub added-formed : (limit : ℕ) (page name : List ℕ) → limit ≤ namesMax → formed page ≡ true → formed (pageAfter limit page name) ≡ true
 unfolding pageAfter addVerdict
-added-formed page name f = by (addVerdict page name) refl (isKnown page name) refl
+added-formed limit page name few f = by (addVerdict limit page name) refl (isKnown page name) refl
   where
-    roomed : roomy page name ≡ true → wellNamed name ≡ true → countOf page ≤ numberOf page (countOf page) name → formed (withName page name) ≡ true
-    roomed r w n = let z = room-parts page name r in with-formed page name (form page f) w n (z .0) (z .1)
+    roomed : roomy limit page name ≡ true → wellNamed name ≡ true → countOf page ≤ numberOf page (countOf page) name → formed (withName page name) ≡ true
+    roomed r w n = let z = room-parts limit page name r in with-formed page name (form page f) w n (omega (arith, z .0, few)) (z .1)
 
-    by : (v : Verdict) → addVerdict page name ≡ v → (k : Bool) → isKnown page name ≡ k → formed (unlessRefused v (cond k page (withName page name)) page) ≡ true
+    by : (v : Verdict) → addVerdict limit page name ≡ v → (k : Bool) → isKnown page name ≡ k → formed (unlessRefused v (cond k page (withName page name)) page) ≡ true
     by (Refused r) e k o = f
     by Passed e true o = f
     by Passed e false o =
-        let a = passed-parts Broken (not (formed page)) ((Malformed when not (wellNamed name)) ∷ (Full when (not (isKnown page name) && not (roomy page name))) ∷ []) e in
-        let b = passed-parts Malformed (not (wellNamed name)) ((Full when (not (isKnown page name) && not (roomy page name))) ∷ []) (a .1) in
-        let d = passed-parts Full (not (isKnown page name) && not (roomy page name)) [] (b .1) in
-        let r : roomy page name ≡ true = not-false (roomy page name) (rw o at (d .0)) in
+        let a = passed-parts Broken (not (formed page)) ((Malformed when not (wellNamed name)) ∷ (Full when (not (isKnown page name) && not (roomy limit page name))) ∷ []) e in
+        let b = passed-parts Malformed (not (wellNamed name)) ((Full when (not (isKnown page name) && not (roomy limit page name))) ∷ []) (a .1) in
+        let d = passed-parts Full (not (isKnown page name) && not (roomy limit page name)) [] (b .1) in
+        let r : roomy limit page name ≡ true = not-false (roomy limit page name) (rw o at (d .0)) in
         let w : wellNamed name ≡ true = not-false (wellNamed name) (b .0) in
         roomed r w (ltb-false (numberOf page (countOf page) name) (countOf page) o)
 

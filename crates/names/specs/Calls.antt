@@ -22,9 +22,14 @@ use Rattle.names.specs.declared.Name.{Name}
 unfoldable pub lentBroken : List ℕ → Bool → Bool
 lentBroken names lent = lent && not (formed names)
 
--- how many name numbers are in use: those of the lent table or, where none is lent, every number
+-- how many name numbers are in use: those of the lent table or, where none is lent, every number that a table can have
 unfoldable pub usedOf : List ℕ → Bool → ℕ
 usedOf names lent = cond lent (countOf names) namesMax
+
+-- "not in use" (the table of refusals, 2 and 3): is s the number of a name, where the first `used` numbers are in use; one that no table
+-- can give never is
+unfoldable pub isUsed : ℕ → ℕ → Bool
+isUsed used s = ltb s used && ltb s namesMax
 
 -- ---- making a table
 
@@ -42,21 +47,21 @@ emptyPage page = unlessRefused (emptyVerdict page) (replicate (length page) 0) p
 abbrev pub isKnown : List ℕ → List ℕ → Bool
 isKnown page name = ltb (numberOf page (countOf page) name) (countOf page)
 
--- is there a number for one more name, and a place in the page
-unfoldable pub roomy : List ℕ → List ℕ → Bool
-roomy page name = ltb (countOf page) namesMax && leb (offset page (countOf page) + 1 + length name) (length page)
+-- is there a number for one more name, where there can be so many, and a place in the page
+unfoldable pub roomy : ℕ → List ℕ → List ℕ → Bool
+roomy limit page name = ltb (countOf page) limit && leb (offset page (countOf page) + 1 + length name) (length page)
 
 -- the page with one more name: the name behind the last, and the count
 unfoldable pub withName : List ℕ → List ℕ → List ℕ
 withName page name = put (put page (offset page (countOf page)) (length name ∷ name)) 0 (bytesOf (countOf page + 1))
 
 -- why adding is refused, if it is: 2, 4, or 10 for a new name without a place
-unfoldable pub addVerdict : List ℕ → List ℕ → Verdict
-addVerdict page name =
+unfoldable pub addVerdict : ℕ → List ℕ → List ℕ → Verdict
+addVerdict limit page name =
     lowest
     ((Broken when not (formed page))
     ∷ (Malformed when not (wellNamed name))
-    ∷ (Full when (not (isKnown page name) && not (roomy page name)))
+    ∷ (Full when (not (isKnown page name) && not (roomy limit page name)))
     ∷ [])
 
 -- a number, or the refusal
@@ -65,12 +70,12 @@ numbered Passed n = Added.At n
 numbered (Refused r) n = Added.Refused r
 
 -- "An existing name gets its old number", and a new one the next
-unfoldable pub addAnswer : List ℕ → List ℕ → Added
-addAnswer page name = numbered (addVerdict page name) (numberOf page (countOf page) name)
+unfoldable pub addAnswer : ℕ → List ℕ → List ℕ → Added
+addAnswer limit page name = numbered (addVerdict limit page name) (numberOf page (countOf page) name)
 
 -- the page afterwards: changed only by a new name that is not refused
-unfoldable pub pageAfter : List ℕ → List ℕ → List ℕ
-pageAfter page name = unlessRefused (addVerdict page name) (cond (isKnown page name) page (withName page name)) page
+unfoldable pub pageAfter : ℕ → List ℕ → List ℕ → List ℕ
+pageAfter limit page name = unlessRefused (addVerdict limit page name) (cond (isKnown page name) page (withName page name)) page
 
 -- ---- looking for a name
 
@@ -91,7 +96,7 @@ findAnswer page name = found (findVerdict page name) (isKnown page name) (number
 
 -- why reading is refused, if it is: 2, or 3 for a number not in use
 unfoldable pub readVerdict : List ℕ → ℕ → Verdict
-readVerdict page k = lowest ((Broken when not (formed page)) ∷ (Unused when leb (countOf page) k) ∷ [])
+readVerdict page k = lowest ((Broken when not (formed page)) ∷ (Unused when not (isUsed (countOf page) k)) ∷ [])
 
 -- a name by value
 abbrev pub nameOf : List ℕ → Name

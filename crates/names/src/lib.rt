@@ -5,23 +5,33 @@ use refusals::Verdict;
 ghost use mathlib.Core.Path.{_≡_};
 ghost use mathlib.Core.Bool.{true, false};
 ghost use Prim.Native.Nat.{_+_, _≤_, _<_};
-ghost use lib.ListN.{length};
+ghost use lib.ListN.{length, set, replicate};
 ghost use Rattle.pages.specs.Bytes.{countOf};
-ghost use Rattle.names.specs.Table.{digit, nameByte, wellNamed, namesMax, nameMax, offset, nameAt, numberOf, formed};
-ghost use Rattle.names.specs.Calls.{lentBroken, usedOf, emptyVerdict, emptyPage, addAnswer, pageAfter, findAnswer, readAnswer, nameOf, noName};
+ghost use Rattle.pages.specs.Quant.{anyTo};
+ghost use Rattle.chains.specs.Last.{lastBelow};
+ghost use Rattle.names.specs.Table.{digit, nameByte, wellNamed, namesMax, nameMax, offset, nameAt, named, numberOf, formed};
+ghost use Rattle.names.specs.Prints.{printsMax, printOf, printAt, Chained};
+ghost use Rattle.names.specs.Calls.{lentBroken, usedOf, isUsed, emptyVerdict, emptyPage, addAnswer, pageAfter, findAnswer, readAnswer, nameOf, noName};
 
-// A name's number, as units, pairs and types hold it.
-pub type Symbol = u8;
+// A name's number, as units, pairs and types hold it. In pages and records it takes one byte.
+pub type Symbol = u16;
 
 // A symbol as an index.
 pub fn symbol_index(s: Symbol) -> usize
-    ensures { λ r. ⌜ (r ≡ s) × (r < namesMax) ⌝ }
+    ensures { λ r. ⌜ (r ≡ s) × (r < 65536) ⌝ }
 {
     s as usize
 }
 
 // How many names there can be.
 pub const NAMES: usize = 256;
+
+// Whether s is the number of a name, where the first `used` numbers are in use.
+pub fn is_used(used: usize, s: usize) -> bool
+    ensures { λ r. ⌜ r ≡ isUsed used s ⌝ }
+{
+    (s < used) & (s < NAMES)
+}
 
 // How many bytes a name has at most.
 pub const NAME_BYTES: usize = 31;
@@ -122,7 +132,84 @@ fn find(page: &[u8], n: usize, name: &[u8]) -> usize
     n
 }
 
-// Whether the page is a names table in form.
+// How many prints there are.
+const PRINTS: usize = 256;
+
+// A sum is two bytes, of which the upper is a print.
+const SUMS: usize = PRINTS * PRINTS;
+
+// What spreads a byte over a sum.
+const SPREAD: usize = 40503;
+
+// The print of a name, from a sum with its bytes mixed in one after another.
+fn print_of(name: &[u8]) -> usize
+    ensures { λ r. ⌜ (r ≡ printOf (now (name .entry))) × (r < printsMax) ⌝ }
+{
+    let mut sum: usize = 0;
+    let mut i: usize = 0;
+    while i < name.len() {
+        sum = (sum + index(name[i])) * SPREAD % SUMS;
+        i += 1;
+    }
+    sum / PRINTS
+}
+
+// No name for any print.
+fn no_heads() -> [u16; PRINTS]
+    ensures { λ r. ⌜ r ≡ replicate printsMax 0 ⌝ }
+{
+    [0; PRINTS]
+}
+
+// Places for what is before each name in its chain.
+fn no_links() -> [u16; NAMES]
+    ensures { λ r. ⌜ r ≡ replicate namesMax 0 ⌝ }
+{
+    [0; NAMES]
+}
+
+// Places for where each name stands.
+fn no_offsets() -> [usize; NAMES]
+    ensures { λ r. ⌜ r ≡ replicate namesMax 0 ⌝ }
+{
+    [0; NAMES]
+}
+
+// Notes where name i stands.
+fn note(offsets: &mut [usize], i: usize, at: usize)
+    requires { ⌜ i < length (now offsets) ⌝ }
+    ensures { λ _. ⌜ now (offsets .exit) ≡ set (now (offsets .entry)) i at ⌝ }
+{
+    offsets[i] = at;
+}
+
+// Whether a name is among the first n, where `head` is one more than the last of them with its print, or 0.
+fn is_among(
+    page: &[u8],
+    offsets: &[usize],
+    links: &[u16],
+    n: usize,
+    head: usize,
+    name: &[u8],
+) -> bool
+    requires { ⌜ Chained (now page) n (now offsets) (now links) × (head ≡ lastBelow (printAt (now page)) n (printOf (now name))) ⌝ }
+    ensures { λ r. ⌜ r ≡ anyTo n (named (now (page .entry)) (now (name .entry))) ⌝ }
+{
+    let mut next = head;
+    while next > 0 {
+        let k = next - 1;
+        let at = offsets[k];
+        let start = at + 1;
+        let end = start + index(page[at]);
+        if pages::same(&page[start..end], name) {
+            return true;
+        }
+        next = pages::word_index(links[k]);
+    }
+    false
+}
+
+// Whether the page is a names table in form. Each name is compared with those before it that have its print.
 pub fn is_formed(page: &[u8]) -> bool
     ensures { λ r. ⌜ r ≡ formed (now (page .entry)) ⌝ }
 {
@@ -133,6 +220,9 @@ pub fn is_formed(page: &[u8]) -> bool
     if n > NAMES {
         return false;
     }
+    let mut heads = no_heads();
+    let mut links = no_links();
+    let mut offsets = no_offsets();
     let mut i: usize = 0;
     let mut at: usize = pages::COUNT_BYTES;
     while i < n {
@@ -144,15 +234,18 @@ pub fn is_formed(page: &[u8]) -> bool
         if end > page.len() {
             return false;
         }
-        if is_name(&page[start..end]) {
-            if find(page, i, &page[start..end]) < i {
-                return false;
-            }
-            at = end;
-            i += 1;
-        } else {
+        if !is_name(&page[start..end]) {
             return false;
         }
+        let print = print_of(&page[start..end]);
+        let head = pages::word_index(heads[print]);
+        if is_among(page, &offsets, &links, i, head, &page[start..end]) {
+            return false;
+        }
+        note(&mut offsets, i, at);
+        chains::link(&mut heads, &mut links, print, i);
+        at = end;
+        i += 1;
     }
     pages::zeros_from(page, at)
 }
@@ -167,8 +260,8 @@ pub fn is_broken(names: &[u8], lent: bool) -> bool
     false
 }
 
-// How many name numbers are in use: those of the lent table or, where none is lent, every number. For crates above, whose entry
-// calls ask `is_broken` first.
+// How many name numbers are in use: those of the lent table or, where none is lent, every number that a table can have. For crates
+// above, whose entry calls ask `is_broken` first.
 pub fn in_use(names: &[u8], lent: bool) -> usize
     requires { ⌜ lentBroken (now names) lent ≡ false ⌝ }
     ensures { λ r. ⌜ (r ≡ usedOf (now (names .entry)) lent) × (r ≤ namesMax) ⌝ }
@@ -204,10 +297,10 @@ pub fn name_of(page: &[u8], k: usize) -> &[u8]
     &page[start..end]
 }
 
-// Adds a name to a table that an entry call found in form (`add_name` tests it).
-pub fn insert_name(page: &mut [u8], name: &[u8]) -> Added
-    requires { ⌜ formed (now page) ≡ true ⌝ }
-    ensures { λ r. ⌜ (r ≡ addAnswer (now (page .entry)) (now (name .entry))) × (now (page .exit) ≡ pageAfter (now (page .entry)) (now (name .entry))) ⌝ }
+// Adds a name to a table that an entry call found in form (`add_name` tests it), where there can be `limit` names.
+pub fn insert_name(page: &mut [u8], limit: usize, name: &[u8]) -> Added
+    requires { ⌜ (formed (now page) ≡ true) × (limit ≤ namesMax) ⌝ }
+    ensures { λ r. ⌜ (r ≡ addAnswer limit (now (page .entry)) (now (name .entry))) × (now (page .exit) ≡ pageAfter limit (now (page .entry)) (now (name .entry))) ⌝ }
 {
     if is_name(name) {
         let n = pages::count(page);
@@ -215,7 +308,7 @@ pub fn insert_name(page: &mut [u8], name: &[u8]) -> Added
         if k < n {
             return Added::At(k);
         }
-        if n >= NAMES {
+        if n >= limit {
             return Added::Refused(Refusal::Full);
         }
         let end = offset_of(page, n);
@@ -246,10 +339,10 @@ pub fn empty_names(page: &mut [u8]) -> Verdict
 
 // The number of a name, which is added if it is new.
 pub fn add_name(page: &mut [u8], name: &[u8]) -> Added
-    ensures { λ r. ⌜ (r ≡ addAnswer (now (page .entry)) (now (name .entry))) × (now (page .exit) ≡ pageAfter (now (page .entry)) (now (name .entry))) ⌝ }
+    ensures { λ r. ⌜ (r ≡ addAnswer namesMax (now (page .entry)) (now (name .entry))) × (now (page .exit) ≡ pageAfter namesMax (now (page .entry)) (now (name .entry))) ⌝ }
 {
     if is_formed(page) {
-        return insert_name(page, name);
+        return insert_name(page, NAMES, name);
     }
     Added::Refused(Refusal::Broken)
 }
@@ -304,7 +397,7 @@ pub fn read_name(page: &[u8], k: usize) -> Name
     if !is_formed(page) {
         return no_name(Refusal::Broken);
     }
-    if pages::count(page) <= k {
+    if !is_used(pages::count(page), k) {
         return no_name(Refusal::Unused);
     }
     copied(name_of(page, k))

@@ -18,13 +18,13 @@ is-name-requires c κs = search needs
 count-requires : tie.Need-count-requires
 count-requires c κs =
     let start = c .before .before .before .before .before in
-    form (now (start .args .page)) (start .pre) .two
+    form (now (start .args .page)) (start .pre .0) .two
 
 find-requires : tie.Need-find-requires
 find-requires c κs =
     let start = c .before .before .before .before .before .before .before in
     let count = c .before .count in
-    fits-to (now (start .args .page)) (form (now (start .args .page)) (start .pre)) (count .result) (le-of-eq (count .ensures .0))
+    fits-to (now (start .args .page)) (form (now (start .args .page)) (start .pre .0)) (count .result) (le-of-eq (count .ensures .0))
 
 same-length : tie.Need-same-length
 same-length c = search needs
@@ -40,7 +40,7 @@ returns c =
     let w = sym (is-name .ensures) ∙ if1 .taken in
     let n = count in
     let k = c .before .find in
-    add-known page name (start .pre) w (n .result) (k .result) (n .ensures .0) (k .ensures) (c .if2 .taken)
+    add-known (start .args .limit) page name (start .pre .0) w (n .result) (k .result) (n .ensures .0) (k .ensures) (c .if2 .taken)
 
 same-length-2 : tie.Need-same-length-2
 same-length-2 c = search needs
@@ -57,13 +57,13 @@ returns-2 c =
     let w = sym (is-name .ensures) ∙ if1 .taken in
     let n = count in
     let k = find in
-    add-many page name (start .pre) w (n .result) (k .result) (n .ensures .0) (k .ensures) (c .before .if2 .left) (c .if3 .taken)
+    add-many (start .args .limit) page name (start .pre .0) w (n .result) (k .result) (n .ensures .0) (k .ensures) (c .before .if2 .left) (c .if3 .taken)
 
 offset-of-requires : tie.Need-offset-of-requires
 offset-of-requires c κs =
     let start = c .before .before .before .before .before .before .before .before .before .before .before in
     let count = c .before .before .before .before .before .count in
-    fits-to (now (start .args .page)) (form (now (start .args .page)) (start .pre)) (count .result) (le-of-eq (count .ensures .0))
+    fits-to (now (start .args .page)) (form (now (start .args .page)) (start .pre .0)) (count .result) (le-of-eq (count .ensures .0))
 
 add-if4 : tie.Need-add-if4
 add-if4 c =
@@ -72,7 +72,7 @@ add-if4 c =
     let if1 = c .before .before .before .before .before .before .before .before .if1 in
     let count = c .before .before .before .before .before .before .count in
     let page = now (start .args .page) in
-    let z : c .offset-of .result ≤ length page = rw (c .offset-of .ensures) (fits-to page (form page (start .pre)) (count .result) (le-of-eq (count .ensures .0))) in
+    let z : c .offset-of .result ≤ length page = rw (c .offset-of .ensures) (fits-to page (form page (start .pre .0)) (count .result) (le-of-eq (count .ensures .0))) in
     let y = name-small (now (start .args .name)) (sym (is-name .ensures) ∙ if1 .taken) in
     omega arith
 
@@ -83,7 +83,7 @@ add-if4-2 c =
     let if1 = c .before .before .before .before .before .before .before .before .if1 in
     let count = c .before .before .before .before .before .before .count in
     let page = now (start .args .page) in
-    let z : c .offset-of .result ≤ length page = rw (c .offset-of .ensures) (fits-to page (form page (start .pre)) (count .result) (le-of-eq (count .ensures .0))) in
+    let z : c .offset-of .result ≤ length page = rw (c .offset-of .ensures) (fits-to page (form page (start .pre .0)) (count .result) (le-of-eq (count .ensures .0))) in
     let y = name-small (now (start .args .name)) (sym (is-name .ensures) ∙ if1 .taken) in
     omega arith
 
@@ -105,11 +105,11 @@ returns-3 c =
     let w = sym (is-name .ensures) ∙ if1 .taken in
     let n = count in
     let k = find in
-    add-short page name (start .pre) w (n .result) (k .result) (n .ensures .0) (k .ensures) (if2 .left) (if3 .left) (offset-of .result)
+    add-short (start .args .limit) page name (start .pre .0) w (n .result) (k .result) (n .ensures .0) (k .ensures) (if2 .left) (if3 .left) (offset-of .result)
     (offset-of .ensures) (c .if4 .taken)
 
-cast-t23 : tie.Need-cast-t23
-cast-t23 c =
+cast-t24 : tie.Need-cast-t24
+cast-t24 c =
     let start = c .before .before .before .before .before .before .before .before .before .before .before .before .before in
     let is-name = c .before .before .before .before .before .before .before .before .before .before .is-name in
     let if1 = c .before .before .before .before .before .before .before .before .before .if1 in
@@ -143,7 +143,7 @@ put-bytes-requires-3 c κs =
     let put-bytes = c .before .before .before .before .before .before .before .before .before .put-bytes in
     let put-bytes2 = c .before .before .before .before .put-bytes2 in
     let a = ap length (count-bytes .ensures) in
-    let t = form (now (start .args .page)) (start .pre) .two in
+    let t = form (now (start .args .page)) (start .pre .0) .two in
     omega (arith, put-bytes .kept .0, put-bytes2 .kept .0, a, t)
 
 same-length-4 : tie.Need-same-length-4
@@ -171,13 +171,13 @@ returns-4 c =
     let k = find in
     let m = first-le (named page name) (n .result) in
     let e : k .result ≡ n .result = omega (arith, k .ensures, m, if2 .left) in
-    let d = add-new page name (start .pre) w (n .result) (k .result) (n .ensures .0) (k .ensures) (if2 .left) (if3 .left) (offset-of .result) (offset-of .ensures) e (if4 .left) in
+    let d = add-new (start .args .limit) page name (start .pre .0) w (n .result) (k .result) (n .ensures .0) (k .ensures) (if2 .left) (if3 .left) (offset-of .result) (offset-of .ensures) e (if4 .left) in
     (d .0, put-bytes3 .ensures ∙ rw (put-bytes2 .ensures, put-bytes .ensures, count-bytes .ensures) (d .1))
 
 returns-5 : tie.Need-returns-5
 returns-5 c =
     let start = c .before .before .before .before in
-    add-malformed (now (start .args .page)) (now (start .args .name)) (start .pre) (sym (c .before .is-name .ensures) ∙ c .if1 .left)
+    add-malformed (start .args .limit) (now (start .args .page)) (now (start .args .name)) (start .pre .0) (sym (c .before .is-name .ensures) ∙ c .if1 .left)
 
 pub insert-name-spec : {M : Type 1} → statement M
-insert-name-spec = tie.close (tie.spec is-name-requires count-requires find-requires same-length returns same-length-2 returns-2 offset-of-requires add-if4 add-if4-2 same-length-3 returns-3 cast-t23 add-count-bytes count-bytes-requires add-put-bytes put-bytes-requires slice-aggregate-put-bytes put-bytes-requires-2 slice-aggregate-put-bytes-2 put-bytes-requires-3 same-length-4 returns-4 returns-5)
+insert-name-spec = tie.close (tie.spec is-name-requires count-requires find-requires same-length returns same-length-2 returns-2 offset-of-requires add-if4 add-if4-2 same-length-3 returns-3 cast-t24 add-count-bytes count-bytes-requires add-put-bytes put-bytes-requires slice-aggregate-put-bytes put-bytes-requires-2 slice-aggregate-put-bytes-2 put-bytes-requires-3 same-length-4 returns-4 returns-5)

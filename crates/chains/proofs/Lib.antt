@@ -1,0 +1,3 @@
+-- Laws that the proofs of the crates above cite.
+pub mod Walk
+pub mod Grow
