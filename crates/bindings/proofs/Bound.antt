@@ -4,9 +4,10 @@ use mathlib.Core.Bool.{Bool, true, false}
 use Prim.Native.Nat.{ℕ, _<_, _≤_}
 use lib.Dec.{ltb, leb}
 use lib.ListN.{getD}
-use borrow.Author.Tests.{lt-ltb, le-ltb, le-leb, lt-leb, leb-true, ltb-true}
+use borrow.Author.Tests.{le-leb, lt-leb, leb-true, ltb-true}
 use Rattle.pages.specs.Quant.{allTo}
 use Rattle.pages.proofs.Quant.{and-true, all-at}
+use Rattle.names.specs.Calls.{isUsed}
 use Rattle.bindings.specs.Bindings.{bindingsMax, placeIn, goodBinding, formed, Usable}
 use Rattle.bindings.specs.declared.Bindings.{Bindings}
 
@@ -16,13 +17,13 @@ module _ (n t : ℕ) (b : Bindings) (i : ℕ) where
   good-twice h = rw (lt-leb i (placeIn b i (getD (b .names) i 0)) h)
 
   module _ (h : i ≤ placeIn b i (getD (b .names) i 0)) where
-    pub good-unnamed : n ≤ getD (b .names) i 0 → false ≡ goodBinding n t b i
+    pub good-unnamed : isUsed n (getD (b .names) i 0) ≡ false → false ≡ goodBinding n t b i
     unfolding goodBinding
-    good-unnamed l = rw (le-leb i (placeIn b i (getD (b .names) i 0)) h, le-ltb (getD (b .names) i 0) n l)
+    good-unnamed l = rw (le-leb i (placeIn b i (getD (b .names) i 0)) h, l)
 
-    pub good-rest : getD (b .names) i 0 < n → ltb (getD (b .types) i 0) t ≡ goodBinding n t b i
+    pub good-rest : isUsed n (getD (b .names) i 0) ≡ true → ltb (getD (b .types) i 0) t ≡ goodBinding n t b i
     unfolding goodBinding
-    good-rest l = rw (le-leb i (placeIn b i (getD (b .names) i 0)) h, lt-ltb (getD (b .names) i 0) n l)
+    good-rest l = rw (le-leb i (placeIn b i (getD (b .names) i 0)) h, l)
 
 module _ (n t : ℕ) (b : Bindings) where
   pub formed-many : bindingsMax < b .count → false ≡ formed n t b
@@ -41,4 +42,4 @@ module _ (n t : ℕ) (b : Bindings) where
   }
     where
       used : (i : ℕ) → goodBinding n t b i ≡ true → getD (b .types) i 0 < t
-      used i g = ltb-true (getD (b .types) i 0) t (and-true (ltb (getD (b .names) i 0) n) _ (and-true (leb i (placeIn b i (getD (b .names) i 0))) _ g .1) .1)
+      used i g = ltb-true (getD (b .types) i 0) t (and-true (isUsed n (getD (b .names) i 0)) _ (and-true (leb i (placeIn b i (getD (b .names) i 0))) _ g .1) .1)

@@ -5,6 +5,7 @@ use Prim.Native.Nat.{ℕ, suc, _<_, _≤_}
 use lib.Dec.{ltb, leb, eqb}
 use lib.ListN.{getD, set}
 use Rattle.pages.specs.Quant.{allTo, firstTo}
+use Rattle.names.specs.Calls.{isUsed}
 use Rattle.bindings.specs.declared.Bindings.{Bindings}
 
 -- how many names are bound at most
@@ -33,7 +34,7 @@ withBinding b name t = record { count = suc (b .count); names = set (b .names) (
 
 -- place i has a name in use, of n, which stands in no place before it, and a type in use, of t
 unfoldable pub goodBinding : ℕ → ℕ → Bindings → ℕ → Bool
-goodBinding n t b i = leb i (placeIn b i (getD (b .names) i 0)) && (ltb (getD (b .names) i 0) n && ltb (getD (b .types) i 0) t)
+goodBinding n t b i = leb i (placeIn b i (getD (b .names) i 0)) && (isUsed n (getD (b .names) i 0) && ltb (getD (b .types) i 0) t)
 
 -- bindings in form, with n name numbers and t types in use; what stands past the count is not looked at
 unfoldable pub formed : ℕ → ℕ → Bindings → Bool

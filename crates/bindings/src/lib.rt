@@ -3,6 +3,7 @@ use kinds::CALLBACK;
 use kinds::CHILDREN;
 use kinds::GENERIC;
 use kinds::Kind;
+use names::Symbol;
 use names::symbol_index;
 use types::Made;
 use types::TYPES;
@@ -26,12 +27,12 @@ pub const BINDINGS: usize = 32;
 // Generic names, and the types that they are bound to.
 pub struct Bindings {
     pub count: usize,
-    pub names: [u8; BINDINGS],
+    pub names: [Symbol; BINDINGS],
     pub types: [u16; BINDINGS],
 }
 
 // The first of the first k places that has a name, or k.
-fn place_of(bindings: Bindings, k: usize, name: u8) -> usize
+fn place_of(bindings: Bindings, k: usize, name: Symbol) -> usize
     requires { ⌜ (k ≤ bindingsMax) ⌝ }
     ensures { λ r. ⌜ (r ≡ placeIn bindings k name) × (r ≤ k) ⌝ }
 {
@@ -57,7 +58,7 @@ fn is_good(bindings: Bindings, n: usize, t: usize, i: usize) -> bool
     if place_of(bindings, i, name) < i {
         return false;
     }
-    if symbol_index(name) >= n {
+    if !names::is_used(n, symbol_index(name)) {
         return false;
     }
     (types[i] as usize) < t
@@ -82,7 +83,7 @@ pub fn is_formed(bindings: Bindings, n: usize, t: usize) -> bool
 }
 
 // The type that a name is bound to, or another where it is not bound.
-pub fn bound_or(bindings: Bindings, name: u8, other: usize) -> usize
+pub fn bound_or(bindings: Bindings, name: Symbol, other: usize) -> usize
     requires { ⌜ bindings .count ≤ bindingsMax ⌝ }
     ensures { λ r. ⌜ r ≡ cond (isBound bindings name) (boundTo bindings name) other ⌝ }
 {
@@ -95,7 +96,7 @@ pub fn bound_or(bindings: Bindings, name: u8, other: usize) -> usize
 }
 
 // Whether a name is bound.
-pub fn is_bound(bindings: Bindings, name: u8) -> bool
+pub fn is_bound(bindings: Bindings, name: Symbol) -> bool
     requires { ⌜ bindings .count ≤ bindingsMax ⌝ }
     ensures { λ r. ⌜ r ≡ isBound bindings name ⌝ }
 {
@@ -103,7 +104,7 @@ pub fn is_bound(bindings: Bindings, name: u8) -> bool
 }
 
 // Bindings with one more.
-pub fn with_binding(bindings: Bindings, name: u8, t: usize) -> Bindings
+pub fn with_binding(bindings: Bindings, name: Symbol, t: usize) -> Bindings
     requires { ⌜ (bindings .count < bindingsMax) × (t < typesMax) ⌝ }
     ensures { λ r. ⌜ r ≡ withBinding bindings name t ⌝ }
 {

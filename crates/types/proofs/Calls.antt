@@ -14,7 +14,7 @@ use Rattle.refusals.specs.declared.Verdict.the-variants.{Passed, Refused}
 use Rattle.refusals.proofs.Lowest.{first-holds, passed-parts}
 use Rattle.pages.specs.Bytes.{within, countBytes, countOf}
 use Rattle.pages.proofs.Quant.{and-true}
-use Rattle.names.specs.Calls.{lentBroken, usedOf}
+use Rattle.names.specs.Calls.{lentBroken, usedOf, isUsed}
 use Rattle.kinds.specs.Kinds.{fixedMax, childrenMax, kindLast, isNamed, isStored, fewest, most}
 use Rattle.types.specs.Store.{depthMax, equalTo, formed}
 use Rattle.types.specs.Types.{typesIn, Measured}
@@ -79,7 +79,7 @@ module _ (page : List ℕ) (n k : ℕ) (cs : List ℕ) (m : ℕ) where
   parts-above b = rw b
 
   module _ (b : allBelow (typesIn page) cs ≡ true) where
-    pub parts-named : isNamed k ≡ true → ltb m n ≡ partsUsed page n k cs m
+    pub parts-named : isNamed k ≡ true → isUsed n m ≡ partsUsed page n k cs m
     unfolding partsUsed
     parts-named h = rw (b, h)
 
@@ -187,7 +187,7 @@ module _ (page names : List ℕ) (lent : Bool) (k : ℕ) (cs : List ℕ) (m : �
               pub make-enterable : Enterable page (entryOf k cs m) (record { names = n; form = f })
               unfolding partsUsed
               make-enterable =
-                  let p = and-true (allBelow (typesIn page) cs) (not (isNamed k) || ltb m n) u in
+                  let p = and-true (allBelow (typesIn page) cs) (not (isNamed k) || isUsed n m) u in
                   record { whole = entry-whole k cs m; parts = entry-parts k cs m n (typesIn page) s (p .0) (p .1) w }
 
               pub make-ready : (os ds : List ℕ) → Measured page os ds → Ready page os ds (entryOf k cs m)

@@ -18,6 +18,7 @@ use Rattle.pages.specs.Pad.{pad}
 use Rattle.pages.proofs.Quant.{and-true, all-each}
 use Rattle.pages.proofs.Bytes.{number-alike}
 use Rattle.pages.proofs.Pad.{put-pad}
+use Rattle.names.specs.Calls.{isUsed}
 use Rattle.kinds.specs.Kinds.{fixedMax, isNamed, isStored, fewest, most, constVariant}
 use Rattle.kinds.proofs.Const.{Keeps, variant-keeps}
 use Rattle.types.specs.Store.{depthMax, headBytes, childBytes, nameBytes, childrenAt, kindAt, childAt, nameAt, sizeAt, entryAt, depthIn, larger, deepest, depthAt, depths, isBelow, childrenBelow, partsAt, equalTo, Formed}
@@ -74,9 +75,9 @@ module _ (e : List ℕ) (two : headBytes ≤ length e) (g : Keeps (kindAt e 0)) 
       lower : (i : ℕ) → childAt e 0 i < t → childAt e 0 i < u
       lower i k = omega arith
 
-      go : (b : Bool) → cond b (eqb (childrenAt e 0) 0 && ltb (nameAt e 0) n)
+      go : (b : Bool) → cond b (eqb (childrenAt e 0) 0 && isUsed n (nameAt e 0))
           (within (fewest (kindAt e 0)) (most (kindAt e 0)) (childrenAt e 0) && childrenBelow e 0 t) ≡ true
-          → cond b (eqb (childrenAt e 0) 0 && ltb (nameAt e 0) n)
+          → cond b (eqb (childrenAt e 0) 0 && isUsed n (nameAt e 0))
           (within (fewest (kindAt e 0)) (most (kindAt e 0)) (childrenAt e 0) && allTo (childrenAt e 0) (isBelow turned 0 u)) ≡ true
       go true q = q
       go false q =

@@ -1,66 +1,29 @@
 -- The bytes of an entry: what they say, and how they are written. Assumes nothing.
 use mathlib.Core.Path.{_≡_, refl, sym, _∙_, ap}
 use mathlib.Core.Bool.{Bool, true, false, _&&_, _||_, not, cond}
-use mathlib.Core.List.{List, [], _∷_, _++_}
-use Prim.Native.Nat.{ℕ, zero, suc, _+_, _-_, _*_, _^_, _<_, _≤_}
-use native.Mathlib.Nat.{sub-zero, not-suc-le-zero, le-of-suc-le-suc, div-add-mod'}
+use mathlib.Core.List.{List, [], _∷_}
+use Prim.Native.Nat.{ℕ, zero, suc, _+_, _-_, _*_, _%_, _^_, _<_, _≤_}
+use native.Mathlib.Nat.{sub-zero, not-suc-le-zero, le-of-suc-le-suc}
 use native.Mathlib.Numerals.{add-one}
 use native.Mathlib.Omega.{arith}
 use lib.Dec.{ltb, eqb}
 use lib.ListN.{length, getD, take, drop, replicate, drop-of-length-le}
-use lib.Seq.{drop-cons, take-suc, take-length, length-take-le}
-use borrow.Author.Tests.{lt-ltb, le-ltb, ltb-true}
-use Rattle.pages.specs.Bytes.{within, wordAt, bytesOf, bigEndian, put}
+use lib.Seq.{drop-cons}
+use borrow.Author.Tests.{lt-ltb, le-ltb}
+use Rattle.pages.specs.Bytes.{within, words, bigEndian, put}
 use Rattle.pages.specs.Pad.{pad}
 use Rattle.pages.proofs.Quant.{and-true, all-each}
-use Rattle.pages.proofs.Bytes.{big-length, number-back, number-most}
-use Rattle.pages.proofs.Put.{put-none, put-append}
+use Rattle.pages.proofs.Bytes.{big-length, number-back}
+use Rattle.pages.proofs.Put.{put-append}
+use Rattle.pages.proofs.Words.{words-length, words-at}
 use Rattle.pages.proofs.Pad.{length-pad, put-pad, pad-front}
+use Rattle.names.specs.Calls.{isUsed}
+use Rattle.names.proofs.Used.{used-below}
 use Rattle.kinds.specs.Kinds.{childrenMax, isNamed, isStored, fewest, most}
 use Rattle.types.specs.Store.{headBytes, childBytes, nameBytes, childrenAt, kindAt, childAt, nameAt, sizeAt, isBelow, childrenBelow, partsAt}
-use Rattle.types.specs.Making.{words, entryOf, entryMax}
+use Rattle.types.specs.Making.{entryOf, entryMax}
 use Rattle.types.specs.Calls.{allBelow}
-use Rattle.types.proofs.Width.{byte-name}
-
--- ---- numbers of types, two bytes each
-
-pub words-length : (cs : List ℕ) → length (words cs) ≡ childBytes * length cs
-unfolding words
-words-length [] = refl
-words-length (c ∷ cs) = rw (words-length cs) (omega arith)
-
-words-append : (cs ds : List ℕ) → words (cs ++ ds) ≡ words cs ++ words ds
-unfolding words
-words-append [] ds = refl
-words-append (c ∷ cs) ds = rw (words-append cs ds) refl
-
-words-at : (cs : List ℕ) (i : ℕ) → i < length cs → wordAt (words cs) (childBytes * i) ≡ getD cs i 0
-unfolding words
-words-at [] i h = absurd (not-suc-le-zero h)
-words-at (c ∷ cs) zero h = div-add-mod' c 256
-words-at (c ∷ cs) (suc i) h =
-    let a : childBytes * suc i ≡ suc (suc (childBytes * i)) = omega arith in
-    let b : suc (suc (childBytes * i)) + 1 ≡ suc (suc (childBytes * i + 1)) = omega arith in
-    rw (a, b) (words-at cs i (le-of-suc-le-suc h))
-
--- written one after another from an index on
-
-module _ (l : List ℕ) (at : ℕ) (cs : List ℕ) (room : at + childBytes * length cs ≤ length l) where
-  pub words-none : l ≡ put l at (words (take 0 cs))
-  unfolding words
-  words-none = sym (put-none l at)
-
-  pub words-more : (i : ℕ) → i < length cs
-      → put (put l at (words (take i cs))) (at + childBytes * i) (bytesOf (getD cs i 0)) ≡ put l at (words (take (i + 1) cs))
-  unfolding words
-  words-more i h =
-      let k : length (words (take i cs)) ≡ childBytes * i = words-length (take i cs) ∙ ap (λ (x : ℕ). childBytes * x) (length-take-le i cs (omega arith)) in
-      let e : take (i + 1) cs ≡ take i cs ++ (getD cs i 0 ∷ []) = rw add-one (take-suc cs i 0 h) in
-      let f : words (take (i + 1) cs) ≡ words (take i cs) ++ bytesOf (getD cs i 0) = ap words e ∙ words-append (take i cs) (getD cs i 0 ∷ []) in
-      rw (f, ← k) (put-append l at (words (take i cs)) (bytesOf (getD cs i 0)) (omega (arith, k)))
-
-  pub words-all : (i : ℕ) → i ≡ length cs → put l at (words (take i cs)) ≡ put l at (words cs)
-  words-all i e = rw (e, take-length cs) refl
+use Rattle.types.proofs.Width.{byte-name, names-fit}
 
 -- ---- children below t
 
@@ -108,18 +71,17 @@ module _ (k : ℕ) (cs : List ℕ) (m : ℕ) where
     name-bytes : (i : ℕ) → i < nameBytes → getD (entryOf k cs m) (0 + headBytes + i) 0 ≡ getD (bigEndian nameBytes m) i 0
     name-bytes i l = let e : 0 + headBytes + i ≡ suc (suc i) = omega arith in rw (named-is, e) refl
 
-    -- a name that fits is read as it was written, and another as a smaller one
-    pub entry-name : m < 256 ^ nameBytes → nameAt (entryOf k cs m) 0 ≡ m
-    entry-name s = number-back (entryOf k cs m) (0 + headBytes) m nameBytes s name-bytes
-
-    name-most : nameAt (entryOf k cs m) 0 ≤ m
-    name-most = number-most (entryOf k cs m) (0 + headBytes) m nameBytes name-bytes
+    -- a name in use is read as it was written
+    pub entry-name : (n : ℕ) → isUsed n m ≡ true → nameAt (entryOf k cs m) 0 ≡ m
+    entry-name n u =
+        let s : m < 256 ^ nameBytes = omega (arith, used-below n m u .1, names-fit) in
+        number-back (entryOf k cs m) (0 + headBytes) m nameBytes s name-bytes
 
     pub named-size : headBytes + nameBytes ≡ length (entryOf k cs m)
     named-size = rw (named-is, big-length nameBytes m) (omega arith)
 
-    pub named-made : m < 256 → put (replicate entryMax 0) 0 (0 ∷ k ∷ m ∷ []) ≡ pad entryMax 0 (entryOf k cs m)
-    named-made s = rw (named-is, byte-name m s) (put-pad entryMax (0 ∷ k ∷ m ∷ []) (omega arith))
+    pub named-made : put (replicate entryMax 0) 0 (0 ∷ k ∷ m % 256 ∷ []) ≡ pad entryMax 0 (entryOf k cs m)
+    named-made = rw (named-is, byte-name m) (put-pad entryMax (0 ∷ k ∷ m % 256 ∷ []) (omega arith))
 
   module _ (h : isNamed k ≡ false) where
     other-is : entryOf k cs m ≡ length cs ∷ k ∷ words cs
@@ -156,16 +118,15 @@ module _ (k : ℕ) (cs : List ℕ) (m : ℕ) where
       go false e = rw (entry-children e) (other-size e)
 
   -- with its parts: a kind that is stored, children below t or a name of n, and as many children as the kind has
-  module _ (n t : ℕ) (s : isStored k ≡ true) (u : allBelow t cs ≡ true) (v : (not (isNamed k) || ltb m n) ≡ true)
+  module _ (n t : ℕ) (s : isStored k ≡ true) (u : allBelow t cs ≡ true) (v : (not (isNamed k) || isUsed n m) ≡ true)
       (w : within (fewest k) (most k) (length cs) ≡ true) where
     pub entry-parts : partsAt (entryOf k cs m) n t 0 ≡ true
     unfolding partsAt
     entry-parts = rw (entry-kind, s) (go (isNamed k) refl)
       where
-        go : (b : Bool) → isNamed k ≡ b → cond b (eqb (childrenAt (entryOf k cs m) 0) 0 && ltb (nameAt (entryOf k cs m) 0) n)
+        go : (b : Bool) → isNamed k ≡ b → cond b (eqb (childrenAt (entryOf k cs m) 0) 0 && isUsed n (nameAt (entryOf k cs m) 0))
             (within (fewest k) (most k) (childrenAt (entryOf k cs m) 0) && childrenBelow (entryOf k cs m) 0 t) ≡ true
-        go true e =
-            rw (entry-childless e, lt-ltb (nameAt (entryOf k cs m) 0) n (omega (arith, name-most e, ltb-true m n (rw e at v)))) refl
+        go true e = let u : isUsed n m ≡ true = rw e at v in rw (entry-childless e, entry-name e n u) u
         go false e =
             rw (entry-children e, w)
             (all-each (length cs) (isBelow (entryOf k cs m) 0 t) (λ i l. rw (entry-child e i l) (below-at cs t u i l)))

@@ -14,6 +14,7 @@ use borrow.Author.Tests.{lt-ltb, ltb-true, le-leb, lt-leb, leb-true, eqb-true, l
 use Rattle.pages.specs.Quant.{allTo}
 use Rattle.pages.specs.Bytes.{zeros, within, countBytes, countOf}
 use Rattle.pages.proofs.Quant.{and-true, all-none, all-each, all-more, all-failed}
+use Rattle.names.specs.Calls.{isUsed}
 use Rattle.kinds.specs.Kinds.{fixedMax, isNamed, isStored, fewest, most}
 use Rattle.types.specs.Store.{entriesMax, depthMax, headBytes, childBytes, childrenAt, kindAt, childAt, nameAt, sizeAt, entryAt, offset, depthIn, larger, deepest, depthAt, depths, isBelow, childrenBelow, partsAt, equalTo, goodAt, formed, Reached}
 use Rattle.types.specs.Types.{Measured}
@@ -28,7 +29,7 @@ unfolding partsAt
 parts-children page n t o h = go (isNamed (kindAt page o)) refl (and-true (isStored (kindAt page o)) _ h .1)
   where
     go : (b : Bool) → isNamed (kindAt page o) ≡ b
-        → cond b (eqb (childrenAt page o) 0 && ltb (nameAt page o) n)
+        → cond b (eqb (childrenAt page o) 0 && isUsed n (nameAt page o))
         (within (fewest (kindAt page o)) (most (kindAt page o)) (childrenAt page o) && childrenBelow page o t) ≡ true
         → (headBytes + childBytes * childrenAt page o ≤ sizeAt page o) × (childrenBelow page o t ≡ true)
     go true e p =

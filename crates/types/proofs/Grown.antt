@@ -16,6 +16,7 @@ use Rattle.pages.specs.Bytes.{eqs, zeros, within, countBytes, countOf, bytesOf,
 use Rattle.pages.proofs.Quant.{all-cong, all-more, all-each, first-cong}
 use Rattle.pages.proofs.Bytes.{zeros-drop, number-alike}
 use Rattle.pages.proofs.Put.{put-length, put-before, put-after, put-in, put-drop}
+use Rattle.names.specs.Calls.{isUsed}
 use Rattle.kinds.specs.Kinds.{fixedMax, isNamed, isStored, fewest, most}
 use Rattle.types.specs.Store.{entriesMax, depthMax, headBytes, childBytes, nameBytes, childrenAt, kindAt, childAt, nameAt, sizeAt, entryAt, offset, depthIn, larger, deepest, depthAt, depths, isBelow, partsAt, isEntry, equalTo, goodAt, formed, Formed}
 use Rattle.types.specs.Types.{typesIn, placeOf, kindOf, arity, childOf, nameOf, Measured}
@@ -73,9 +74,9 @@ module _ (q p : List ℕ) (o u : ℕ) (same : (i : ℕ) → i < sizeAt p u → g
   parts-alike n t = rw (kind-alike, children-alike) (go (isNamed (kindAt p u)) refl)
     where
       go : (b : Bool) → isNamed (kindAt p u) ≡ b
-          → (isStored (kindAt p u) && cond b (eqb (childrenAt p u) 0 && ltb (nameAt q o) n)
+          → (isStored (kindAt p u) && cond b (eqb (childrenAt p u) 0 && isUsed n (nameAt q o))
           (within (fewest (kindAt p u)) (most (kindAt p u)) (childrenAt p u) && allTo (childrenAt p u) (isBelow q o t)))
-          ≡ (isStored (kindAt p u) && cond b (eqb (childrenAt p u) 0 && ltb (nameAt p u) n)
+          ≡ (isStored (kindAt p u) && cond b (eqb (childrenAt p u) 0 && isUsed n (nameAt p u))
           (within (fewest (kindAt p u)) (most (kindAt p u)) (childrenAt p u) && allTo (childrenAt p u) (isBelow p u t)))
       go true e = rw (name-alike e) refl
       go false e = rw (below-alike t (childrenAt p u) (omega (arith, size-children p u e))) refl

@@ -10,6 +10,7 @@ use lib.ListN.{getD, take, drop}
 use borrow.Author.Tests.{lt-ltb, le-ltb, ltb-true, le-leb, lt-leb, eq-eqb, ne-eqb}
 use Rattle.pages.specs.Bytes.{countBytes}
 use Rattle.pages.proofs.Quant.{all-at}
+use Rattle.names.specs.Calls.{isUsed}
 use Rattle.kinds.specs.Kinds.{fixedMax, isNamed, isStored, fewest, most}
 use Rattle.types.specs.Store.{headBytes, childBytes, nameBytes, childrenAt, kindAt, childAt, nameAt, sizeAt, entryAt, offset, depthIn, larger, deepest, isBelow, childrenBelow, partsAt}
 
@@ -60,7 +61,7 @@ module _ (page : List ℕ) (n t o : ℕ) where
       unfolding partsAt
       parts-childful h = rw (s, m, ne-eqb (childrenAt page o) 0 h)
 
-      pub parts-name : childrenAt page o ≡ 0 → ltb (nameAt page o) n ≡ partsAt page n t o
+      pub parts-name : childrenAt page o ≡ 0 → isUsed n (nameAt page o) ≡ partsAt page n t o
       unfolding partsAt
       parts-name h = rw (s, m, eq-eqb (childrenAt page o) 0 h)
 

@@ -2,17 +2,18 @@
 use mathlib.Core.Path.{_≡_, refl, sym, _∙_, ap, fun-ext}
 use mathlib.Core.Bool.{Bool, true, false, cond}
 use mathlib.Core.List.{List}
-use Prim.Native.Nat.{ℕ, zero, suc, _+_, _-_, _*_, _<_, _≤_}
+use Prim.Native.Nat.{ℕ, zero, suc, _+_, _-_, _<_, _≤_}
 use native.Mathlib.Nat.{not-suc-le-zero}
 use native.Mathlib.Omega.{arith}
 use lib.Dec.{ltb, leb}
 use lib.ListN.{length, getD}
 use borrow.Author.Tests.{lt-ltb, ltb-true, ltb-false, leb-true}
-use Rattle.pages.specs.Bytes.{wordAt, countOf}
+use Rattle.pages.specs.Bytes.{countOf}
 use Rattle.pages.proofs.Quant.{and-true, any-found, first-below}
-use Rattle.pages.proofs.Bytes.{eqs-refl, number-same, number-two}
+use Rattle.pages.proofs.Bytes.{eqs-refl, number-same}
+use Rattle.pages.proofs.Words.{words-same}
 use Rattle.kinds.specs.Kinds.{fixedMax, isNamed, isStored}
-use Rattle.types.specs.Store.{headBytes, childBytes, nameBytes, childrenAt, kindAt, childAt, nameAt, sizeAt, entryAt, offset, partsAt, isEntry, Formed}
+use Rattle.types.specs.Store.{headBytes, nameBytes, childrenAt, kindAt, childAt, nameAt, sizeAt, entryAt, offset, partsAt, isEntry, Formed}
 use Rattle.types.specs.Types.{typesIn, placeOf, kindOf, arity, childOf, nameOf}
 use Rattle.types.specs.Recur.{below, cov}
 use Rattle.types.specs.Trees.{Tree, none, node, treeRule, treeOf, Bytes}
@@ -53,25 +54,6 @@ module _ (page : List ℕ) (f : Formed page) where
       go i false e = refl
 
 -- ---- entries with the same parts have the same bytes
-
--- words that are equal have equal bytes
-word-same : (page : List ℕ) → Bytes page → (o u : ℕ) → wordAt page o ≡ wordAt page u → (i : ℕ) → i < 2 → getD page (o + i) 0 ≡ getD page (u + i) 0
-word-same page b o u w = number-same page b o u 2 (number-two page o ∙ w ∙ sym (number-two page u))
-
-words-same : (page : List ℕ) → Bytes page → (o u n : ℕ) → ((j : ℕ) → j < n → wordAt page (o + childBytes * j) ≡ wordAt page (u + childBytes * j))
-    → (i : ℕ) → i < childBytes * n → getD page (o + i) 0 ≡ getD page (u + i) 0
-words-same page b o u zero h i l = absurd (omega arith)
-words-same page b o u (suc n) h i l =
-    go (ltb i (childBytes * n)) refl (words-same page b o u n (λ j m. h j (omega arith)) i)
-  where
-    go : (x : Bool) → ltb i (childBytes * n) ≡ x → (i < childBytes * n → getD page (o + i) 0 ≡ getD page (u + i) 0)
-        → getD page (o + i) 0 ≡ getD page (u + i) 0
-    go true e before = before (ltb-true i (childBytes * n) e)
-    go false e before =
-        let k = ltb-false i (childBytes * n) e in
-        let p : o + childBytes * n + (i - childBytes * n) ≡ o + i = omega arith in
-        let q : u + childBytes * n + (i - childBytes * n) ≡ u + i = omega arith in
-        rw (p, q) at (word-same page b (o + childBytes * n) (u + childBytes * n) (h n (omega arith)) (i - childBytes * n) (omega arith))
 
 module _ (page : List ℕ) (b : Bytes page) (o u : ℕ) (kind : kindAt page o ≡ kindAt page u) (count : childrenAt page o ≡ childrenAt page u)
     (name : isNamed (kindAt page u) ≡ true → nameAt page o ≡ nameAt page u)

@@ -12,6 +12,7 @@ use Rattle.pages.specs.Quant.{allTo}
 use Rattle.pages.specs.Bytes.{zeros, within, countBytes, countOf}
 use Rattle.pages.proofs.Quant.{and-true, all-at}
 use Rattle.pages.proofs.Bytes.{and-false}
+use Rattle.names.specs.Calls.{isUsed}
 use Rattle.kinds.specs.Kinds.{fixedMax, childrenMax, isNamed, isStored, fewest, most}
 use Rattle.types.specs.Store.{typesMax, entriesMax, depthMax, headBytes, childBytes, nameBytes, childrenAt, kindAt, nameAt, sizeAt, entryAt, offset, depthAt, depths, childrenBelow, partsAt, equalTo, goodAt, formed, Formed}
 use Rattle.types.specs.Types.{typesIn, placeOf, kindOf, arity, childOf, Held}
@@ -91,7 +92,7 @@ parts-within : (page : List ℕ) (n t o : ℕ) → partsAt page n t o ≡ true
 unfolding partsAt
 parts-within page n t o h = go (isNamed (kindAt page o)) refl (and-true (isStored (kindAt page o)) _ h .1)
   where
-    go : (b : Bool) → isNamed (kindAt page o) ≡ b → cond b (eqb (childrenAt page o) 0 && ltb (nameAt page o) n)
+    go : (b : Bool) → isNamed (kindAt page o) ≡ b → cond b (eqb (childrenAt page o) 0 && isUsed n (nameAt page o))
         (within (fewest (kindAt page o)) (most (kindAt page o)) (childrenAt page o) && childrenBelow page o t) ≡ true
         → (fewest (kindAt page o) ≤ childrenAt page o) × (childrenAt page o ≤ most (kindAt page o))
     go true e p =

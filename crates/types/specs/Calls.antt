@@ -11,7 +11,7 @@ use Rattle.refusals.specs.declared.Verdict.{Verdict}
 use Rattle.refusals.specs.declared.Verdict.the-variants.{Passed, Refused}
 use Rattle.pages.specs.Bytes.{within, countBytes, countOf}
 use Rattle.pages.specs.Pad.{pad}
-use Rattle.names.specs.Calls.{lentBroken, usedOf}
+use Rattle.names.specs.Calls.{lentBroken, usedOf, isUsed}
 use Rattle.kinds.specs.Kinds.{fixedMax, childrenMax, kindLast, isNamed, isStored, fewest, most, constVariant}
 use Rattle.types.specs.Store.{depthMax, entryAt, depthIn, depths, equalTo, formed}
 use Rattle.types.specs.Types.{typesIn, placeOf, kindOf, arity, childOf, nameOf}
@@ -41,9 +41,9 @@ abbrev pub allBelow : ℕ → List ℕ → Bool
 allBelow t [] = true
 allBelow t (c ∷ cs) = ltb c t && allBelow t cs
 
--- are the children in use, surplus ones among them, and the name
+-- are the children in use, surplus ones among them, and the name, of n
 unfoldable pub partsUsed : List ℕ → ℕ → ℕ → List ℕ → ℕ → Bool
-partsUsed page n k children name = allBelow (typesIn page) children && (not (isNamed k) || ltb name n)
+partsUsed page n k children name = allBelow (typesIn page) children && (not (isNamed k) || isUsed n name)
 
 -- is the type one that a store holds, and not there yet
 unfoldable pub isNew : List ℕ → ℕ → List ℕ → ℕ → Bool

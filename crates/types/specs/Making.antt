@@ -2,25 +2,20 @@
 use mathlib.Core.Path.{_≡_}
 use mathlib.Core.Bool.{Bool, true, _&&_, not, cond}
 use mathlib.Core.List.{List, [], _∷_, _++_}
-use Prim.Native.Nat.{ℕ, _+_, _-_, _*_, _/_, _%_, _<_, _≤_}
+use Prim.Native.Nat.{ℕ, _+_, _-_, _*_, _<_, _≤_}
 use lib.Dec.{ltb, leb}
 use lib.ListN.{length, getD, take, replicate}
 use Rattle.refusals.specs.Lowest.{_when_, lowest, unlessRefused}
 use Rattle.refusals.specs.declared.Refusal.the-variants.{Depth, Full}
 use Rattle.refusals.specs.declared.Verdict.{Verdict}
 use Rattle.refusals.specs.declared.Verdict.the-variants.{Passed, Refused}
-use Rattle.pages.specs.Bytes.{countBytes, countOf, bytesOf, bigEndian, put}
+use Rattle.pages.specs.Bytes.{countBytes, countOf, bytesOf, words, bigEndian, put}
 use Rattle.kinds.specs.Kinds.{fixedMax, childrenMax, isNamed}
 use Rattle.types.specs.Store.{entriesMax, depthMax, headBytes, childBytes, nameBytes, sizeAt, offset, depthAt, depths, partsAt, equalTo, Formed}
 use Rattle.types.specs.Types.{typesIn, Measured}
 use Rattle.types.specs.declared.Made.{Made}
 
 -- ---- an entry's bytes
-
--- "two bytes a child"
-unfoldable pub words : List ℕ → List ℕ
-words [] = []
-words (c ∷ cs) = c / 256 ∷ c % 256 ∷ words cs
 
 -- "a child-count byte (0 beside a name) and a T body": of a kind with a name that name, of another kind its children
 unfoldable pub entryOf : ℕ → List ℕ → ℕ → List ℕ

@@ -7,7 +7,8 @@ use Prim.Native.Nat.{ℕ, zero, suc, _+_, _-_, _*_, _<_, _≤_}
 use lib.Dec.{ltb, leb, eqb}
 use lib.ListN.{length, getD, take, drop}
 use Rattle.pages.specs.Quant.{allTo, firstTo}
-use Rattle.pages.specs.Bytes.{eqs, zeros, within, countBytes, wordAt, countOf, numberAt}
+use Rattle.pages.specs.Bytes.{eqs, zeros, within, wordBytes, countBytes, wordAt, countOf, numberAt}
+use Rattle.names.specs.Calls.{isUsed}
 use Rattle.kinds.specs.Kinds.{fixedMax, isNamed, isStored, fewest, most}
 
 -- "At most 4,096", the fixed ones among them
@@ -30,7 +31,7 @@ headBytes = 2
 
 -- how many bytes a child takes
 abbrev pub childBytes : ℕ
-childBytes = 2
+childBytes = wordBytes
 
 -- and a name; a law that does not unfold it holds of every width (#105)
 unfoldable pub nameBytes : ℕ
@@ -99,11 +100,11 @@ isBelow page o t i = ltb (childAt page o i) t
 abbrev pub childrenBelow : List ℕ → ℕ → ℕ → Bool
 childrenBelow page o t = allTo (childrenAt page o) (isBelow page o t)
 
--- a kind that is stored, with a name below n and no child, or with as many children as the kind takes, all below t
+-- a kind that is stored, with a name in use, of n, and no child, or with as many children as the kind takes, all below t
 unfoldable pub partsAt : List ℕ → ℕ → ℕ → ℕ → Bool
 partsAt page n t o =
     isStored (kindAt page o)
-    && cond (isNamed (kindAt page o)) (eqb (childrenAt page o) 0 && ltb (nameAt page o) n)
+    && cond (isNamed (kindAt page o)) (eqb (childrenAt page o) 0 && isUsed n (nameAt page o))
     (within (fewest (kindAt page o)) (most (kindAt page o)) (childrenAt page o) && childrenBelow page o t)
 
 -- has entry i these bytes

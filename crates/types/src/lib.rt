@@ -2,8 +2,10 @@
 use kinds::CHILDREN;
 use kinds::FIXED;
 use kinds::Kind;
+use names::Symbol;
 use names::symbol_index;
 use pages::COUNT_BYTES;
+use pages::WORD_BYTES;
 use pages::Word;
 use pages::index;
 use refusals::Refusal;
@@ -16,12 +18,12 @@ ghost use Prim.Native.Nat.{ℕ, suc, _+_, _-_, _*_, _≤_, _<_};
 ghost use lib.ListN.{length, getD, set, replicate};
 ghost use Rattle.refusals.specs.declared.Verdict.the-variants.{Refused};
 ghost use Rattle.pages.specs.Quant.{allTo};
-ghost use Rattle.pages.specs.Bytes.{within, countBytes, put};
+ghost use Rattle.pages.specs.Bytes.{within, countBytes};
 ghost use Rattle.pages.specs.Pad.{pad};
 ghost use Rattle.kinds.specs.Kinds.{fixedMax, childrenMax, isNamed, fewest, most};
 ghost use Rattle.types.specs.Store.{entriesMax, headBytes, childBytes, childrenAt, sizeAt, offset, depthIn, larger, depthAt, isBelow, childrenBelow, partsAt, equalTo, goodAt, formed, Reached};
 ghost use Rattle.types.specs.Types.{typesIn, kindOf, arity, childOf, nameOf, Held, Measured};
-ghost use Rattle.types.specs.Making.{words, entryOf, entryMax, Ready, enterAnswer, enterPage, takenBack};
+ghost use Rattle.types.specs.Making.{entryOf, entryMax, Ready, enterAnswer, enterPage, takenBack};
 ghost use Rattle.types.specs.Calls.{storeBroken, emptyVerdict, emptyPage, allBelow, partsUsed, makeAnswer, makePage, listTo, typeAt, shown, readAnswer, constEntry, constAnswer, constPage};
 
 // How many types there can be.
@@ -46,7 +48,7 @@ type Offsets = [usize; ENTRIES + 1];
 const HEAD_BYTES: usize = 2;
 
 // How many bytes a child takes.
-pub const CHILD_BYTES: usize = 2;
+pub const CHILD_BYTES: usize = WORD_BYTES;
 
 // How many bytes a name takes.
 const NAME_BYTES: usize = 1;
@@ -78,7 +80,7 @@ pub struct Shape {
     pub depth: usize,
     pub count: usize,
     pub children: Children,
-    pub name: u8,
+    pub name: Symbol,
 }
 
 // A type, or why there is none.
@@ -113,7 +115,7 @@ fn are_below(page: &[u8], o: usize, k: usize, t: usize) -> bool
     true
 }
 
-// Whether the entry at o has a kind that is stored, with a name below n, or with as many children as the kind takes, all below t.
+// Whether the entry at o has a kind that is stored, with a name in use, of n, or with as many children as the kind takes, all below t.
 fn has_parts(page: &[u8], n: usize, t: usize, o: usize) -> bool
     requires { ⌜ (o + headBytes ≤ length (now page)) × (o + sizeAt (now page) o ≤ length (now page)) ⌝ }
     ensures { λ r. ⌜ r ≡ partsAt (now (page .entry)) n t o ⌝ }
@@ -127,7 +129,7 @@ fn has_parts(page: &[u8], n: usize, t: usize, o: usize) -> bool
         if children != 0 {
             return false;
         }
-        return symbol_index(page[o + HEAD_BYTES]) < n;
+        return names::is_used(n, index(page[o + HEAD_BYTES]));
     }
     if children < kinds::fewest(kind) {
         return false;
@@ -328,12 +330,12 @@ pub fn child_of(page: &[u8], offsets: &[usize], t: usize, i: usize) -> usize
 }
 
 // The name of a type whose kind has one.
-pub fn name_of(page: &[u8], offsets: &[usize], t: usize) -> u8
+pub fn name_of(page: &[u8], offsets: &[usize], t: usize) -> Symbol
     requires { ⌜ Held (now page) (now offsets) ⌝ }
     requires { ⌜ (t < typesIn (now page)) × (isNamed (kindOf (now page) t) ≡ true) ⌝ }
     ensures { λ r. ⌜ r ≡ nameOf (now (page .entry)) t ⌝ }
 {
-    page[offset_of(offsets, t) + HEAD_BYTES]
+    index(page[offset_of(offsets, t) + HEAD_BYTES]) as Symbol
 }
 
 // Enters an entry in a store that an entry call found in form: the number of its equal, else the next. The tables grow with it.
@@ -376,13 +378,6 @@ pub fn empty_types(page: &mut [u8]) -> Verdict
     Verdict::Passed
 }
 
-// A type's number as an index.
-fn type_index(t: u16) -> usize
-    ensures { λ r. ⌜ (r ≡ t) × (r < 65536) ⌝ }
-{
-    t as usize
-}
-
 // No byte of an entry yet.
 fn no_bytes() -> EntryBytes
     ensures { λ r. ⌜ r ≡ replicate entryMax 0 ⌝ }
@@ -390,27 +385,14 @@ fn no_bytes() -> EntryBytes
     [0; ENTRY_BYTES]
 }
 
-// Writes the numbers of types from index at on.
-pub fn put_types(bytes: &mut [u8], at: usize, types: &[u16])
-    requires { ⌜ at + childBytes * length (now types) ≤ length (now bytes) ⌝ }
-    ensures { λ _. ⌜ now (bytes .exit) ≡ put (now (bytes .entry)) at (words (now (types .entry))) ⌝ }
-{
-    let mut i: usize = 0;
-    while i < types.len() {
-        let word = pages::count_bytes(type_index(types[i]));
-        pages::put_bytes(bytes, at + CHILD_BYTES * i, &word);
-        i += 1;
-    }
-}
-
-// The entry of a type: of a kind with a name that name, of another kind its children.
-pub fn entry_of(kind: Kind, children: &[u16], name: u8) -> Entry
+// The entry of a type: of a kind with a name that name, of another kind its children. The number of a name in use fits its byte.
+pub fn entry_of(kind: Kind, children: &[u16], name: Symbol) -> Entry
     requires { ⌜ length (now children) ≤ childrenMax ⌝ }
     ensures { λ r. ⌜ (r .bytes ≡ pad entryMax 0 (entryOf kind (now (children .entry)) name)) × (r .size ≡ length (entryOf kind (now (children .entry)) name)) × (r .size ≤ entryMax) ⌝ }
 {
     let mut bytes = no_bytes();
     if kinds::is_named(kind) {
-        let named = [0, kind, name];
+        let named = [0, kind, (name % 256) as u8];
         pages::put_bytes(&mut bytes, 0, &named);
         return Entry {
             bytes,
@@ -419,7 +401,7 @@ pub fn entry_of(kind: Kind, children: &[u16], name: u8) -> Entry
     }
     let head = [children.len() as u8, kind];
     pages::put_bytes(&mut bytes, 0, &head);
-    put_types(&mut bytes, HEAD_BYTES, children);
+    pages::put_words(&mut bytes, HEAD_BYTES, children);
     Entry {
         bytes,
         size: HEAD_BYTES + CHILD_BYTES * children.len(),
@@ -433,7 +415,7 @@ pub fn enter_type(
     depths: &mut [u8],
     kind: Kind,
     children: &[u16],
-    name: u8,
+    name: Symbol,
 ) -> Made
     requires { ⌜ length (now children) ≤ childrenMax ⌝ }
     requires { ⌜ Ready (now page) (now offsets) (now depths) (entryOf kind (now children) name) ⌝ }
@@ -451,7 +433,7 @@ fn all_below(children: &[u16], t: usize) -> bool
 {
     let mut i: usize = 0;
     while i < children.len() {
-        if t <= type_index(children[i]) {
+        if t <= pages::word_index(children[i]) {
             return false;
         }
         i += 1;
@@ -460,7 +442,7 @@ fn all_below(children: &[u16], t: usize) -> bool
 }
 
 // Whether the children of a type are in use and, if its kind has one, its name, of n.
-fn parts_used(page: &[u8], n: usize, kind: Kind, children: &[u16], name: u8) -> bool
+fn parts_used(page: &[u8], n: usize, kind: Kind, children: &[u16], name: Symbol) -> bool
     requires { ⌜ countBytes ≤ length (now page) ⌝ }
     ensures { λ r. ⌜ r ≡ partsUsed (now (page .entry)) n kind (now (children .entry)) name ⌝ }
 {
@@ -468,7 +450,7 @@ fn parts_used(page: &[u8], n: usize, kind: Kind, children: &[u16], name: u8) -> 
         return false;
     }
     if kinds::is_named(kind) {
-        return symbol_index(name) < n;
+        return names::is_used(n, symbol_index(name));
     }
     true
 }
@@ -487,7 +469,7 @@ pub fn make_type(
     lent: bool,
     kind: Kind,
     children: &[u16],
-    name: u8,
+    name: Symbol,
 ) -> Made
     ensures { λ r. ⌜ (r ≡ makeAnswer (now (page .entry)) (now (names .entry)) lent kind (now (children .entry)) name) × (now (page .exit) ≡ makePage (now (page .entry)) (now (names .entry)) lent kind (now (children .entry)) name) ⌝ }
 {
@@ -548,7 +530,7 @@ fn children_of(page: &[u8], offsets: &[usize], t: usize) -> Children
 }
 
 // The name of a type, 0 where it has none.
-fn name_or_zero(page: &[u8], offsets: &[usize], t: usize) -> u8
+fn name_or_zero(page: &[u8], offsets: &[usize], t: usize) -> Symbol
     requires { ⌜ Held (now page) (now offsets) ⌝ }
     requires { ⌜ t < typesIn (now page) ⌝ }
     ensures { λ r. ⌜ r ≡ cond (isNamed (kindOf (now (page .entry)) t)) (nameOf (now (page .entry)) t) 0 ⌝ }

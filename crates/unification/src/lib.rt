@@ -9,6 +9,7 @@ use matching::Checked;
 use matching::matches;
 use matching::note;
 use matching::recalls;
+use names::Symbol;
 use refusals::Answer;
 use refusals::Refusal;
 use types::NULL;
@@ -57,7 +58,7 @@ fn unify_generic(
     offsets: &[usize],
     memo: &mut [usize],
     bindings: Bindings,
-    name: u8,
+    name: Symbol,
     a: usize,
 ) -> Unified
     requires { ⌜ Held (now page) (now offsets) ⌝ }

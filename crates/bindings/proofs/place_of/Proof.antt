@@ -20,6 +20,9 @@ abbrev μ-loop : tie.MeasureT-loop
 loop-holds : tie.Need-loop-holds Inv-loop μ-loop
 loop-holds c = (omega arith, any-none (hasName (c .before .args .bindings .names) (c .before .args .name)))
 
+mul-if1 : tie.Need-mul-if1 Inv-loop μ-loop
+mul-if1 c = search needs
+
 array-read-if1 : tie.Need-array-read-if1 Inv-loop μ-loop
 array-read-if1 c = search needs
 
@@ -52,6 +55,7 @@ place-of-spec =
     Inv-loop
     μ-loop
     loop-holds
+    mul-if1
     array-read-if1
     returns
     add-i

@@ -19,21 +19,21 @@ abbrev μ-loop : tie.MeasureT-loop
 loop-holds : tie.Need-loop-holds Inv-loop μ-loop
 loop-holds c = (omega arith, refl)
 
-mul-type-index : tie.Need-mul-type-index Inv-loop μ-loop
-mul-type-index c = search needs
+mul-word-index : tie.Need-mul-word-index Inv-loop μ-loop
+mul-word-index c = search needs
 
-shared-slice-read-type-index : tie.Need-shared-slice-read-type-index Inv-loop μ-loop
-shared-slice-read-type-index c = search needs
+shared-slice-read-word-index : tie.Need-shared-slice-read-word-index Inv-loop μ-loop
+shared-slice-read-word-index c = search needs
 
-type-index-requires : tie.Need-type-index-requires Inv-loop μ-loop
-type-index-requires c κs = search needs
+word-index-requires : tie.Need-word-index-requires Inv-loop μ-loop
+word-index-requires c κs = search needs
 
 returns : tie.Need-returns Inv-loop μ-loop
 returns c =
     let start = c .before .before .before .before .before .before in
     let loop = c .before .before .before .before .loop in
     let loop-test = c .before .before .before .loop-test in
-    sym (loop .inv .1 ∙ below-off (now (start .args .children)) (start .args .t) (loop .i) (loop-test .taken) (rw (c .before .type-index .ensures .0) at (c .if1 .taken)))
+    sym (loop .inv .1 ∙ below-off (now (start .args .children)) (start .args .t) (loop .i) (loop-test .taken) (rw (c .before .word-index .ensures .0) at (c .if1 .taken)))
 
 add-i : tie.Need-add-i Inv-loop μ-loop
 add-i c = search needs
@@ -46,7 +46,7 @@ loop-again c =
     let start = c .before .before .before .before .before .before in
     let loop = c .before .before .before .before .loop in
     let loop-test = c .before .before .before .loop-test in
-    (omega arith, loop .inv .1 ∙ below-on (now (start .args .children)) (start .args .t) (loop .i) (loop-test .taken) (rw (c .before .type-index .ensures .0) at (c .if1 .left)))
+    (omega arith, loop .inv .1 ∙ below-on (now (start .args .children)) (start .args .t) (loop .i) (loop-test .taken) (rw (c .before .word-index .ensures .0) at (c .if1 .left)))
 
 returns-2 : tie.Need-returns-2 Inv-loop μ-loop
 returns-2 c =
@@ -60,9 +60,9 @@ all-below-spec =
     Inv-loop
     μ-loop
     loop-holds
-    mul-type-index
-    shared-slice-read-type-index
-    type-index-requires
+    mul-word-index
+    shared-slice-read-word-index
+    word-index-requires
     returns
     add-i
     loop-less

@@ -44,29 +44,34 @@ returns-2 c =
     let m = sym (c .before .before .is-named .ensures) ∙ c .before .if2 .taken in
     parts-childful (now (a .page)) (a .n) (a .t) (a .o) s m (rw (index .ensures .0) at (c .if3 .taken))
 
-add-symbol-index : tie.Need-add-symbol-index
-add-symbol-index c = search needs
+add-index : tie.Need-add-index
+add-index c = search needs
 
-shared-slice-read-symbol-index : tie.Need-shared-slice-read-symbol-index
-shared-slice-read-symbol-index c =
+shared-slice-read-index-2 : tie.Need-shared-slice-read-index-2
+shared-slice-read-index-2 c =
     let start = c .before .before .before .before .before .before .before .before .before .before in
     let m = sym (c .before .before .before .is-named .ensures) ∙ c .before .before .if2 .taken in
     omega (arith, size-named (now (start .args .page)) (start .args .o) m, name-width, start .pre .1)
 
-symbol-index-requires : tie.Need-symbol-index-requires
-symbol-index-requires c κs = search needs
+index-requires-2 : tie.Need-index-requires-2
+index-requires-2 c κs = search needs
+
+is-used-requires : tie.Need-is-used-requires
+is-used-requires c κs = search needs
 
 returns-3 : tie.Need-returns-3
 returns-3 c =
-    let start = c .before .before .before .before .before .before .before .before .before .before .before in
-    let is-stored = c .before .before .before .before .before .before .is-stored in
-    let if1 = c .before .before .before .before .before .if1 in
-    let is-named = c .before .before .before .before .is-named in
-    let index = c .before .before .before .before .before .before .before .index in
+    let start = c .before .before .before .before .before .before .before .before .before .before .before .before in
+    let is-stored = c .before .before .before .before .before .before .before .is-stored in
+    let if1 = c .before .before .before .before .before .before .if1 in
+    let is-named = c .before .before .before .before .before .is-named in
+    let if2 = c .before .before .before .before .if2 in
+    let index = c .before .before .before .before .before .before .before .before .index in
     let a = start .args in
     let s = sym (is-stored .ensures) ∙ not-false (is-stored .result) (if1 .left) in
-    let m = sym (is-named .ensures) ∙ c .before .before .before .if2 .taken in
-    rw (c .symbol-index .ensures .0, ← name-byte (now (a .page)) (a .o)) (parts-name (now (a .page)) (a .n) (a .t) (a .o) s m (rw (index .ensures .0) at (c .before .before .if3 .left)))
+    let m = sym (is-named .ensures) ∙ if2 .taken in
+    c .is-used .ensures ∙ rw (c .before .index2 .ensures .0, ← name-byte (now (a .page)) (a .o))
+    (parts-name (now (a .page)) (a .n) (a .t) (a .o) s m (rw (index .ensures .0) at (c .before .before .before .if3 .left)))
 
 fewest-requires : tie.Need-fewest-requires
 fewest-requires c κs = search needs
@@ -135,9 +140,10 @@ has-parts-spec =
     returns
     is-named-requires
     returns-2
-    add-symbol-index
-    shared-slice-read-symbol-index
-    symbol-index-requires
+    add-index
+    shared-slice-read-index-2
+    index-requires-2
+    is-used-requires
     returns-3
     fewest-requires
     returns-4

@@ -16,16 +16,16 @@ offset-of-requires c κs =
     let a = name-above page (start .pre .0 .sound) (start .args .t) (start .pre .1 .0) (start .pre .1 .1) in
     offset-asks page (now (start .args .offsets)) (start .pre .0) (start .args .t) (start .pre .1 .0) a
 
-add-result : tie.Need-add-result
-add-result c =
+add-index : tie.Need-add-index
+add-index c =
     let start = c .before .before .before in
     let page = now (start .args .page) in
     let a = name-above page (start .pre .0 .sound) (start .args .t) (start .pre .1 .0) (start .pre .1 .1) in
     let e = offset-is page (now (start .args .offsets)) (start .pre .0) (start .args .t) (start .pre .1 .0) (c .offset-of .result) a (c .offset-of .ensures) in
     search (needs, e, name-inside page (start .pre .0 .sound) (start .args .t) (start .pre .1 .0) (start .pre .1 .1))
 
-shared-slice-read-result : tie.Need-shared-slice-read-result
-shared-slice-read-result c =
+shared-slice-read-index : tie.Need-shared-slice-read-index
+shared-slice-read-index c =
     let start = c .before .before .before .before in
     let page = now (start .args .page) in
     let at = c .before .offset-of in
@@ -33,15 +33,21 @@ shared-slice-read-result c =
     let e = offset-is page (now (start .args .offsets)) (start .pre .0) (start .args .t) (start .pre .1 .0) (at .result) a (at .ensures) in
     omega (arith, e, name-inside page (start .pre .0 .sound) (start .args .t) (start .pre .1 .0) (start .pre .1 .1), name-width)
 
+index-requires : tie.Need-index-requires
+index-requires c κs = search needs
+
+cast-result : tie.Need-cast-result
+cast-result c = search needs
+
 returns : tie.Need-returns
 unfolding nameOf
 returns c =
-    let start = c .before .before .before .before in
+    let start = c .before .before .before .before .before in
     let page = now (start .args .page) in
-    let at = c .before .offset-of in
+    let at = c .before .before .offset-of in
     let a = name-above page (start .pre .0 .sound) (start .args .t) (start .pre .1 .0) (start .pre .1 .1) in
     let e = offset-is page (now (start .args .offsets)) (start .pre .0) (start .args .t) (start .pre .1 .0) (at .result) a (at .ensures) in
-    rw e (sym (name-byte page (placeOf page (start .args .t))))
+    rw (c .index .ensures .0, e) (sym (name-byte page (placeOf page (start .args .t))))
 
 pub name-of-spec : {M : Type 1} → statement M
-name-of-spec = tie.close (tie.spec offset-of-requires add-result shared-slice-read-result returns)
+name-of-spec = tie.close (tie.spec offset-of-requires add-index shared-slice-read-index index-requires cast-result returns)

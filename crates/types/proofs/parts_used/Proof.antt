@@ -30,16 +30,20 @@ is-named-requires c κs = search needs
 symbol-index-requires : tie.Need-symbol-index-requires
 symbol-index-requires c κs = search needs
 
+is-used-requires : tie.Need-is-used-requires
+is-used-requires c κs = search needs
+
 returns-2 : tie.Need-returns-2
 returns-2 c =
-    let start = c .before .before .before .before .before .before .before .before in
-    let count = c .before .before .before .before .before .count in
-    let all-below = c .before .before .before .before .all-below in
-    let if1 = c .before .before .before .if1 in
-    let is-named = c .before .before .is-named in
+    let start = c .before .before .before .before .before .before .before .before .before in
+    let count = c .before .before .before .before .before .before .count in
+    let all-below = c .before .before .before .before .before .all-below in
+    let if1 = c .before .before .before .before .if1 in
+    let is-named = c .before .before .before .is-named in
     let a = start .args in
     let b = rw (count .ensures .0) at (sym (all-below .ensures) ∙ not-false (all-below .result) (if1 .left)) in
-    rw (c .symbol-index .ensures .0) (parts-named (now (a .page)) (a .n) (a .kind) (now (a .children)) (a .name) b (sym (is-named .ensures) ∙ c .before .if2 .taken))
+    c .is-used .ensures ∙ rw (c .before .symbol-index .ensures .0)
+    (parts-named (now (a .page)) (a .n) (a .kind) (now (a .children)) (a .name) b (sym (is-named .ensures) ∙ c .before .before .if2 .taken))
 
 returns-3 : tie.Need-returns-3
 returns-3 c =
@@ -61,5 +65,6 @@ parts-used-spec =
     returns
     is-named-requires
     symbol-index-requires
+    is-used-requires
     returns-2
     returns-3)
