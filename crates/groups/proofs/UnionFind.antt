@@ -12,7 +12,7 @@ use lib.ListN.{length, getD, set, length-set}
 use lib.Seq.{getD-set-same, getD-set-other, set-getD}
 use lib.Dec.{eqb}
 use borrow.Author.Tests.{eq-eqb, ne-eqb}
-use Rattle.groups.specs.Groups.{Pair, Within, Joined, Joining, linkOf, walk, enter, enterAll, selves, parentsOf, rootOf}
+use Rattle.groups.specs.Groups.{Pair, Within, Joined, Joining, linkOf, walk, enter, enterAll, selves, parentsOf, rootOf, Below}
 use Rattle.groups.specs.Groups.Joined.{listed, same, back, chain}
 use Rattle.groups.specs.Groups.Joining.{none, joins, idle}
 
@@ -275,11 +275,14 @@ getD-selves s zero i l = omega arith
 getD-selves s (suc n) zero l = sym (add-zero s)
 getD-selves s (suc n) (suc i) l = getD-selves (suc s) n i (omega arith) ∙ omega arith
 
+pub selves-below : (n : ℕ) → Below n (selves 0 n)
+selves-below n s l = rw (getD-selves 0 n s l, zero-add) l
+
 stands-none : (n : ℕ) → Stands n [] 0 (selves 0 n)
 unfolding walk
 stands-none n = record {
   size = length-selves 0 n;
-  below = λ s l. rw (getD-selves 0 n s l, zero-add) l;
+  below = selves-below n;
   rests = λ s l. getD-selves 0 n s l ∙ zero-add s;
   sound = λ s l. same s;
   complete = λ q m. absurd (List·Memᴰ·not-nil m);
@@ -305,6 +308,10 @@ module _ (n : ℕ) (ps : List Pair) (w : Within n ps) where
   -- two symbols have one root exactly if they are in one group
   pub groups : (s t : ℕ) → s < n → t < n → (rootOf n ps s ≡ rootOf n ps t) ↔ Joined ps s t
   groups s t ls lt = (λ e. chain (rw e at (joined-root s ls)) (back (joined-root t lt)), one-root)
+
+  -- a parent is a symbol below n
+  pub parents-below : Below n (parentsOf n ps)
+  parents-below = stands n ps w .below
 
   -- a root is a symbol below n
   pub root-below : (s : ℕ) → s < n → rootOf n ps s < n

@@ -1,10 +1,10 @@
 -- Walks one step at a time, and parents one list of pairs after another. Assumes nothing.
 use mathlib.Core.Path.{_≡_, refl, _∙_, ap}
 use mathlib.Core.List.{List, [], _∷_, _++_}
-use Prim.Native.Nat.{ℕ, suc, _+_, _-_, _<_, _≤_}
+use Prim.Native.Nat.{ℕ, zero, suc, _+_, _-_, _<_, _≤_}
 use native.Mathlib.Omega.{arith}
-use native.Mathlib.Nat.{add-zero, zero-add, suc-add, add-suc}
-use lib.ListN.{length, getD, length-set}
+use native.Mathlib.Nat.{add-zero, zero-add, suc-add, add-suc, not-suc-le-zero, le-of-suc-le-suc}
+use lib.ListN.{length, getD, set, length-set}
 use Rattle.groups.specs.Groups.{Pair, linkAt, walk, enter, enterAll, selves, parentsOf}
 use Rattle.groups.proofs.UnionFind.{length-selves}
 
@@ -21,6 +21,12 @@ unfolding walk
 walk-none n k p x l =
     let e : n - k ≡ 0 = omega arith in
     ap (λ (m : ℕ). walk m p x) e
+
+-- a list that does not have a place is not changed there
+pub set-past : (p : List ℕ) (i x : ℕ) → length p ≤ i → set p i x ≡ p
+set-past [] i x h = refl
+set-past (y ∷ p) zero x h = absurd (not-suc-le-zero h)
+set-past (y ∷ p) (suc i) x h = ap (λ (q : List ℕ). y ∷ q) (set-past p i x (le-of-suc-le-suc h))
 
 -- ---- more pairs at the end
 

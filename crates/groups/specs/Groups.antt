@@ -68,6 +68,10 @@ selves s (suc n) = s ∷ selves (suc s) n
 unfoldable pub parentsOf : ℕ → List Pair → List ℕ
 parentsOf n ps = enterAll 0 (selves 0 n) ps
 
+-- each of n symbols has one of them as its parent
+abbrev pub Below : ℕ → List ℕ → Type 0
+Below n p = (s : ℕ) → s < n → getD p s 0 < n
+
 -- the root of a symbol: no walk has more steps than there are pairs
 unfoldable pub rootOf : ℕ → List Pair → ℕ → ℕ
 rootOf n ps s = walk (length ps) (parentsOf n ps) s

@@ -4,7 +4,7 @@ use names::NAMES;
 use names::Symbol;
 use names::symbol_index;
 ghost use mathlib.Core.Path.{_≡_};
-ghost use lib.ListN.{length};
+ghost use lib.ListN.{getD, set};
 ghost use Rattle.names.specs.Table.{namesMax};
 ghost use Rattle.groups.specs.Groups.{pair, linkOf, walk, enter, selves};
 
@@ -37,17 +37,36 @@ pub fn own_parents() -> Parents
     parents
 }
 
+// The parent of a symbol, 0 where the list does not have it.
+fn parent_of(parents: &[Symbol], symbol: Symbol) -> Symbol
+    ensures { λ r. ⌜ r ≡ getD (now (parents .entry)) symbol 0 ⌝ }
+{
+    let i = symbol_index(symbol);
+    if i < parents.len() {
+        return parents[i];
+    }
+    0
+}
+
+// Makes a symbol the parent of another, if the list has that one.
+fn set_parent(parents: &mut [Symbol], symbol: Symbol, parent: Symbol)
+    ensures { λ _. ⌜ now (parents .exit) ≡ set (now (parents .entry)) symbol parent ⌝ }
+{
+    let i = symbol_index(symbol);
+    if i < parents.len() {
+        parents[i] = parent;
+    }
+}
+
 // Where that many steps up from a symbol lead, for crates above (`pairs::canonical` is the entry call). No step leaves a root, so
 // the walk stops there.
 pub fn root(parents: &[Symbol], steps: usize, symbol: Symbol) -> Symbol
-    requires { ⌜ length (now parents) ≡ namesMax ⌝ }
     ensures { λ r. ⌜ r ≡ walk steps (now (parents .entry)) symbol ⌝ }
 {
     let mut at = symbol;
     let mut k: usize = 0;
     while k < steps {
-        let i = symbol_index(at);
-        let up = parents[i];
+        let up = parent_of(parents, at);
         if up == at {
             return at;
         }
@@ -59,12 +78,10 @@ pub fn root(parents: &[Symbol], steps: usize, symbol: Symbol) -> Symbol
 
 // One more pair: its two roots, that many steps up, are linked. For crates above (`pairs::insert_pair` is the entry call).
 pub fn join(parents: &mut [Symbol], steps: usize, symbol: Symbol, base: Symbol)
-    requires { ⌜ length (now parents) ≡ namesMax ⌝ }
     ensures { λ _. ⌜ now (parents .exit) ≡ enter steps (now (parents .entry)) (pair symbol base) ⌝ }
 {
     let a = root(parents, steps, symbol);
     let b = root(parents, steps, base);
     let l = linked(a, b);
-    let child = symbol_index(l.child);
-    parents[child] = l.root;
+    set_parent(parents, l.child, l.root);
 }

@@ -14,6 +14,8 @@ use Rattle.units.specs.Calls.{terms, termsOf, termsFrom, unitOf}
 use Rattle.units.specs.declared.Unit.{Unit}
 use Rattle.units.proofs.Form.{symAt, expAt, from-start, from-step, from-end}
 use Rattle.units.proofs.Held.{placesOf}
+use Rattle.names.specs.Calls.{isUsed}
+use Rattle.names.proofs.Used.{used-below}
 use Rattle.units.proofs.Used.{in-use-head, in-use-tail, in-use-more}
 use Rattle.order.specs.Order.{comes, place, placed, byName}
 
@@ -133,12 +135,14 @@ in-use-at n u h i l = rw (← zero-add i) (go (u .count) 0 h i l)
   where
     go : (k j : ℕ) → inUse n (terms k j (u .symbols) (u .exponents)) ≡ true → (i : ℕ) → i < k → getD (u .symbols) (j + i) 0 < n
     go zero j p i l = absurd (not-suc-le-zero l)
-    go (suc k) j p zero l = rw (add-zero j) (in-use-head n (term (getD (u .symbols) j 0) (getD (u .exponents) j (pos 0))) (terms k (suc j) (u .symbols) (u .exponents)) p)
+    go (suc k) j p zero l =
+        rw (add-zero j)
+        (used-below n (getD (u .symbols) j 0) (in-use-head n (term (getD (u .symbols) j 0) (getD (u .exponents) j (pos 0))) (terms k (suc j) (u .symbols) (u .exponents)) p) .0)
     go (suc k) j p (suc i) l =
         rw (add-suc j i, ← suc-add j i)
         (go k (suc j) (in-use-tail n (term (getD (u .symbols) j 0) (getD (u .exponents) j (pos 0))) (terms k (suc j) (u .symbols) (u .exponents)) p) i (le-of-suc-le-suc l))
 
-pub place-in-use : (n : ℕ) (page : List ℕ) (x : Term) (ys : List Term) → x .symbol < n → inUse n ys ≡ true → inUse n (place page x ys) ≡ true
+pub place-in-use : (n : ℕ) (page : List ℕ) (x : Term) (ys : List Term) → isUsed n (x .symbol) ≡ true → inUse n ys ≡ true → inUse n (place page x ys) ≡ true
 unfolding place
 place-in-use n page x [] l h = in-use-more n x [] l h
 place-in-use n page x (y ∷ ys) l h = go (comes (nameAt page (x .symbol)) (nameAt page (y .symbol))) (place-in-use n page x ys l (in-use-tail n y ys h))
@@ -182,7 +186,7 @@ module _ (page : List ℕ) (n : ℕ) (u : Unit) where
       ahead : inUse n (termAt u i ∷ termsFrom u (i + 1)) ≡ true
       ahead = ap (inUse n) (sym (from-step (placesOf u) i h)) ∙ st .coming
 
-      pub sorting-used : symAt (placesOf u) i < n
+      pub sorting-used : isUsed n (symAt (placesOf u) i) ≡ true
       sorting-used = in-use-head n (termAt u i) (termsFrom u (i + 1)) ahead
 
       pub sorting-next : (r : Unit) → r ≡ unitOf (place page (termAt u i) (st .done)) → Sorting page n u r (i + 1)

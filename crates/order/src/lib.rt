@@ -10,6 +10,7 @@ ghost use mathlib.Core.List.{List, _++_};
 ghost use Prim.Native.Nat.{_+_, _≤_, _<_};
 ghost use Rattle.pages.specs.Bytes.{countOf};
 ghost use Rattle.names.specs.Table.{formed};
+ghost use Rattle.names.specs.Calls.{isUsed};
 ghost use Rattle.units.specs.Unit.{placesMax, Term, term, inUse};
 ghost use Rattle.units.specs.Calls.{termsOf, unitOf, termsFrom};
 ghost use Rattle.order.specs.Order.{comes, place, byName};
@@ -51,7 +52,7 @@ fn with_rest(v: Unit, w: Unit, j: usize) -> Unit
 
 // The unit w, in order of names, with one term more at its place.
 fn placed(page: &[u8], w: Unit, s: Symbol, e: i16) -> Unit
-    requires { ⌜ (formed (now page) ≡ true) × (w .count < placesMax) × (s < countOf (now page)) × (inUse (countOf (now page)) (termsOf w) ≡ true) ⌝ }
+    requires { ⌜ (formed (now page) ≡ true) × (w .count < placesMax) × (isUsed (countOf (now page)) s ≡ true) × (inUse (countOf (now page)) (termsOf w) ≡ true) ⌝ }
     ensures { λ r. ⌜ r ≡ unitOf (place (now (page .entry)) (term s e) (termsOf w)) ⌝ }
 {
     let n = w.count;

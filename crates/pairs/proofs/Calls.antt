@@ -6,7 +6,7 @@ use Prim.Native.Nat.{ℕ, _+_, _-_, _*_, _<_, _≤_}
 use native.Mathlib.Omega.{arith}
 use lib.Dec.{T, leb, ltb}
 use lib.ListN.{length, take, drop, replicate}
-use borrow.Author.Tests.{lt-ltb, le-ltb, ltb-true, leb-false, not-false}
+use borrow.Author.Tests.{lt-ltb, le-ltb, leb-false, not-false}
 use Rattle.refusals.specs.Numbers.{isRefused}
 use Rattle.refusals.specs.Lowest.{_when_, lowest}
 use Rattle.refusals.specs.declared.Refusal.{Refusal}
@@ -16,10 +16,11 @@ use Rattle.refusals.specs.declared.Verdict.the-variants.{Passed, Refused}
 use Rattle.refusals.proofs.Lowest.{first-holds, passed-parts, passed-is}
 use Rattle.pages.specs.Quant.{firstTo}
 use Rattle.pages.specs.Bytes.{countBytes, countOf, put}
+use Rattle.pages.proofs.Pad.{length-pad}
 use Rattle.names.specs.Table.{namesMax}
-use Rattle.names.specs.Calls.{lentBroken, usedOf}
-use Rattle.names.proofs.Calls.{used-few}
-use Rattle.groups.specs.Groups.{pair, selves, walk, rootOf}
+use Rattle.names.specs.Calls.{lentBroken, usedOf, isUsed}
+use Rattle.names.proofs.Used.{used-below}
+use Rattle.groups.specs.Groups.{pair, selves, walk, rootOf, Below}
 use Rattle.pairs.specs.Table.{pairsMax, pairBytes, bothUsed, insertVerdict, withPair, insertion}
 use Rattle.pairs.specs.Table as tables
 use Rattle.pairs.specs.Page.{parentsAt, sizeOf, bodiesIn, parentsIn, tableIn, listedIn, holds, formed, withTable}
@@ -28,8 +29,9 @@ use Rattle.pairs.specs.declared.ConversionTable.{ConversionTable}
 use Rattle.pairs.specs.declared.Outcome.{Outcome}
 use Rattle.pairs.specs.declared.Root.{Root}
 use Rattle.pairs.specs.declared.Factor.{Factor}
-use Rattle.pairs.proofs.Table.{length-pairs}
+use Rattle.pairs.proofs.Table.{length-pairs, Form, form}
 use Rattle.pairs.proofs.Page.{form-held, form-unheld, formed-parts, count-in}
+use Rattle.pairs.proofs.Grown.{form-below, form-more}
 
 -- ---- making a table
 
@@ -93,6 +95,14 @@ insert-count t n s f b v =
     let y = passed-parts Unused (not (bothUsed n (pair s b))) ((Full when leb pairsMax (t .count)) ∷ []) (x .1) in
     let z = passed-parts Full (leb pairsMax (t .count)) [] (y .1) in
     (leb-false pairsMax (t .count) (z .0), rw v)
+
+-- a table that takes a pair was in form, and the pair's symbols are in use
+insert-form : (t : ConversionTable) (n s b : ℕ) → insertVerdict t n (pair s b) ≡ Passed → Form t n × (bothUsed n (pair s b) ≡ true)
+unfolding insertVerdict
+insert-form t n s b v =
+    let x = passed-parts Broken (not (tables.formed t n)) ((Unused when not (bothUsed n (pair s b))) ∷ (Full when leb pairsMax (t .count)) ∷ []) v in
+    let y = passed-parts Unused (not (bothUsed n (pair s b))) ((Full when leb pairsMax (t .count)) ∷ []) (x .1) in
+    (form t n (not-false (tables.formed t n) (x .0)), not-false (bothUsed n (pair s b)) (y .0))
 
 module _ (page names : List ℕ) (lent : Bool) (s f b : ℕ) where
   refused : (r : Refusal) → pairVerdict page names lent (pair s b) ≡ Refused r → (Refused r ≡ pairVerdict page names lent (pair s b))
@@ -161,6 +171,16 @@ module _ (page names : List ℕ) (lent : Bool) (s f b : ℕ) where
           unfolding withPair tableIn
           count-grown = ap (λ (t : ConversionTable). t .count) table-grown
 
+          -- its parents are symbols that a page can hold
+          pub grown-below : Below namesMax (o .table .parents)
+          grown-below =
+              let n = usedOf names lent in
+              let k = insert-form (tableIn page) n s b was in
+              let sized : length (tableIn page .pairs) ≡ pairBytes * pairsMax = unfold tableIn in (length-pad (pairBytes * pairsMax) 0 (bodiesIn page)) in
+              let few : tableIn page .count < pairsMax = insert-count (tableIn page) n s f b was .0 in
+              subst (λ (t : ConversionTable). Below namesMax (t .parents)) (sym table-grown)
+              (form-below (withPair (tableIn page) s f b) n (form-more (tableIn page) s f b sized few n (k .0) (k .1)))
+
           pub pair-cramped : length page < sizeOf (o .table .count) → (Refused Full ≡ pairVerdict page names lent (pair s b))
               × (page ≡ pageAfter page names lent s f b)
           unfolding roomed
@@ -181,30 +201,29 @@ module _ (page names : List ℕ) (lent : Bool) (s f b : ℕ) where
 module _ (page names : List ℕ) (lent : Bool) (s : ℕ) where
   pub symbol-broken : tableBroken page names lent ≡ true → Refused Broken ≡ symbolVerdict page names lent s
   unfolding symbolVerdict
-  symbol-broken t = sym (rw t (first-holds Broken ((Unused when not (ltb s (usedOf names lent))) ∷ []) refl))
+  symbol-broken t = sym (rw t (first-holds Broken ((Unused when not (isUsed (usedOf names lent) s)) ∷ []) refl))
 
   module _ (t : tableBroken page names lent ≡ false) where
-    pub symbol-unused : usedOf names lent ≤ s → Refused Unused ≡ symbolVerdict page names lent s
+    pub symbol-unused : isUsed (usedOf names lent) s ≡ false → Refused Unused ≡ symbolVerdict page names lent s
     unfolding symbolVerdict
-    symbol-unused h = rw (t, le-ltb s (usedOf names lent) h)
+    symbol-unused h = rw (t, h)
 
-    pub symbol-used : s < usedOf names lent → Passed ≡ symbolVerdict page names lent s
+    pub symbol-used : isUsed (usedOf names lent) s ≡ true → Passed ≡ symbolVerdict page names lent s
     unfolding symbolVerdict
-    symbol-used h = rw (t, lt-ltb s (usedOf names lent) h)
+    symbol-used h = rw (t, h)
 
   -- a symbol that is looked up is looked up in a page in form
   pub passed-formed : Passed ≡ symbolVerdict page names lent s → formed page (usedOf names lent) ≡ true
   unfolding symbolVerdict
-  passed-formed v = unbroken page names lent (passed-parts Broken (tableBroken page names lent) ((Unused when not (ltb s (usedOf names lent))) ∷ []) (sym v) .0) .1
+  passed-formed v = unbroken page names lent (passed-parts Broken (tableBroken page names lent) ((Unused when not (isUsed (usedOf names lent) s)) ∷ []) (sym v) .0) .1
 
 -- it is the number of a name
 pub symbol-below : (page names : List ℕ) (lent : Bool) (s : ℕ) → symbolVerdict page names lent s ≡ Passed → s < namesMax
 unfolding symbolVerdict
 symbol-below page names lent s v =
-    let x = passed-parts Broken (tableBroken page names lent) ((Unused when not (ltb s (usedOf names lent))) ∷ []) v in
-    let y = passed-parts Unused (not (ltb s (usedOf names lent))) [] (x .1) in
-    let l = ltb-true s (usedOf names lent) (not-false (ltb s (usedOf names lent)) (y .0)) in
-    omega (arith, l, used-few names lent (unbroken page names lent (x .0) .0))
+    let x = passed-parts Broken (tableBroken page names lent) ((Unused when not (isUsed (usedOf names lent) s)) ∷ []) v in
+    let y = passed-parts Unused (not (isUsed (usedOf names lent) s)) [] (x .1) in
+    used-below (usedOf names lent) s (not-false (isUsed (usedOf names lent) s) (y .0)) .1
 
 -- the bytes of the pairs, as a part of the page
 pub bodies-read : (page : List ℕ) (k at : ℕ) → k ≡ countOf page → at ≡ parentsAt k → take (at - countBytes) (drop countBytes page) ≡ bodiesIn page

@@ -7,10 +7,9 @@ use mathlib.Core.Logic.{⊎-elim}
 use Prim.Native.Nat.{ℕ, zero, suc, _+_, _*_, _/_, _%_, _<_, _≤_}
 use native.Mathlib.Nat.{add-zero}
 use native.Mathlib.Omega.{arith}
-use lib.Dec.{ltb}
 use lib.ListN.{length, getD, take, drop, length-take, length-drop}
 use lib.Seq.{getD-take, getD-drop, ext-getD}
-use borrow.Author.Tests.{le-leb, ltb-true, lt-ltb}
+use borrow.Author.Tests.{le-leb}
 use Rattle.pages.specs.Quant.{allTo}
 use Rattle.pages.specs.Bytes.{zeros, countBytes, countOf, bytesOf, put}
 use Rattle.pages.specs.Pad.{pad}
@@ -19,13 +18,16 @@ use Rattle.pages.proofs.Bytes.{eqs-refl}
 use Rattle.pages.proofs.Put.{put-length, put-before, put-part, put-in, put-drop, put-after, put-front}
 use Rattle.pages.proofs.Pad.{getD-pad, length-pad, pad-front}
 use Rattle.names.specs.Table.{namesMax}
-use Rattle.groups.specs.Groups.{Pair, pair, Within, parentsOf}
+use Rattle.names.specs.Calls.{isUsed}
+use Rattle.names.proofs.Used.{used-below, used-is, used-more}
+use Rattle.groups.specs.Groups.{Pair, pair, Within, parentsOf, Below}
+use Rattle.groups.proofs.UnionFind.{parents-below}
 use Rattle.groups.proofs.Walks.{length-parents}
 use Rattle.pairs.specs.Table.{pairsMax, pairBytes, bodyOf, pairAt, pairsIn, listed, bothUsed, usedAt, formed, withPair}
 use Rattle.pairs.specs.Page.{parentsAt, sizeOf, bodiesIn, parentsIn, tableIn, listedIn, holds, Held, withTable}
 use Rattle.pairs.specs.Page as pages
 use Rattle.pairs.specs.declared.ConversionTable.{ConversionTable}
-use Rattle.pairs.proofs.Table.{pairs-next, Form, form}
+use Rattle.pairs.proofs.Table.{pairs-next, both-below, Form, form}
 
 -- ---- what pairs are listed
 
@@ -49,8 +51,8 @@ within-listed n bodies (suc k) h q m =
   where
     last : usedAt bodies n k ≡ true → (pairAt bodies k .symbol < n) × (pairAt bodies k .base < n)
     last u =
-        let a = and-true (ltb (pairAt bodies k .symbol) n) (ltb (pairAt bodies k .base) n) u in
-        (ltb-true (pairAt bodies k .symbol) n (a .0), ltb-true (pairAt bodies k .base) n (a .1))
+        let a = and-true (isUsed n (pairAt bodies k .symbol)) (isUsed n (pairAt bodies k .base)) u in
+        (used-below n (pairAt bodies k .symbol) (a .0) .0, used-below n (pairAt bodies k .base) (a .1) .0)
 
 -- ---- the form
 
@@ -64,10 +66,18 @@ form-within t n f = within-listed n (t .pairs) (t .count) (λ i l. all-at (usedA
 -- what is in use among n numbers is in use among m, if n is at most m
 pub more-used : (n m : ℕ) (q : Pair) → n ≤ m → bothUsed n q ≡ true → bothUsed m q ≡ true
 more-used n m q h u =
-    let a = and-true (ltb (q .symbol) n) (ltb (q .base) n) u in
-    let s : q .symbol < m = omega (arith, ltb-true (q .symbol) n (a .0)) in
-    let b : q .base < m = omega (arith, ltb-true (q .base) n (a .1)) in
-    rw (lt-ltb (q .symbol) m s, lt-ltb (q .base) m b)
+    let a = and-true (isUsed n (q .symbol)) (isUsed n (q .base)) u in
+    rw (used-more n m (q .symbol) h (a .0), used-more n m (q .base) h (a .1))
+
+-- of any number in use, those of a table in form are symbols that a table can have
+pub form-below : (t : ConversionTable) (n : ℕ) → Form t n → Below namesMax (t .parents)
+form-below t n f = subst (Below namesMax) (sym (f .given)) (parents-below namesMax (listed t) (within-listed namesMax (t .pairs) (t .count) every))
+  where
+    every : (i : ℕ) → i < t .count → usedAt (t .pairs) namesMax i ≡ true
+    every i l =
+        let q = pairAt (t .pairs) i in
+        let b = both-below n q (all-at (usedAt (t .pairs) n) (t .count) i (f .used) l) in
+        rw (used-is namesMax (q .symbol) (b .0) (b .0), used-is namesMax (q .base) (b .1) (b .1))
 
 -- pairs of symbols below n are pairs of symbols below m
 pub within-all : (n m : ℕ) → n ≤ m → (ps : List Pair) → Within n ps → Within m ps
@@ -102,8 +112,8 @@ module _ (t : ConversionTable) (s f b : ℕ) (sized : length (t .pairs) ≡ pair
   unfolding withPair
   sized-more = put-length (t .pairs) (pairBytes * t .count) (bodyOf s f b) fits ∙ sized
 
-  used-more : (n : ℕ) → Form t n → bothUsed n (pair s b) ≡ true → allTo (t .count + 1) (usedAt (put (t .pairs) (pairBytes * t .count) (bodyOf s f b)) n) ≡ true
-  used-more n fm u =
+  all-more-used : (n : ℕ) → Form t n → bothUsed n (pair s b) ≡ true → allTo (t .count + 1) (usedAt (put (t .pairs) (pairBytes * t .count) (bodyOf s f b)) n) ≡ true
+  all-more-used n fm u =
       let same : (i : ℕ) → i < t .count → usedAt (t .pairs) n i ≡ usedAt (put (t .pairs) (pairBytes * t .count) (bodyOf s f b)) n i =
       λ i l. ap (bothUsed n) (sym (ap₂ pair (old (pairBytes * i) (omega arith)) (old (pairBytes * i + 1) (omega arith)))) in
       all-more (usedAt (put (t .pairs) (pairBytes * t .count) (bodyOf s f b)) n) (t .count)
@@ -111,7 +121,7 @@ module _ (t : ConversionTable) (s f b : ℕ) (sized : length (t .pairs) ≡ pair
 
   -- the table is in form still
   pub form-more : (n : ℕ) → Form t n → bothUsed n (pair s b) ≡ true → Form (withPair t s f b) n
-  form-more n fm u = record { few = counted; given = up; used = unfold withPair in (used-more n fm u) }
+  form-more n fm u = record { few = counted; given = up; used = unfold withPair in (all-more-used n fm u) }
     where
       counted : withPair t s f b .count ≤ pairsMax
       counted = unfold withPair in (omega arith)

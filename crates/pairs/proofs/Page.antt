@@ -8,15 +8,14 @@ use native.Mathlib.Omega.{arith}
 use lib.Dec.{leb}
 use lib.ListN.{length, take, drop, replicate, length-take, length-drop}
 use borrow.Author.Tests.{le-leb, lt-leb, leb-true}
-use Rattle.pages.specs.Bytes.{zeros, countBytes, countOf, bytesOf, put}
+use Rattle.pages.specs.Bytes.{zeros, countBytes, countOf, bytesOf, lowBytes, put}
 use Rattle.pages.specs.Pad.{pad}
 use Rattle.pages.proofs.Quant.{and-true}
 use Rattle.pages.proofs.Bytes.{and-false}
-use Rattle.pages.proofs.Put.{put-whole}
 use Rattle.pages.proofs.Pad.{put-pad}
+use Rattle.pages.proofs.Low.{low-same}
 use Rattle.names.specs.Table.{namesMax}
-use Rattle.groups.specs.Groups.{selves}
-use Rattle.groups.proofs.UnionFind.{length-selves}
+use Rattle.groups.specs.Groups.{Below}
 use Rattle.pairs.specs.Table.{pairsMax, pairBytes}
 use Rattle.pairs.specs.Table as tables
 use Rattle.pairs.specs.Page.{parentsAt, sizeOf, parentsIn, tableIn, holds, Held, formed, withTable}
@@ -60,19 +59,15 @@ held-zeros page e = and-true (leb (sizeOf (countOf page)) (length page)) _ (and-
 
 pub table-read : (page : List ℕ) (k at : ℕ) → k ≡ countOf page → at ≡ parentsAt k → k ≤ pairsMax → sizeOf k ≤ length page → (bodies parents : List ℕ)
     → bodies ≡ put (replicate (pairBytes * pairsMax) 0) 0 (take (at - countBytes) (drop countBytes page))
-    → parents ≡ put (selves 0 namesMax) 0 (take (at + namesMax - at) (drop at page))
+    → parents ≡ parentsIn page
     → _≡_ {A = ConversionTable} (record { count = k; pairs = bodies; parents = parents }) (tableIn page)
 unfolding tableIn
 table-read page k at e is few room bodies parents eb ep =
     let x : at - countBytes ≡ pairBytes * k = omega arith in
-    let y : at + namesMax - at ≡ namesMax = omega arith in
     let lx : length (take (pairBytes * k) (drop countBytes page)) ≤ pairBytes * pairsMax = simp (length-take, length-drop) (omega arith) in
-    let ly : length (take namesMax (drop (parentsAt k) page)) ≡ length (selves 0 namesMax) =
-    simp (length-take, length-drop) (omega (arith, length-selves 0 namesMax)) in
     let b : bodies ≡ pad (pairBytes * pairsMax) 0 (take (pairBytes * k) (drop countBytes page)) =
     eb ∙ rw x (put-pad (pairBytes * pairsMax) (take (pairBytes * k) (drop countBytes page)) lx) in
-    let p : parents ≡ take namesMax (drop (parentsAt k) page) = ep ∙ rw (y, is) (put-whole (selves 0 namesMax) (take namesMax (drop (parentsAt k) page)) ly) in
-    rw (b, p, e)
+    rw (b, ep, e)
 
 -- ---- the form, by its parts
 
@@ -99,6 +94,10 @@ module _ (page : List ℕ) (n : ℕ) where
 
 -- ---- a table written
 
+-- parents that a page can hold are bytes
+pub low-below : (p : List ℕ) → length p ≡ namesMax → Below namesMax p → lowBytes p ≡ p
+low-below p n b = low-same p (λ i l. let k = b i (omega (arith, n)) in omega arith)
+
 pub table-written : (page : List ℕ) (t : ConversionTable) (at : ℕ) → at ≡ parentsAt (t .count) → (one two three : List ℕ)
     → one ≡ put page countBytes (take (pairBytes * t .count - 0) (drop 0 (t .pairs))) → two ≡ put one at (t .parents) → three ≡ put two 0 (bytesOf (t .count))
     → three ≡ withTable page t
@@ -107,10 +106,9 @@ table-written page t at is one two three a b c = c ∙ rw (b, a, is, sub-zero)
 
 -- ---- the parents read
 
-pub parents-read : (page : List ℕ) (at : ℕ) → Held page → at ≡ parentsAt (countOf page) → (parents : List ℕ) → parents ≡ take (at + namesMax - at) (drop at page)
+pub parents-read : (page : List ℕ) (at : ℕ) → Held page → at ≡ parentsAt (countOf page) → (parents : List ℕ) → parents ≡ take namesMax (drop at page)
     → (parents ≡ parentsIn page) × (length parents ≡ namesMax)
 parents-read page at h is parents e =
-    let y : at + namesMax - at ≡ namesMax = omega arith in
-    let p : parents ≡ parentsIn page = e ∙ rw (y, is) in
-    let l : length (take namesMax (drop (parentsAt (countOf page)) page)) ≡ namesMax = simp (length-take, length-drop) (omega (arith, h .room)) in
+    let p : parents ≡ parentsIn page = e ∙ rw is in
+    let l : length (parentsIn page) ≡ namesMax = simp (length-take, length-drop) (omega (arith, h .room)) in
     (p, ap length p ∙ l)

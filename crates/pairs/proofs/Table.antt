@@ -4,9 +4,9 @@ use mathlib.Core.Bool.{true, false, not}
 use mathlib.Core.List.{List, [], _∷_, _++_}
 use Prim.Native.Nat.{ℕ, zero, suc, _+_, _*_, _<_, _≤_}
 use native.Mathlib.Numerals.{add-one}
-use lib.Dec.{leb, ltb}
+use lib.Dec.{leb}
 use lib.ListN.{length, length-append}
-use borrow.Author.Tests.{le-leb, lt-leb, leb-true, lt-ltb, le-ltb}
+use borrow.Author.Tests.{le-leb, lt-leb, leb-true}
 use Rattle.refusals.specs.declared.Refusal.{Refusal}
 use Rattle.refusals.specs.declared.Refusal.the-variants.{Broken, Unused, Full}
 use Rattle.refusals.specs.declared.Verdict.the-variants.{Passed, Refused}
@@ -18,7 +18,9 @@ use Rattle.pages.proofs.Quant.{and-true}
 use Rattle.pages.proofs.Bytes.{eqs-true}
 use Rattle.pages.proofs.Put.{put-append}
 use Rattle.names.specs.Table.{namesMax}
-use Rattle.groups.specs.Groups.{pair, enter, enterAll, selves, parentsOf}
+use Rattle.names.specs.Calls.{isUsed}
+use Rattle.names.proofs.Used.{used-below}
+use Rattle.groups.specs.Groups.{Pair, pair, enter, enterAll, selves, parentsOf}
 use Rattle.groups.proofs.Walks.{parents-snoc}
 use Rattle.pairs.specs.Table.{pairsMax, pairBytes, factorAt, bodyOf, pairAt, pairsIn, listed, bothUsed, usedAt, formed, insertVerdict, withPair, insertion}
 use Rattle.pairs.specs.declared.ConversionTable.{ConversionTable}
@@ -49,11 +51,17 @@ parents-none bodies = refl
 -- ---- symbols in use
 
 module _ (s b n : ℕ) where
-  pub symbol-unused : n ≤ s → false ≡ bothUsed n (pair s b)
-  symbol-unused h = rw (le-ltb s n h)
+  pub symbol-unused : isUsed n s ≡ false → false ≡ bothUsed n (pair s b)
+  symbol-unused h = rw h
 
-  pub base-decides : s < n → ltb b n ≡ bothUsed n (pair s b)
-  base-decides h = rw (lt-ltb s n h)
+  pub base-decides : isUsed n s ≡ true → isUsed n b ≡ bothUsed n (pair s b)
+  base-decides h = rw h
+
+-- they are symbols that a table can have
+pub both-below : (n : ℕ) (q : Pair) → bothUsed n q ≡ true → (q .symbol < namesMax) × (q .base < namesMax)
+both-below n q u =
+    let a = and-true (isUsed n (q .symbol)) (isUsed n (q .base)) u in
+    (used-below n (q .symbol) (a .0) .1, used-below n (q .base) (a .1) .1)
 
 -- ---- a table in form
 

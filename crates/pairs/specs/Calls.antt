@@ -12,7 +12,7 @@ use Rattle.refusals.specs.declared.Verdict.the-variants.{Passed, Refused}
 use Rattle.pages.specs.Quant.{firstTo}
 use Rattle.pages.specs.Bytes.{countBytes, countOf, numberAt, longBytes, put}
 use Rattle.names.specs.Table.{namesMax}
-use Rattle.names.specs.Calls.{lentBroken, usedOf}
+use Rattle.names.specs.Calls.{lentBroken, usedOf, isUsed}
 use Rattle.groups.specs.Groups.{Pair, pair, selves, rootOf}
 use Rattle.pairs.specs.Table.{pairsMax, pairBytes, factorAt, pairAt, bothUsed, withPair}
 use Rattle.pairs.specs.Page.{sizeOf, bodiesIn, tableIn, listedIn, formed, withTable}
@@ -53,7 +53,7 @@ pageAfter page names lent s f b = unlessRefused (pairVerdict page names lent (pa
 
 -- why it is refused, if it is: 2 the names or the table, 3 the symbol is not in use
 unfoldable pub symbolVerdict : List ℕ → List ℕ → Bool → ℕ → Verdict
-symbolVerdict page names lent s = lowest ((Broken when tableBroken page names lent) ∷ (Unused when not (ltb s (usedOf names lent))) ∷ [])
+symbolVerdict page names lent s = lowest ((Broken when tableBroken page names lent) ∷ (Unused when not (isUsed (usedOf names lent) s)) ∷ [])
 
 -- a root, or the refusal
 abbrev pub givenRoot : Verdict → ℕ → Root

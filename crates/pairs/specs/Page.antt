@@ -25,7 +25,7 @@ sizeOf k = parentsAt k + namesMax
 abbrev pub bodiesIn : List ℕ → List ℕ
 bodiesIn page = take (pairBytes * countOf page) (drop countBytes page)
 
--- the parents that a page holds
+-- the parents that a page holds, a byte each
 abbrev pub parentsIn : List ℕ → List ℕ
 parentsIn page = take namesMax (drop (parentsAt (countOf page)) page)
 

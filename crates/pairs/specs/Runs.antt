@@ -41,7 +41,7 @@ asked r = pair (r .symbol) (r .base)
 abbrev pub bodyAsked : Request → List ℕ
 bodyAsked r = bodyOf (r .symbol) (r .factor) (r .base)
 
--- the request has at most n numbers in use, if its names are in form; without names that is every number
+-- the request has at most n numbers in use, if its names are in form; without names that is every number that a table can have
 abbrev pub UsesAtMost : ℕ → Request → Type 0
 UsesAtMost n r = lentBroken (r .names) (r .lent) ≡ false → usedOf (r .names) (r .lent) ≤ n
 

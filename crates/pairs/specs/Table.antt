@@ -1,9 +1,9 @@
 -- The table of conversion pairs by value, and insertion (document 01, "Units and pairs"). How many name numbers are in use is
--- the parameter n: every number where no names are lent.
+-- the parameter n: every number that a table can have where no names are lent.
 use mathlib.Core.Bool.{Bool, _&&_, not}
 use mathlib.Core.List.{List, [], _∷_, _++_}
 use Prim.Native.Nat.{ℕ, zero, suc, _+_, _*_}
-use lib.Dec.{ltb, leb}
+use lib.Dec.{leb}
 use lib.ListN.{getD, replicate}
 use Rattle.refusals.specs.Lowest.{_when_, lowest, unlessRefused}
 use Rattle.refusals.specs.declared.Refusal.the-variants.{Broken, Unused, Full}
@@ -11,6 +11,7 @@ use Rattle.refusals.specs.declared.Verdict.{Verdict}
 use Rattle.pages.specs.Quant.{allTo}
 use Rattle.pages.specs.Bytes.{eqs, bigEndian, longBytes, put}
 use Rattle.names.specs.Table.{namesMax}
+use Rattle.names.specs.Calls.{isUsed}
 use Rattle.groups.specs.Groups.{Pair, pair, selves, parentsOf}
 use Rattle.pairs.specs.declared.ConversionTable.{ConversionTable}
 use Rattle.pairs.specs.declared.Outcome.{Outcome}
@@ -58,7 +59,7 @@ freshTable = record { count = 0; pairs = replicate (pairBytes * pairsMax) 0; par
 
 -- are both symbols of a pair numbers in use
 abbrev pub bothUsed : ℕ → Pair → Bool
-bothUsed n q = ltb (q .symbol) n && ltb (q .base) n
+bothUsed n q = isUsed n (q .symbol) && isUsed n (q .base)
 
 -- are those of pair i of bodies
 abbrev pub usedAt : List ℕ → ℕ → ℕ → Bool

@@ -10,11 +10,12 @@ use refusals::Verdict;
 ghost use mathlib.Core.Path.{_≡_};
 ghost use mathlib.Core.Bool.{true};
 ghost use Prim.Native.Nat.{_+_, _*_, _≤_, _<_};
-ghost use lib.ListN.{length, replicate};
+ghost use lib.ListN.{length, getD, replicate};
 ghost use Rattle.refusals.specs.declared.Verdict.{Verdict};
 ghost use Rattle.pages.specs.Quant.{allTo, firstTo};
+ghost use Rattle.pages.specs.Bytes.{eqs};
 ghost use Rattle.names.specs.Table.{namesMax};
-ghost use Rattle.groups.specs.Groups.{pair, parentsOf};
+ghost use Rattle.groups.specs.Groups.{pair, parentsOf, Below};
 ghost use Rattle.pairs.specs.Table.{pairsMax, pairBytes, pairsIn, freshTable, bothUsed, usedAt, insertion, withPair};
 ghost use Rattle.pairs.specs.Table as tables;
 ghost use Rattle.pairs.specs.Page.{parentsAt, sizeOf, parentsIn, tableIn, holds, Held, formed, withTable};
@@ -65,10 +66,18 @@ pub enum Factor {
 fn are_used(symbol: Symbol, base: Symbol, n: usize) -> bool
     ensures { λ r. ⌜ r ≡ bothUsed n (pair symbol base) ⌝ }
 {
-    if n <= symbol_index(symbol) {
+    if !names::is_used(n, symbol_index(symbol)) {
         return false;
     }
-    symbol_index(base) < n
+    names::is_used(n, symbol_index(base))
+}
+
+// The symbol that a byte says.
+fn symbol_at(bytes: &[u8], at: usize) -> Symbol
+    requires { ⌜ at < length (now bytes) ⌝ }
+    ensures { λ r. ⌜ r ≡ getD (now (bytes .entry)) at 0 ⌝ }
+{
+    pages::index(bytes[at]) as Symbol
 }
 
 // Whether both symbols of each of the first k pairs are numbers in use.
@@ -79,7 +88,7 @@ fn all_used(pairs: &[u8], k: usize, n: usize) -> bool
     let mut i: usize = 0;
     while i < k {
         let at = PAIR_BYTES * i;
-        if !are_used(pairs[at], pairs[at + BASE_AT], n) {
+        if !are_used(symbol_at(pairs, at), symbol_at(pairs, at + BASE_AT), n) {
             return false;
         }
         i += 1;
@@ -96,10 +105,29 @@ fn replayed(pairs: &[u8], k: usize) -> Parents
     let mut i: usize = 0;
     while i < k {
         let at = PAIR_BYTES * i;
-        groups::join(&mut parents, i, pairs[at], pairs[at + BASE_AT]);
+        let symbol = symbol_at(pairs, at);
+        let base = symbol_at(pairs, at + BASE_AT);
+        groups::join(&mut parents, i, symbol, base);
         i += 1;
     }
     parents
+}
+
+// Whether two lists of parents are the same.
+fn are_same(a: &[Symbol], b: &[Symbol]) -> bool
+    ensures { λ r. ⌜ r ≡ eqs (now (a .entry)) (now (b .entry)) ⌝ }
+{
+    if a.len() != b.len() {
+        return false;
+    }
+    let mut i: usize = 0;
+    while i < a.len() {
+        if a[i] != b[i] {
+            return false;
+        }
+        i += 1;
+    }
+    true
 }
 
 // Whether a table is in form, with n name numbers in use.
@@ -116,19 +144,20 @@ fn is_table(t: ConversionTable, n: usize) -> bool
     }
     let parents = t.parents;
     let given = replayed(&pairs, k);
-    pages::same(&parents, &given)
+    are_same(&parents, &given)
 }
 
 // A table in form with one more pair.
 fn with_pair(t: ConversionTable, symbol: Symbol, factor: u64, base: Symbol) -> ConversionTable
     requires { ⌜ (t .count < pairsMax) × (t .parents ≡ parentsOf namesMax (tables.listed t)) ⌝ }
+    requires { ⌜ (symbol < namesMax) × (base < namesMax) ⌝ }
     ensures { λ r. ⌜ r ≡ withPair t symbol factor base ⌝ }
 {
     let k = t.count;
     let at = PAIR_BYTES * k;
     let mut pairs = t.pairs;
     let mut parents = t.parents;
-    let front = [symbol, base];
+    let front = [symbol as u8, base as u8];
     let long = pages::long_bytes(factor);
     pages::put_bytes(&mut pairs, at, &front);
     pages::put_bytes(&mut pairs, at + FACTOR_AT, &long);
@@ -239,6 +268,17 @@ fn no_bodies() -> Bodies
     [0; PAIR_BYTES * PAIRS]
 }
 
+// The parents in a page that holds a table; in form, they are as its pairs give them. For crates above (`canonical` tests the form).
+pub fn parents_of(page: &[u8]) -> Parents
+    requires { ⌜ Held (now page) ⌝ }
+    ensures { λ r. ⌜ (r ≡ parentsIn (now (page .entry))) × (length r ≡ namesMax) ⌝ }
+{
+    let at = parents_at(pages::count(page));
+    let mut parents = groups::own_parents();
+    pages::read_bytes(page, at, &mut parents);
+    parents
+}
+
 // The table in a page that holds one.
 fn table_in(page: &[u8]) -> ConversionTable
     requires { ⌜ Held (now page) ⌝ }
@@ -247,9 +287,8 @@ fn table_in(page: &[u8]) -> ConversionTable
     let k = pages::count(page);
     let at = parents_at(k);
     let mut pairs = no_bodies();
-    let mut parents = groups::own_parents();
     pages::put_bytes(&mut pairs, 0, &page[COUNT_BYTES..at]);
-    pages::put_bytes(&mut parents, 0, &page[at..at + NAMES]);
+    let parents = parents_of(page);
     ConversionTable {
         count: k,
         pairs,
@@ -269,7 +308,7 @@ fn is_formed(page: &[u8], n: usize) -> bool
 
 // Writes a table at the front of the page.
 fn write_table(page: &mut [u8], t: ConversionTable)
-    requires { ⌜ (t .count ≤ pairsMax) × (sizeOf (t .count) ≤ length (now page)) ⌝ }
+    requires { ⌜ (t .count ≤ pairsMax) × (sizeOf (t .count) ≤ length (now page)) × Below namesMax (t .parents) ⌝ }
     ensures { λ _. ⌜ now (page .exit) ≡ withTable (now (page .entry)) t ⌝ }
 {
     let k = t.count;
@@ -278,7 +317,7 @@ fn write_table(page: &mut [u8], t: ConversionTable)
     let parents = t.parents;
     let number = pages::count_bytes(k);
     pages::put_bytes(page, COUNT_BYTES, &pairs[0..PAIR_BYTES * k]);
-    pages::put_bytes(page, at, &parents);
+    pages::put_low_bytes(page, at, &parents);
     pages::put_bytes(page, 0, &number);
 }
 
@@ -291,7 +330,7 @@ pub fn empty_pairs(page: &mut [u8]) -> Verdict
     }
     let parents = groups::own_parents();
     pages::clear(page);
-    pages::put_bytes(page, COUNT_BYTES, &parents);
+    pages::put_low_bytes(page, COUNT_BYTES, &parents);
     Verdict::Passed
 }
 
@@ -343,19 +382,10 @@ fn symbol_verdict(page: &[u8], names: &[u8], lent: bool, symbol: Symbol) -> Verd
     if is_broken(page, names, lent) {
         return Verdict::Refused(Refusal::Broken);
     }
-    if names::in_use(names, lent) <= symbol_index(symbol) {
+    if !names::is_used(names::in_use(names, lent), symbol_index(symbol)) {
         return Verdict::Refused(Refusal::Unused);
     }
     Verdict::Passed
-}
-
-// The parents in a page that holds a table; in form, they are as its pairs give them. For crates above (`canonical` tests the form).
-pub fn parents_of(page: &[u8]) -> &[u8]
-    requires { ⌜ Held (now page) ⌝ }
-    ensures { λ r. ⌜ (now r ≡ parentsIn (now (page .entry))) × (length (now r) ≡ namesMax) ⌝ }
-{
-    let at = parents_at(pages::count(page));
-    &page[at..at + NAMES]
 }
 
 // The root of a symbol: `canonical` of the source.
@@ -366,7 +396,8 @@ pub fn canonical(page: &[u8], names: &[u8], lent: bool, symbol: Symbol) -> Root
     if let Verdict::Refused(r) = verdict {
         return Root::Refused(r);
     }
-    Root::At(groups::root(parents_of(page), pages::count(page), symbol))
+    let parents = parents_of(page);
+    Root::At(groups::root(&parents, pages::count(page), symbol))
 }
 
 // The first of k pairs that has the symbol, or k.
@@ -376,7 +407,7 @@ fn find_symbol(bodies: &[u8], k: usize, symbol: Symbol) -> usize
 {
     let mut i: usize = 0;
     while i < k {
-        if bodies[PAIR_BYTES * i] == symbol {
+        if symbol_at(bodies, PAIR_BYTES * i) == symbol {
             return i;
         }
         i += 1;
@@ -399,7 +430,7 @@ pub fn first_factor(page: &[u8], names: &[u8], lent: bool, symbol: Symbol) -> Fa
         let at = PAIR_BYTES * i;
         return Factor::Of {
             factor: pages::long(bodies, at + FACTOR_AT),
-            base: bodies[at + BASE_AT],
+            base: symbol_at(bodies, at + BASE_AT),
         };
     }
     Factor::Absent

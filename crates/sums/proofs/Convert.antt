@@ -14,6 +14,7 @@ use Rattle.pages.proofs.Quant.{all-at, all-each}
 use Rattle.units.specs.Unit.{Term, term, exponent, inUse}
 use Rattle.units.proofs.Order.{part-other}
 use Rattle.units.proofs.Si.{written-exponent}
+use Rattle.names.proofs.Used.{used-below}
 use Rattle.units.proofs.Used.{in-use-head, in-use-tail}
 use Rattle.groups.specs.Groups.{Pair, Within, Joined, rootOf}
 use Rattle.groups.specs.Groups.Joined.{back, chain}
@@ -98,15 +99,15 @@ module _ (n : ℕ) (ps : List Pair) (root : ℕ → ℕ) (r : Roots n ps root) w
   sum-in s l (x ∷ xs) h = go (ℕ-discrete (root s) (root (x .symbol))) (sum-in s l xs (in-use-tail n x xs h))
     where
       go : Dec (root s ≡ root (x .symbol)) → SumIn ps s xs (sumAt root (root s) xs) → SumIn ps s (x ∷ xs) (sumAt root (root s) (x ∷ xs))
-      go (yes e) a = rw (eq-eqb (root s) (root (x .symbol)) e) (inside (joined-by s (x .symbol) l (in-use-head n x xs h) e) a)
-      go (no ne) a = rw (ne-eqb (root s) (root (x .symbol)) ne, +ℤ-idl (sumAt root (root s) xs)) (outside (λ j. ne (r .one l (in-use-head n x xs h) j)) a)
+      go (yes e) a = rw (eq-eqb (root s) (root (x .symbol)) e) (inside (joined-by s (x .symbol) l (used-below n (x .symbol) (in-use-head n x xs h) .0) e) a)
+      go (no ne) a = rw (ne-eqb (root s) (root (x .symbol)) ne, +ℤ-idl (sumAt root (root s) xs)) (outside (λ j. ne (r .one l (used-below n (x .symbol) (in-use-head n x xs h) .0) j)) a)
 
   -- what is nobody's root has no sum
   nobody : (g : ℕ) → (root g ≡ g → ⊥) → (xs : List Term) → inUse n xs ≡ true → sumAt root g xs ≡ pos 0
   nobody g no-root [] h = refl
   nobody g no-root (x ∷ xs) h =
       ap₂ _+ℤ_
-      (part-other g (term (root (x .symbol)) (x .exp)) (λ e. no-root (ap root e ∙ own-root (x .symbol) (in-use-head n x xs h) ∙ sym e)))
+      (part-other g (term (root (x .symbol)) (x .exp)) (λ e. no-root (ap root e ∙ own-root (x .symbol) (used-below n (x .symbol) (in-use-head n x xs h) .0) ∙ sym e)))
       (nobody g no-root xs (in-use-tail n x xs h))
 
   module _ (xs ys : List Term) (ux : inUse n xs ≡ true) (uy : inUse n ys ≡ true) where

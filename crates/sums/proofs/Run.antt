@@ -36,7 +36,7 @@ answer-no true = (λ e. let z : _≡_ {A = ℕ} 0 1 = cc in absurd (omega arith)
 answer-no false = (λ e y. let z : _≡_ {A = ℕ} 0 1 = cc in omega arith, λ never. refl)
 
 formed-used : (u : Unit) → units.formed placesMax namesMax (termsOf u) ≡ true → inUse namesMax (termsOf u) ≡ true
-formed-used u f = ordered-used namesMax 0 (termsOf u) (formed-ordered placesMax namesMax (termsOf u) f)
+formed-used u f = ordered-used 0 (termsOf u) (formed-ordered placesMax namesMax (termsOf u) f)
 
 module _ (page names : List ℕ) (lent : Bool) (left right : MaybeUnit) (v : unitsVerdict page names lent (orEmpty left ∷ orEmpty right ∷ []) ≡ Passed) where
   answer-is : (convertAnswer page names lent left right ≡ Answer.Yes)

@@ -23,7 +23,7 @@ use Rattle.sums.specs.declared.SumsResult.{SumsResult}
 
 -- ---- units that a call is given
 
--- are all symbols of the units among n numbers in use; of a unit that says more symbols than places none is looked up
+-- are all symbols of the units in use, where n names are in use; of a unit that says more symbols than places those in its places are looked up
 abbrev pub allUsed : ℕ → List Unit → Bool
 allUsed n [] = true
 allUsed n (u ∷ us) = inUse n (present u) && allUsed n us

@@ -16,7 +16,6 @@ ghost use mathlib.Core.Logic.{_↔_};
 ghost use mathlib.Core.Bool.{true, false};
 ghost use mathlib.Core.List.{List, [], _∷_, _++_};
 ghost use Prim.Native.Nat.{_<_, _≤_};
-ghost use lib.ListN.{length};
 ghost use Rattle.names.specs.Table.{namesMax};
 ghost use Rattle.units.specs.Unit.{placesMax, Term, isZero, formed, exponent};
 ghost use Rattle.units.specs.Product.{anyOutside, power, written};
@@ -68,7 +67,7 @@ fn with_sum(w: Sums, s: Symbol, e: i16) -> Sums
 
 // The unit with each symbol's root in its place: a root may stand there several times, and in any order.
 fn rooted(parents: &[Symbol], steps: usize, u: Unit) -> Unit
-    requires { ⌜ (length (now parents) ≡ namesMax) × (u .count ≤ placesMax) ⌝ }
+    requires { ⌜ u .count ≤ placesMax ⌝ }
     ensures { λ r. ⌜ r ≡ unitOf (rooted (walk steps (now (parents .entry))) (termsOf u)) ⌝ }
 {
     let n = u.count;
@@ -139,9 +138,10 @@ fn gathered(u: Unit) -> Sums
     }
 }
 
-// The group sums of a unit in form, where that many steps lead to a root, for crates above (`canonicalize` tests the unit, and the table, whose count is steps enough).
+// The group sums of a unit in form, where that many steps lead to a root, for crates above (`canonicalize` tests the unit, and the
+// table, whose count is steps enough).
 pub fn group_sums(parents: &[Symbol], steps: usize, u: Unit) -> Sums
-    requires { ⌜ (length (now parents) ≡ namesMax) × (formed placesMax namesMax (termsOf u) ≡ true) ⌝ }
+    requires { ⌜ formed placesMax namesMax (termsOf u) ≡ true ⌝ }
     ensures { λ r. ⌜ r ≡ sumsOf (groupSums namesMax (walk steps (now (parents .entry))) (termsOf u)) ⌝ }
 {
     gathered(rooted(parents, steps, u))
@@ -172,7 +172,7 @@ fn same_sums(a: Sums, b: Sums) -> bool
 
 // Whether two units in form have the same group sums, for crates above (`is_convertible_to` tests them).
 pub fn convertible(parents: &[Symbol], steps: usize, left: Unit, right: Unit) -> bool
-    requires { ⌜ (length (now parents) ≡ namesMax) × (formed placesMax namesMax (termsOf left) ≡ true) × (formed placesMax namesMax (termsOf right) ≡ true) ⌝ }
+    requires { ⌜ (formed placesMax namesMax (termsOf left) ≡ true) × (formed placesMax namesMax (termsOf right) ≡ true) ⌝ }
     ensures { λ r. ⌜ r ≡ convertible namesMax (walk steps (now (parents .entry))) (termsOf left) (termsOf right) ⌝ }
 {
     let a = group_sums(parents, steps, left);
@@ -214,7 +214,8 @@ pub fn canonicalize(page: &[u8], names: &[u8], lent: bool, u: Unit) -> SumsResul
             sums: no_sums(),
         };
     }
-    let sums = group_sums(pairs::parents_of(page), pages::count(page), u);
+    let parents = pairs::parents_of(page);
+    let sums = group_sums(&parents, pages::count(page), u);
     SumsResult { verdict, sums }
 }
 
@@ -244,7 +245,8 @@ pub fn is_convertible_to(
     if let Verdict::Refused(r) = verdict {
         return Answer::Refused(r);
     }
-    if convertible(pairs::parents_of(page), pages::count(page), a, b) {
+    let parents = pairs::parents_of(page);
+    if convertible(&parents, pages::count(page), a, b) {
         return Answer::Yes;
     }
     Answer::No

@@ -15,6 +15,7 @@ use Rattle.units.specs.Product.{anyOutside}
 use Rattle.units.proofs.Order.{or-both}
 use Rattle.units.proofs.Signed.{small}
 use Rattle.units.proofs.Form.{Places, symAt, expAt, termsFrom, termsIn, from-start, from-step, from-end}
+use Rattle.names.proofs.Used.{used-below}
 use Rattle.units.proofs.Used.{in-use-head, in-use-tail}
 use Rattle.digits.proofs.Wrote.{Wrote, wrote-both}
 use Rattle.text.specs.Text.{power, stands, separator, sideFrom, side}
@@ -30,7 +31,7 @@ pub record Sound (page : List ℕ) (xs : List Term) : Type 0 where
 
 module _ (page : List ℕ) (x : Term) (xs : List Term) (s : Sound page (x ∷ xs)) where
   pub first-used : x .symbol < countOf page
-  first-used = in-use-head (countOf page) x xs (s .used)
+  first-used = used-below (countOf page) (x .symbol) (in-use-head (countOf page) x xs (s .used)) .0
 
   pub first-inside : outside (x .exp) ≡ false
   first-inside = or-both (outside (x .exp)) (anyOutside xs) (s .inside) .0

@@ -128,8 +128,8 @@ fn written(page: &[u8], v: Unit) -> Text
     }
 }
 
-// No text, and why.
-fn no_text(refusal: Refusal) -> Text
+// No text, and why. For crates above too.
+pub fn no_text(refusal: Refusal) -> Text
     ensures { λ r. ⌜ r ≡ noText refusal ⌝ }
 {
     Text {

@@ -9,7 +9,7 @@ use native.Mathlib.Omega.{arith}
 use lib.Dec.{leb, ltb}
 use lib.ListN.{length, getD}
 use lib.IntN.{ℤ, pos}
-use borrow.Author.Tests.{le-leb, lt-leb, leb-true, lt-ltb, ltb-true, not-true}
+use borrow.Author.Tests.{le-leb, lt-leb, leb-true, lt-ltb, le-ltb, ltb-true, not-true}
 use Rattle.pages.proofs.Quant.{and-true}
 use Rattle.units.specs.Unit.{Term, term, isZero, outside, ordered, formed}
 use Rattle.units.specs.Calls.{terms}
@@ -123,6 +123,9 @@ module _ (n m : ℕ) (u : Places) (lo i : ℕ) (j : Judging n m u lo i) where
   module _ (h : i < u .count) where
     pub judged-low : symAt u i < lo → false ≡ formed n m (termsIn u)
     judged-low k = sym (rw (from-step u i h, lt-leb lo (symAt u i) k)) ∙ j .whole
+
+    pub judged-past : lo ≤ symAt u i → m ≤ symAt u i → false ≡ formed n m (termsIn u)
+    judged-past k b = sym (rw (from-step u i h, le-leb lo (symAt u i) k, le-ltb (symAt u i) m b)) ∙ j .whole
 
     module _ (k : lo ≤ symAt u i) (b : symAt u i < m) where
       pub judged-zero : isZero (expAt u i) ≡ true → false ≡ formed n m (termsIn u)

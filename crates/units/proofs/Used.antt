@@ -4,62 +4,74 @@ use mathlib.Core.Bool.{true, false}
 use mathlib.Core.List.{List, [], _∷_}
 use Prim.Native.Nat.{ℕ, suc, _+_, _≤_, _<_}
 use native.Mathlib.Omega.{arith}
-use lib.Dec.{ltb}
-use borrow.Author.Tests.{le-leb, lt-leb, lt-ltb, le-ltb, ltb-true}
+use native.Mathlib.Nat.{le-refl}
+use borrow.Author.Tests.{le-leb, lt-leb}
 use Rattle.pages.proofs.Quant.{and-true}
+use Rattle.names.specs.Table.{namesMax}
+use Rattle.names.specs.Calls.{isUsed}
+use Rattle.names.proofs.Used.{used-is}
 use Rattle.units.specs.Unit.{placesMax, Term, ordered, inUse}
-use Rattle.units.specs.Calls.{termsFrom, present}
+use Rattle.units.specs.Calls.{termsOf, filled, present}
 use Rattle.units.specs.declared.Unit.{Unit}
-use Rattle.units.proofs.Form.{ordered-parts, symAt, from-start, from-step, from-end}
-use Rattle.units.proofs.Held.{placesOf}
+use Rattle.units.proofs.Form.{Places, termsFrom, ordered-parts, symAt, from-start, from-step, from-end}
 
-pub in-use-head : (n : ℕ) (x : Term) (xs : List Term) → inUse n (x ∷ xs) ≡ true → x .symbol < n
+pub in-use-head : (n : ℕ) (x : Term) (xs : List Term) → inUse n (x ∷ xs) ≡ true → isUsed n (x .symbol) ≡ true
 unfolding inUse
-in-use-head n x xs h = ltb-true (x .symbol) n (and-true (ltb (x .symbol) n) (inUse n xs) h .0)
+in-use-head n x xs h = and-true (isUsed n (x .symbol)) (inUse n xs) h .0
 
 pub in-use-tail : (n : ℕ) (x : Term) (xs : List Term) → inUse n (x ∷ xs) ≡ true → inUse n xs ≡ true
 unfolding inUse
-in-use-tail n x xs h = and-true (ltb (x .symbol) n) (inUse n xs) h .1
+in-use-tail n x xs h = and-true (isUsed n (x .symbol)) (inUse n xs) h .1
 
-pub in-use-more : (n : ℕ) (x : Term) (xs : List Term) → x .symbol < n → inUse n xs ≡ true → inUse n (x ∷ xs) ≡ true
+pub in-use-more : (n : ℕ) (x : Term) (xs : List Term) → isUsed n (x .symbol) ≡ true → inUse n xs ≡ true → inUse n (x ∷ xs) ≡ true
 unfolding inUse
-in-use-more n x xs l h = rw (lt-ltb (x .symbol) n l) h
+in-use-more n x xs l h = rw l h
 
-pub looked-none : (n : ℕ) (u : Unit) → placesMax < u .count → true ≡ inUse n (present u)
-unfolding inUse
-looked-none n u h = rw (lt-leb (u .count) placesMax h)
+-- ---- place by place
+
+-- the places whose symbols can be looked up
+abbrev pub seenOf : Unit → Places
+seenOf u = record { count = filled u; symbols = u .symbols; exponents = u .exponents }
+
+pub filled-wide : (u : Unit) → placesMax < u .count → (placesMax ≡ filled u) × (placesMax ≤ placesMax)
+filled-wide u h = (rw (lt-leb (u .count) placesMax h), le-refl placesMax)
+
+pub filled-few : (u : Unit) → u .count ≤ placesMax → (u .count ≡ filled u) × (u .count ≤ placesMax)
+filled-few u h = (rw (le-leb (u .count) placesMax h), h)
+
+-- a unit with no more symbols than places shows them all
+pub present-all : (u : Unit) → u .count ≤ placesMax → present u ≡ termsOf u
+present-all u h = rw (← filled-few u h .0)
 
 -- Where the test stands: the symbols that are left come to what the whole comes to.
 pub record Looking (n : ℕ) (u : Unit) (i : ℕ) : Type 0 where
-  pub i-in : i ≤ u .count
-  pub u-in : u .count ≤ placesMax
-  pub whole : inUse n (termsFrom u i) ≡ inUse n (present u)
+  pub i-in : i ≤ filled u
+  pub whole : inUse n (termsFrom (seenOf u) i) ≡ inUse n (present u)
 
-pub looking-start : (n : ℕ) (u : Unit) → u .count ≤ placesMax → Looking n u 0
-looking-start n u h = record { i-in = omega arith; u-in = h; whole = rw (le-leb (u .count) placesMax h) (ap (inUse n) (from-start (placesOf u))) }
+pub looking-start : (n : ℕ) (u : Unit) → Looking n u 0
+looking-start n u = record { i-in = omega arith; whole = ap (inUse n) (from-start (seenOf u)) }
 
 module _ (n : ℕ) (u : Unit) (i : ℕ) (l : Looking n u i) where
-  pub looked-all : u .count ≤ i → true ≡ inUse n (present u)
+  pub looked-all : filled u ≤ i → true ≡ inUse n (present u)
   unfolding inUse
-  looked-all h = sym (ap (inUse n) (from-end (placesOf u) i h)) ∙ l .whole
+  looked-all h = sym (ap (inUse n) (from-end (seenOf u) i h)) ∙ l .whole
 
-  module _ (h : i < u .count) where
-    pub looked-unused : n ≤ symAt (placesOf u) i → false ≡ inUse n (present u)
+  module _ (h : i < filled u) where
+    pub looked-unused : isUsed n (symAt (seenOf u) i) ≡ false → false ≡ inUse n (present u)
     unfolding inUse
-    looked-unused s = sym (ap (inUse n) (from-step (placesOf u) i h) ∙ rw (le-ltb (symAt (placesOf u) i) n s)) ∙ l .whole
+    looked-unused s = sym (ap (inUse n) (from-step (seenOf u) i h) ∙ rw s) ∙ l .whole
 
-    pub looking-next : symAt (placesOf u) i < n → Looking n u (i + 1)
+    pub looking-next : isUsed n (symAt (seenOf u) i) ≡ true → Looking n u (i + 1)
     unfolding inUse
     looking-next s = record {
       i-in = omega arith;
-      u-in = l .u-in;
-      whole = sym (ap (inUse n) (from-step (placesOf u) i h) ∙ rw (lt-ltb (symAt (placesOf u) i) n s)) ∙ l .whole;
+      whole = sym (ap (inUse n) (from-step (seenOf u) i h) ∙ rw s) ∙ l .whole;
     }
 
--- the symbols of terms in form are numbers of names
-pub ordered-used : (n lo : ℕ) (xs : List Term) → ordered n lo xs ≡ true → inUse n xs ≡ true
+-- the symbols of terms in form are in use, where all names are
+pub ordered-used : (lo : ℕ) (xs : List Term) → ordered namesMax lo xs ≡ true → inUse namesMax xs ≡ true
 unfolding inUse
-ordered-used n lo [] h = refl
-ordered-used n lo (x ∷ xs) h =
-    let p = ordered-parts n lo x xs h in
-    in-use-more n x xs (p .used) (ordered-used n (suc (x .symbol)) xs (p .rest))
+ordered-used lo [] h = refl
+ordered-used lo (x ∷ xs) h =
+    let p = ordered-parts namesMax lo x xs h in
+    in-use-more namesMax x xs (used-is namesMax (x .symbol) (p .used) (p .used)) (ordered-used (suc (x .symbol)) xs (p .rest))

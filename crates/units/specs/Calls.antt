@@ -35,9 +35,13 @@ termsOf u = terms (u .count) 0 (u .symbols) (u .exponents)
 abbrev pub termsFrom : Unit → ℕ → List Term
 termsFrom u i = terms (u .count - i) i (u .symbols) (u .exponents)
 
--- the terms whose symbols are looked up: none where the unit says more symbols than it has places (docs/DECISIONS.md)
+-- how many of its symbols stand in a place: as many as it says, and no more than there are places
+abbrev pub filled : Unit → ℕ
+filled u = cond (leb (u .count) placesMax) (u .count) placesMax
+
+-- the terms that stand there, whose symbols can be looked up
 abbrev pub present : Unit → List Term
-present u = cond (leb (u .count) placesMax) (termsOf u) []
+present u = terms (filled u) 0 (u .symbols) (u .exponents)
 
 -- the symbols of terms
 abbrev pub syms : List Term → List ℕ

@@ -6,6 +6,7 @@ use Prim.Native.Nat.{ℕ, suc}
 use lib.Dec.{ltb, leb, eqb}
 use lib.ListN.{length}
 use lib.IntN.{ℤ, pos, natAbs, _+ℤ_}
+use Rattle.names.specs.Calls.{isUsed}
 
 -- how many symbols a unit has at most
 abbrev pub placesMax : ℕ
@@ -51,7 +52,7 @@ abbrev pub exponent : ℕ → List Term → ℤ
 exponent s [] = pos 0
 exponent s (x ∷ xs) = part s x +ℤ exponent s xs
 
--- is every symbol the number of one of n names
+-- is every symbol in use, where n names are in use
 unfoldable pub inUse : ℕ → List Term → Bool
 inUse n [] = true
-inUse n (x ∷ xs) = ltb (x .symbol) n && inUse n xs
+inUse n (x ∷ xs) = isUsed n (x .symbol) && inUse n xs

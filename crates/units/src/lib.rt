@@ -1,4 +1,5 @@
 // Units: products of powers of symbols (document 01, "Units and pairs"; `Unit` of the source's units.rs).
+use names::NAMES;
 use names::Symbol;
 use names::symbol_index;
 use refusals::Answer;
@@ -7,13 +8,13 @@ use refusals::Verdict;
 ghost use mathlib.Core.Path.{_≡_};
 ghost use mathlib.Core.Bool.{true, false};
 ghost use mathlib.Core.List.{List, [], _∷_, _++_};
-ghost use Prim.Native.Nat.{_<_};
+ghost use Prim.Native.Nat.{_<_, _≤_};
 ghost use Rattle.refusals.specs.declared.Verdict.{Verdict};
 ghost use Rattle.names.specs.Table.{namesMax};
 ghost use Rattle.units.specs.Unit.{placesMax, Term, term, isZero, outside, formed, inUse};
 ghost use Rattle.units.specs.Product.{combine};
 ghost use Rattle.units.specs.Merge.{turn, turned, joined, merge};
-ghost use Rattle.units.specs.Calls.{termsOf, present, unitOf, withTerm, sumOf, formVerdict, given, productAnswer, exponentAnswer, unitlessAnswer};
+ghost use Rattle.units.specs.Calls.{termsOf, filled, present, unitOf, withTerm, sumOf, formVerdict, given, productAnswer, exponentAnswer, unitlessAnswer};
 
 // How many symbols a unit has at most.
 pub const PLACES: usize = 8;
@@ -161,6 +162,9 @@ pub fn is_formed(u: Unit) -> bool
         if s < lo {
             return false;
         }
+        if NAMES <= s {
+            return false;
+        }
         if is_zero(e) {
             return false;
         }
@@ -173,17 +177,25 @@ pub fn is_formed(u: Unit) -> bool
     true
 }
 
-// Whether every symbol is the number of one of n names; a unit with more symbols than places says none. For crates above (their entry calls answer 3).
+// How many of a unit's symbols stand in a place.
+fn filled_in(u: Unit) -> usize
+    ensures { λ r. ⌜ (r ≡ filled u) × (r ≤ placesMax) ⌝ }
+{
+    let n = u.count;
+    if PLACES < n {
+        return PLACES;
+    }
+    n
+}
+
+// Whether every symbol that stands in a place is in use, where n names are in use. For crates above (their entry calls answer 3).
 pub fn is_used(u: Unit, n: usize) -> bool
     ensures { λ r. ⌜ r ≡ inUse n (present u) ⌝ }
 {
-    let k = u.count;
-    if PLACES < k {
-        return true;
-    }
+    let k = filled_in(u);
     let mut i: usize = 0;
     while i < k {
-        if n <= symbol_index(u.symbols[i]) {
+        if !names::is_used(n, symbol_index(u.symbols[i])) {
             return false;
         }
         i += 1;

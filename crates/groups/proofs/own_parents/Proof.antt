@@ -25,6 +25,9 @@ loop-holds c = (omega arith, refl, below-none _)
 cast-parents : tie.Need-cast-parents Inv-loop μ-loop
 cast-parents c = search needs
 
+mul-parents : tie.Need-mul-parents Inv-loop μ-loop
+mul-parents c = search needs
+
 array-write-parents : tie.Need-array-write-parents Inv-loop μ-loop
 array-write-parents c = search needs
 
@@ -51,15 +54,4 @@ returns c =
     (λ i b. l .inv .2 i (omega arith) ∙ sym (getD-selves 0 namesMax i (omega arith) ∙ zero-add i))
 
 pub own-parents-spec : {M : Type 1} → statement M
-own-parents-spec =
-    tie.close
-    (tie.spec
-    Inv-loop
-    μ-loop
-    loop-holds
-    cast-parents
-    array-write-parents
-    add-i
-    loop-less
-    loop-again
-    returns)
+own-parents-spec = tie.close (tie.spec Inv-loop μ-loop loop-holds cast-parents mul-parents array-write-parents add-i loop-less loop-again returns)

@@ -20,19 +20,14 @@ abbrev μ-loop : tie.MeasureT-loop
 loop-holds : tie.Need-loop-holds Inv-loop μ-loop
 loop-holds c = (omega arith, rw sub-zero)
 
-symbol-index-requires : tie.Need-symbol-index-requires Inv-loop μ-loop
-symbol-index-requires c κs = search needs
-
-shared-slice-read-up : tie.Need-shared-slice-read-up Inv-loop μ-loop
-shared-slice-read-up c = search needs
+parent-of-requires : tie.Need-parent-of-requires Inv-loop μ-loop
+parent-of-requires c κs = search needs
 
 returns : tie.Need-returns Inv-loop μ-loop
 returns c =
-    let loop = c .before .before .before .before .loop in
-    let start = c .before .before .before .before .before .before in
-    let l = loop in
-    let a = start .args in
-    sym (l .inv .1 ∙ walk-stays (a .steps - l .k) (now (a .parents)) (l .at) (rw (c .before .before .symbol-index .ensures .0) at (c .if1 .taken)))
+    let l = c .before .before .before .loop in
+    let a = c .before .before .before .before .before .args in
+    sym (l .inv .1 ∙ walk-stays (a .steps - l .k) (now (a .parents)) (l .at) (rw (c .before .parent-of .ensures) at (c .if1 .taken)))
 
 add-k : tie.Need-add-k Inv-loop μ-loop
 add-k c = search needs
@@ -42,12 +37,10 @@ loop-less c = search needs
 
 loop-again : tie.Need-loop-again Inv-loop μ-loop
 loop-again c =
-    let loop = c .before .before .before .before .loop in
-    let start = c .before .before .before .before .before .before in
-    let l = loop in
-    let a = start .args in (
+    let l = c .before .before .before .loop in
+    let a = c .before .before .before .before .before .args in (
       omega arith,
-      l .inv .1 ∙ walk-one (a .steps) (l .k) (now (a .parents)) (l .at) (omega arith) ∙ rw (c .before .before .symbol-index .ensures .0),
+      l .inv .1 ∙ walk-one (a .steps) (l .k) (now (a .parents)) (l .at) (omega arith) ∙ rw (c .before .parent-of .ensures),
     )
 
 returns-2 : tie.Need-returns-2 Inv-loop μ-loop
@@ -58,16 +51,4 @@ returns-2 c =
     sym (l .inv .1 ∙ walk-none (a .steps) (l .k) (now (a .parents)) (l .at) (omega arith))
 
 pub root-spec : {M : Type 1} → statement M
-root-spec =
-    tie.close
-    (tie.spec
-    Inv-loop
-    μ-loop
-    loop-holds
-    symbol-index-requires
-    shared-slice-read-up
-    returns
-    add-k
-    loop-less
-    loop-again
-    returns-2)
+root-spec = tie.close (tie.spec Inv-loop μ-loop loop-holds parent-of-requires returns add-k loop-less loop-again returns-2)

@@ -29,11 +29,14 @@ loop-holds c =
     let start = c .before .before in
     sorting-start (now (start .args .page)) (countOf (now (start .args .page))) (start .args .t2) (c .dimensionless .result) (c .dimensionless .ensures) (start .pre .2)
 
+mul-placed : tie.Need-mul-placed Inv-loop μ-loop
+mul-placed c = search needs
+
 element-copy-out-placed : tie.Need-element-copy-out-placed Inv-loop μ-loop
 element-copy-out-placed c = search needs
 
-mul-placed : tie.Need-mul-placed Inv-loop μ-loop
-mul-placed c = search needs
+mul-placed-2 : tie.Need-mul-placed-2 Inv-loop μ-loop
+mul-placed-2 c = search needs
 
 element-copy-out-placed-2 : tie.Need-element-copy-out-placed-2 Inv-loop μ-loop
 element-copy-out-placed-2 c = search needs
@@ -82,18 +85,4 @@ returns c =
     sorting-end page (countOf page) (g .t2) (l .w) (l .i) (l .inv) (c .loop-test .left)
 
 pub by-name-spec : {M : Type 1} → statement M
-by-name-spec =
-    tie.close
-    (tie.spec
-    Inv-loop
-    μ-loop
-    dimensionless-requires
-    loop-holds
-    element-copy-out-placed
-    mul-placed
-    element-copy-out-placed-2
-    placed-requires
-    add-i
-    loop-less
-    loop-again
-    returns)
+by-name-spec = tie.close (tie.spec Inv-loop μ-loop dimensionless-requires loop-holds mul-placed element-copy-out-placed mul-placed-2 element-copy-out-placed-2 placed-requires add-i loop-less loop-again returns)

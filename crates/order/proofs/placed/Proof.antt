@@ -10,6 +10,7 @@ use denote.Ref.{now}
 use borrow.Author.Needs.{needs}
 use Rattle.pages.specs.Bytes.{countOf}
 use Rattle.names.specs.Table.{nameAt}
+use Rattle.names.proofs.Used.{used-below}
 use Rattle.units.specs.Unit.{term}
 use Rattle.units.specs.declared.Unit.{Unit}
 use Rattle.units.specs.Calls.{termsOf, unitOf}
@@ -33,7 +34,7 @@ symbol-index-requires c κs = search needs
 name-of-requires : tie.Need-name-of-requires Inv-loop μ-loop
 name-of-requires c κs =
     let start = c .before .before in
-    (start .pre .0, rw (c .symbol-index .ensures .0) (start .pre .2))
+    (start .pre .0, rw (c .symbol-index .ensures .0) (used-below (countOf (now (start .args .page))) (start .args .s) (start .pre .2) .0))
 
 dimensionless-requires : tie.Need-dimensionless-requires Inv-loop μ-loop
 dimensionless-requires c κs = search needs
@@ -43,6 +44,9 @@ loop-holds c =
     let start = c .before .before .before .before in
     placing-start (now (start .args .page)) (start .args .t2) (term (start .args .s) (toZ w16 (ofZ w16 (start .args .e)))) (c .dimensionless .result)
     (c .dimensionless .ensures)
+
+mul-t : tie.Need-mul-t Inv-loop μ-loop
+mul-t c = search needs
 
 element-copy-out-t : tie.Need-element-copy-out-t Inv-loop μ-loop
 element-copy-out-t c = search needs
@@ -174,27 +178,4 @@ returns-2 c =
     ∙ ap (λ z. unitOf (place page (term (g .s) z) (termsOf (g .t2)))) (toZ-ofZ (start .fits .e))
 
 pub placed-spec : {M : Type 1} → statement M
-placed-spec =
-    tie.close
-    (tie.spec
-    Inv-loop
-    μ-loop
-    symbol-index-requires
-    name-of-requires
-    dimensionless-requires
-    loop-holds
-    element-copy-out-t
-    symbol-index-requires-2
-    name-of-requires-2
-    is-before-requires
-    with-term-requires
-    with-rest-requires
-    returns
-    mul-with-term
-    element-copy-out-with-term
-    with-term-requires-2
-    add-j
-    loop-less
-    loop-again
-    with-term-requires-3
-    returns-2)
+placed-spec = tie.close (tie.spec Inv-loop μ-loop symbol-index-requires name-of-requires dimensionless-requires loop-holds mul-t element-copy-out-t symbol-index-requires-2 name-of-requires-2 is-before-requires with-term-requires with-rest-requires returns mul-with-term element-copy-out-with-term with-term-requires-2 add-j loop-less loop-again with-term-requires-3 returns-2)

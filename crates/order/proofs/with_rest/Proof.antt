@@ -23,11 +23,14 @@ abbrev μ-loop : tie.MeasureT-loop
 loop-holds : tie.Need-loop-holds Inv-loop μ-loop
 loop-holds c = resting-start (c .args .v) (c .args .t2) (c .args .j) (c .pre .1)
 
+mul-with-term : tie.Need-mul-with-term Inv-loop μ-loop
+mul-with-term c = search needs
+
 element-copy-out-with-term : tie.Need-element-copy-out-with-term Inv-loop μ-loop
 element-copy-out-with-term c = search needs
 
-mul-with-term : tie.Need-mul-with-term Inv-loop μ-loop
-mul-with-term c = search needs
+mul-with-term-2 : tie.Need-mul-with-term-2 Inv-loop μ-loop
+mul-with-term-2 c = search needs
 
 element-copy-out-with-term-2 : tie.Need-element-copy-out-with-term-2 Inv-loop μ-loop
 element-copy-out-with-term-2 c = search needs
@@ -62,17 +65,4 @@ returns c =
     resting-end (g .v) (g .t2) (g .j) (l .out) (l .i) (l .inv) (c .loop-test .left)
 
 pub with-rest-spec : {M : Type 1} → statement M
-with-rest-spec =
-    tie.close
-    (tie.spec
-    Inv-loop
-    μ-loop
-    loop-holds
-    element-copy-out-with-term
-    mul-with-term
-    element-copy-out-with-term-2
-    with-term-requires
-    add-i
-    loop-less
-    loop-again
-    returns)
+with-rest-spec = tie.close (tie.spec Inv-loop μ-loop loop-holds mul-with-term element-copy-out-with-term mul-with-term-2 element-copy-out-with-term-2 with-term-requires add-i loop-less loop-again returns)

@@ -24,26 +24,24 @@ loop-holds c = (omega arith, all-none (usedAt (now (c .before .args .pairs)) (c 
 mul-at : tie.Need-mul-at Inv-loop μ-loop
 mul-at c = search needs
 
-shared-slice-read-are-used : tie.Need-shared-slice-read-are-used Inv-loop μ-loop
-shared-slice-read-are-used c = search needs
+symbol-at-requires : tie.Need-symbol-at-requires Inv-loop μ-loop
+symbol-at-requires c κs = search needs
 
-add-are-used : tie.Need-add-are-used Inv-loop μ-loop
-add-are-used c = search needs
+add-symbol-at : tie.Need-add-symbol-at Inv-loop μ-loop
+add-symbol-at c = search needs
 
-shared-slice-read-are-used-2 : tie.Need-shared-slice-read-are-used-2 Inv-loop μ-loop
-shared-slice-read-are-used-2 c = search needs
+symbol-at-requires-2 : tie.Need-symbol-at-requires-2 Inv-loop μ-loop
+symbol-at-requires-2 c κs = search needs
 
 are-used-requires : tie.Need-are-used-requires Inv-loop μ-loop
 are-used-requires c κs = search needs
 
 returns : tie.Need-returns Inv-loop μ-loop
 returns c =
-    let start = c .before .before .before .before .before .before .before in
-    let loop = c .before .before .before .before .before .loop in
-    let loop-test = c .before .before .before .before .loop-test in
-    let are-used = c .before .are-used in
-    let a = start .args in
-    sym (all-failed (usedAt (now (a .pairs)) (a .n)) (a .k) (loop .i) (loop-test .taken) (sym (are-used .ensures) ∙ not-true (are-used .result) (c .if1 .taken)))
+    let a = c .before .before .before .before .before .before .before .args in
+    let l = c .before .before .before .before .before .loop in
+    let is = sym (c .before .are-used .ensures) ∙ not-true (c .before .are-used .result) (c .if1 .taken) in
+    sym (all-failed (usedAt (now (a .pairs)) (a .n)) (a .k) (l .i) (c .before .before .before .before .loop-test .taken) (rw (c .before .before .before .symbol-at .ensures, c .before .before .symbol-at2 .ensures) at is))
 
 add-i : tie.Need-add-i Inv-loop μ-loop
 add-i c = search needs
@@ -53,11 +51,10 @@ loop-less c = search needs
 
 loop-again : tie.Need-loop-again Inv-loop μ-loop
 loop-again c =
-    let start = c .before .before .before .before .before .before .before in
-    let loop = c .before .before .before .before .before .loop in
-    let are-used = c .before .are-used in
-    let a = start .args in
-    (omega arith, all-more (usedAt (now (a .pairs)) (a .n)) (loop .i) (loop .inv .1) (sym (are-used .ensures) ∙ not-false (are-used .result) (c .if1 .left)))
+    let a = c .before .before .before .before .before .before .before .args in
+    let l = c .before .before .before .before .before .loop in
+    let is = sym (c .before .are-used .ensures) ∙ not-false (c .before .are-used .result) (c .if1 .left) in
+    (omega arith, all-more (usedAt (now (a .pairs)) (a .n)) (l .i) (l .inv .1) (rw (c .before .before .before .symbol-at .ensures, c .before .before .symbol-at2 .ensures) at is))
 
 returns-2 : tie.Need-returns-2 Inv-loop μ-loop
 returns-2 c =
@@ -67,19 +64,4 @@ returns-2 c =
     sym (rw e at (loop .inv .1))
 
 pub all-used-spec : {M : Type 1} → statement M
-all-used-spec =
-    tie.close
-    (tie.spec
-    Inv-loop
-    μ-loop
-    loop-holds
-    mul-at
-    shared-slice-read-are-used
-    add-are-used
-    shared-slice-read-are-used-2
-    are-used-requires
-    returns
-    add-i
-    loop-less
-    loop-again
-    returns-2)
+all-used-spec = tie.close (tie.spec Inv-loop μ-loop loop-holds mul-at symbol-at-requires add-symbol-at symbol-at-requires-2 are-used-requires returns add-i loop-less loop-again returns-2)

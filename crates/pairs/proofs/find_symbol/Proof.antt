@@ -19,20 +19,19 @@ abbrev μ-loop : tie.MeasureT-loop
 μ-loop bodies k symbol i₀ i = k - i
 
 loop-holds : tie.Need-loop-holds Inv-loop μ-loop
-loop-holds c = (omega arith, any-none (isOf (now (c .args .bodies)) (c .args .symbol)))
+loop-holds c = (omega arith, any-none (isOf (now (c .before .args .bodies)) (c .before .args .symbol)))
 
-mul-if1 : tie.Need-mul-if1 Inv-loop μ-loop
-mul-if1 c = search needs
+mul-symbol-at : tie.Need-mul-symbol-at Inv-loop μ-loop
+mul-symbol-at c = search needs
 
-shared-slice-read-if1 : tie.Need-shared-slice-read-if1 Inv-loop μ-loop
-shared-slice-read-if1 c = search needs
+symbol-at-requires : tie.Need-symbol-at-requires Inv-loop μ-loop
+symbol-at-requires c κs = search needs
 
 returns : tie.Need-returns Inv-loop μ-loop
 returns c =
-    let start = c .before .before .before .before in
-    let loop = c .before .before .before .loop in
-    let a = start .args in
-    sym (first-at (isOf (now (a .bodies)) (a .symbol)) (a .k) (loop .i) (c .before .before .loop-test .taken) (loop .inv .1) (eq-eqb _ _ (c .if1 .taken)))
+    let a = c .before .before .before .before .before .args in
+    let l = c .before .before .before .loop in
+    sym (first-at (isOf (now (a .bodies)) (a .symbol)) (a .k) (l .i) (c .before .before .loop-test .taken) (l .inv .1) (eq-eqb _ _ (rw (c .before .symbol-at .ensures) at (c .if1 .taken))))
 
 add-i : tie.Need-add-i Inv-loop μ-loop
 add-i c = search needs
@@ -42,30 +41,16 @@ loop-less c = search needs
 
 loop-again : tie.Need-loop-again Inv-loop μ-loop
 loop-again c =
-    let start = c .before .before .before .before in
-    let loop = c .before .before .before .loop in
-    let a = start .args in
-    (omega arith, any-more (isOf (now (a .bodies)) (a .symbol)) (loop .i) (loop .inv .1) (ne-eqb _ _ (c .if1 .left)))
+    let a = c .before .before .before .before .before .args in
+    let l = c .before .before .before .loop in
+    (omega arith, any-more (isOf (now (a .bodies)) (a .symbol)) (l .i) (l .inv .1) (ne-eqb _ _ (rw (c .before .symbol-at .ensures) at (c .if1 .left))))
 
 returns-2 : tie.Need-returns-2 Inv-loop μ-loop
 returns-2 c =
-    let start = c .before .before in
-    let loop = c .before .loop in
-    let a = start .args in
-    let e : loop .i ≡ a .k = omega arith in
-    sym (first-none (isOf (now (a .bodies)) (a .symbol)) (a .k) (rw e at (loop .inv .1)))
+    let a = c .before .before .before .args in
+    let l = c .before .loop in
+    let e : l .i ≡ a .k = omega (arith, l .inv .0, c .loop-test .left) in
+    sym (first-none (isOf (now (a .bodies)) (a .symbol)) (a .k) (rw e at (l .inv .1)))
 
 pub find-symbol-spec : {M : Type 1} → statement M
-find-symbol-spec =
-    tie.close
-    (tie.spec
-    Inv-loop
-    μ-loop
-    loop-holds
-    mul-if1
-    shared-slice-read-if1
-    returns
-    add-i
-    loop-less
-    loop-again
-    returns-2)
+find-symbol-spec = tie.close (tie.spec Inv-loop μ-loop loop-holds mul-symbol-at symbol-at-requires returns add-i loop-less loop-again returns-2)

@@ -68,25 +68,20 @@ add-long c = search needs
 long-requires : tie.Need-long-requires
 long-requires c κs = search needs
 
-add-t18 : tie.Need-add-t18
-add-t18 c = search needs
+add-symbol-at : tie.Need-add-symbol-at
+add-symbol-at c = search needs
 
-shared-slice-read-t20 : tie.Need-shared-slice-read-t20
-shared-slice-read-t20 c = search needs
+symbol-at-requires : tie.Need-symbol-at-requires
+symbol-at-requires c κs = search needs
 
 returns-2 : tie.Need-returns-2
 returns-2 c =
-    let start = c .before .before .before .before .before .before .before .before .before .before .before .before in
-    let enum-told = c .before .before .before .before .before .before .before .enum-told in
-    let symbol-verdict = c .before .before .before .before .before .before .before .before .before .symbol-verdict in
+    let a = c .before .before .before .before .before .before .before .before .before .before .before .before .args in
     let count = c .before .before .before .before .before .before .count in
-    let parents-at = c .before .before .before .before .before .parents-at in
-    let find-symbol = c .before .before .before .find-symbol in
-    let a = start .args in
-    let v = sym (enum-told .given .1) ∙ symbol-verdict .ensures in
-    let e = bodies-read (now (a .page)) (count .result) (parents-at .result) (count .ensures .0) (parents-at .ensures) in
-    rw (c .before .long .ensures, e)
-    (factor-found (now (a .page)) (now (a .names)) (a .lent) (a .symbol) v (count .result) (count .ensures .0) (find-symbol .result) (rw e at (find-symbol .ensures)) (c .before .before .if1 .taken))
+    let v = sym (c .before .before .before .before .before .before .before .enum-told .given .1) ∙ c .before .before .before .before .before .before .before .before .before .symbol-verdict .ensures in
+    let e = bodies-read (now (a .page)) (count .result) (c .before .before .before .before .before .parents-at .result) (count .ensures .0) (c .before .before .before .before .before .parents-at .ensures) in
+    rw (c .symbol-at .ensures, c .before .long .ensures, e)
+    (factor-found (now (a .page)) (now (a .names)) (a .lent) (a .symbol) v (count .result) (count .ensures .0) (c .before .before .before .find-symbol .result) (rw e at (c .before .before .before .find-symbol .ensures)) (c .before .before .if1 .taken))
 
 returns-3 : tie.Need-returns-3
 returns-3 c =
@@ -103,23 +98,4 @@ returns-3 c =
     (count .ensures .0) (find-symbol .result) (rw e at (find-symbol .ensures)) (c .if1 .left)
 
 pub first-factor-spec : {M : Type 1} → statement M
-first-factor-spec =
-    tie.close
-    (tie.spec
-    symbol-verdict-requires
-    enum-known-verdict
-    returns
-    enum-told
-    count-requires
-    parents-at-requires
-    sub-bodies
-    part-bodies-start
-    part-bodies-end
-    find-symbol-requires
-    mul-at
-    add-long
-    long-requires
-    add-t18
-    shared-slice-read-t20
-    returns-2
-    returns-3)
+first-factor-spec = tie.close (tie.spec symbol-verdict-requires enum-known-verdict returns enum-told count-requires parents-at-requires sub-bodies part-bodies-start part-bodies-end find-symbol-requires mul-at add-long long-requires add-symbol-at symbol-at-requires returns-2 returns-3)

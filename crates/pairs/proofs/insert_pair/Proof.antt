@@ -4,8 +4,7 @@ use native.Mathlib.Omega.{arith}
 use denote.Ref.{now}
 use borrow.Author.Tests.{not-true, not-false}
 use Rattle.pairs.proofs.Page.{held-parts}
-use Rattle.pairs.proofs.Calls.{pair-unnamed, pair-unheld, pair-refused, pair-few, count-grown, pair-cramped, pair-done}
-use borrow.Author.Needs.{needs}
+use Rattle.pairs.proofs.Calls.{pair-unnamed, pair-unheld, pair-refused, pair-few, count-grown, grown-below, pair-cramped, pair-done}
 use borrow.Author.Needs.{needs}
 use Rattle.pairs.proofs.insert_pair.Statement.{statement}
 use Rattle.pairs.proofs.insert_pair.Tie as tie
@@ -132,7 +131,8 @@ write-table-requires c κs =
     let p = sym (is-refused .ensures) ∙ if3 .left in
     let few = pair-few (now (a .page)) (now (a .names)) (a .lent) (a .symbol) (a .factor) (a .base) l h (inserted .result) o p in
     let grown = count-grown (now (a .page)) (now (a .names)) (a .lent) (a .symbol) (a .factor) (a .base) l h (inserted .result) o p in
-    (omega (arith, few, grown), rw (c .before .before .size-of .ensures) at (c .before .if4 .left))
+    let below = grown-below (now (a .page)) (now (a .names)) (a .lent) (a .symbol) (a .factor) (a .base) l h (inserted .result) o p in
+    (omega (arith, few, grown), rw (c .before .before .size-of .ensures) at (c .before .if4 .left), below)
 
 same-length-4 : tie.Need-same-length-4
 same-length-4 c = search needs
@@ -163,23 +163,4 @@ returns-5 c =
     (d .0, c .before .before .write-table .ensures ∙ d .1)
 
 pub insert-pair-spec : {M : Type 1} → statement M
-insert-pair-spec =
-    tie.close
-    (tie.spec
-    is-broken-requires
-    returns
-    holds-table-requires
-    same-length
-    returns-2
-    in-use-requires
-    table-in-requires
-    inserted-requires
-    is-refused-requires
-    same-length-2
-    returns-3
-    size-of-requires
-    same-length-3
-    returns-4
-    write-table-requires
-    same-length-4
-    returns-5)
+insert-pair-spec = tie.close (tie.spec is-broken-requires returns holds-table-requires same-length returns-2 in-use-requires table-in-requires inserted-requires is-refused-requires same-length-2 returns-3 size-of-requires same-length-3 returns-4 write-table-requires same-length-4 returns-5)

@@ -1,7 +1,8 @@
 -- `pairs::inserted` meets its contract. Assumes nothing.
 use mathlib.Core.Path.{sym, _∙_}
 use borrow.Author.Tests.{not-true, not-false}
-use Rattle.pairs.proofs.Table.{form, insert-broken, insert-unused, insert-full, insert-done}
+use Rattle.groups.specs.Groups.{pair}
+use Rattle.pairs.proofs.Table.{both-below, form, insert-broken, insert-unused, insert-full, insert-done}
 use borrow.Author.Needs.{needs}
 use borrow.Author.Needs.{needs}
 use Rattle.pairs.proofs.inserted.Statement.{statement}
@@ -57,7 +58,8 @@ with-pair-requires c κs =
     let is-table = c .before .before .before .before .is-table in
     let a = start .args in
     let f = sym (is-table .ensures) ∙ not-false (is-table .result) (c .before .before .before .if1 .left) in
-    (c .if3 .left, form (a .t) (a .n) f .given)
+    let u = sym (c .before .before .are-used .ensures) ∙ not-false (c .before .before .are-used .result) (c .before .if2 .left) in
+    ((c .if3 .left, form (a .t) (a .n) f .given), both-below (a .n) (pair (a .symbol) (a .base)) u)
 
 returns-4 : tie.Need-returns-4
 returns-4 c =
@@ -71,16 +73,4 @@ returns-4 c =
     rw (c .with-pair .ensures) (insert-done (a .t) (a .n) (a .symbol) (a .factor) (a .base) f u (c .before .if3 .left))
 
 pub inserted-spec : {M : Type 1} → statement M
-inserted-spec =
-    tie.close
-    (tie.spec
-    is-table-requires
-    kept-requires
-    returns
-    are-used-requires
-    kept-requires-2
-    returns-2
-    kept-requires-3
-    returns-3
-    with-pair-requires
-    returns-4)
+inserted-spec = tie.close (tie.spec is-table-requires kept-requires returns are-used-requires kept-requires-2 returns-2 kept-requires-3 returns-3 with-pair-requires returns-4)

@@ -7,7 +7,6 @@ use borrow.Author.Tests.{not-true, not-false}
 use Rattle.pairs.specs.Table.{pairsMax, pairBytes}
 use Rattle.pairs.proofs.Table.{form-many, form-unused, form-rest}
 use borrow.Author.Needs.{needs}
-use borrow.Author.Needs.{needs}
 use Rattle.pairs.proofs.is_table.Statement.{statement}
 use Rattle.pairs.proofs.is_table.Tie as tie
 
@@ -41,37 +40,20 @@ replayed-requires c κs =
     let z : length (start .args .t .pairs) ≡ pairBytes * pairsMax = search needs in
     omega (arith, z, if1 .left)
 
-slice-aggregate-same : tie.Need-slice-aggregate-same
-slice-aggregate-same c = search needs
+slice-aggregate-are-same : tie.Need-slice-aggregate-are-same
+slice-aggregate-are-same c = search needs
 
-slice-aggregate-same-2 : tie.Need-slice-aggregate-same-2
-slice-aggregate-same-2 c = search needs
+slice-aggregate-are-same-2 : tie.Need-slice-aggregate-are-same-2
+slice-aggregate-are-same-2 c = search needs
 
-same-requires : tie.Need-same-requires
-same-requires c κs = search needs
+are-same-requires : tie.Need-are-same-requires
+are-same-requires c κs = search needs
 
 returns-3 : tie.Need-returns-3
 returns-3 c =
-    let start = c .before .before .before .before .before .before .before .before .before .before .before in
-    let all-used = c .before .before .before .before .before .before .before .all-used in
-    let if2 = c .before .before .before .before .before .before .if2 in
-    let if1 = c .before .before .before .before .before .before .before .before .before .before .if1 in
-    let t = start .args .t in
-    let u = sym (all-used .ensures) ∙ not-false (all-used .result) (if2 .left) in
-    c .same .ensures ∙ rw (c .before .before .before .replayed .ensures)
-    (form-rest t (start .args .n) (if1 .left) u)
+    let a = c .before .before .before .before .before .before .before .before .before .before .before .args in
+    let u = sym (c .before .before .before .before .before .before .before .all-used .ensures) ∙ not-false (c .before .before .before .before .before .before .before .all-used .result) (c .before .before .before .before .before .before .if2 .left) in
+    c .are-same .ensures ∙ rw (c .before .before .before .replayed .ensures) (form-rest (a .t) (a .n) (c .before .before .before .before .before .before .before .before .before .before .if1 .left) u)
 
 pub is-table-spec : {M : Type 1} → statement M
-is-table-spec =
-    tie.close
-    (tie.spec
-    returns
-    slice-aggregate-all-used
-    all-used-requires
-    returns-2
-    slice-aggregate-replayed
-    replayed-requires
-    slice-aggregate-same
-    slice-aggregate-same-2
-    same-requires
-    returns-3)
+is-table-spec = tie.close (tie.spec returns slice-aggregate-all-used all-used-requires returns-2 slice-aggregate-replayed replayed-requires slice-aggregate-are-same slice-aggregate-are-same-2 are-same-requires returns-3)

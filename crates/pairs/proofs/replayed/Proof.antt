@@ -1,12 +1,12 @@
 -- `pairs::replayed` meets its contract. Assumes nothing.
-use mathlib.Core.Path.{_≡_, _∙_, ap}
+use mathlib.Core.Path.{_≡_, _∙_, ap, ap₂}
 use mathlib.Core.List.{List}
 use Prim.Native.Nat.{ℕ, _+_, _-_, _≤_}
 use native.Mathlib.Omega.{arith}
 use lib.ListN.{length}
 use denote.Ref.{now}
 use Rattle.names.specs.Table.{namesMax}
-use Rattle.groups.specs.Groups.{enter, parentsOf}
+use Rattle.groups.specs.Groups.{pair, enter, parentsOf}
 use Rattle.groups.proofs.Walks.{length-parents}
 use Rattle.pairs.specs.Table.{pairAt, pairsIn}
 use Rattle.pairs.proofs.Table.{parents-none, parents-next}
@@ -32,17 +32,17 @@ loop-holds c =
 mul-at : tie.Need-mul-at Inv-loop μ-loop
 mul-at c = search needs
 
+symbol-at-requires : tie.Need-symbol-at-requires Inv-loop μ-loop
+symbol-at-requires c κs = search needs
+
+add-symbol-at : tie.Need-add-symbol-at Inv-loop μ-loop
+add-symbol-at c = search needs
+
+symbol-at-requires-2 : tie.Need-symbol-at-requires-2 Inv-loop μ-loop
+symbol-at-requires-2 c κs = search needs
+
 slice-aggregate-join : tie.Need-slice-aggregate-join Inv-loop μ-loop
 slice-aggregate-join c = search needs
-
-shared-slice-read-join : tie.Need-shared-slice-read-join Inv-loop μ-loop
-shared-slice-read-join c = search needs
-
-add-join : tie.Need-add-join Inv-loop μ-loop
-add-join c = search needs
-
-shared-slice-read-join-2 : tie.Need-shared-slice-read-join-2 Inv-loop μ-loop
-shared-slice-read-join-2 c = search needs
 
 join-requires : tie.Need-join-requires Inv-loop μ-loop
 join-requires c κs = search needs
@@ -55,11 +55,11 @@ loop-less c = search needs
 
 loop-again : tie.Need-loop-again Inv-loop μ-loop
 loop-again c =
-    let start = c .before .before .before .before .before .before .before .before .before in
+    let bodies = now (c .before .before .before .before .before .before .before .before .before .args .pairs) in
     let loop = c .before .before .before .before .before .before .loop in
-    let bodies = now (start .args .pairs) in
     let i = loop .i in
-    let e = c .before .join .ensures ∙ ap (λ (p : List ℕ). enter i p (pairAt bodies i)) (loop .inv .1) ∙ parents-next bodies i in
+    let q : pair (c .before .before .before .before .symbol-at .result) (c .before .before .before .symbol-at2 .result) ≡ pairAt bodies i = ap₂ pair (c .before .before .before .before .symbol-at .ensures) (c .before .before .before .symbol-at2 .ensures) in
+    let e = c .before .join .ensures ∙ ap (enter i (loop .parents)) q ∙ ap (λ (p : List ℕ). enter i p (pairAt bodies i)) (loop .inv .1) ∙ parents-next bodies i in
     (omega arith, e, ap length e ∙ length-parents namesMax (pairsIn bodies (i + 1)))
 
 returns : tie.Need-returns Inv-loop μ-loop
@@ -70,20 +70,4 @@ returns c =
     rw e at (loop .inv .1)
 
 pub replayed-spec : {M : Type 1} → statement M
-replayed-spec =
-    tie.close
-    (tie.spec
-    Inv-loop
-    μ-loop
-    own-parents-requires
-    loop-holds
-    mul-at
-    slice-aggregate-join
-    shared-slice-read-join
-    add-join
-    shared-slice-read-join-2
-    join-requires
-    add-i
-    loop-less
-    loop-again
-    returns)
+replayed-spec = tie.close (tie.spec Inv-loop μ-loop own-parents-requires loop-holds mul-at symbol-at-requires add-symbol-at symbol-at-requires-2 slice-aggregate-join join-requires add-i loop-less loop-again returns)

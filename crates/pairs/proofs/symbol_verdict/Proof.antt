@@ -2,7 +2,7 @@
 use mathlib.Core.Path.{sym, _∙_}
 use denote.Ref.{now}
 use Rattle.pairs.proofs.Calls.{unbroken, symbol-broken, symbol-unused, symbol-used}
-use borrow.Author.Needs.{needs}
+use borrow.Author.Tests.{not-true, not-false}
 use borrow.Author.Needs.{needs}
 use Rattle.pairs.proofs.symbol_verdict.Statement.{statement}
 use Rattle.pairs.proofs.symbol_verdict.Tie as tie
@@ -25,25 +25,22 @@ in-use-requires c κs =
 symbol-index-requires : tie.Need-symbol-index-requires
 symbol-index-requires c κs = search needs
 
+is-used-requires : tie.Need-is-used-requires
+is-used-requires c κs = search needs
+
 returns-2 : tie.Need-returns-2
 returns-2 c =
-    let start = c .before .before .before .before .before .before .before in
-    let is-broken = c .before .before .before .before .is-broken in
-    let a = start .args in
-    symbol-unused (now (a .page)) (now (a .names)) (a .lent) (a .symbol)
-    (sym (is-broken .ensures) ∙ c .before .before .before .if1 .left)
-    (rw (c .before .before .in-use .ensures .0, c .before .symbol-index .ensures .0) at (c .if2 .taken))
+    let a = c .before .before .before .before .before .before .before .before .args in
+    let unused = sym (c .before .is-used .ensures) ∙ not-true (c .before .is-used .result) (c .if2 .taken) in
+    symbol-unused (now (a .page)) (now (a .names)) (a .lent) (a .symbol) (sym (c .before .before .before .before .before .is-broken .ensures) ∙ c .before .before .before .before .if1 .left)
+    (rw (c .before .before .before .in-use .ensures .0, c .before .before .symbol-index .ensures .0) at unused)
 
 returns-3 : tie.Need-returns-3
 returns-3 c =
-    let start = c .before .before .before .before .before .before .before in
-    let is-broken = c .before .before .before .before .is-broken in
-    let a = start .args in
-    symbol-used (now (a .page)) (now (a .names)) (a .lent) (a .symbol)
-    (sym (is-broken .ensures) ∙ c .before .before .before .if1 .left)
-    (rw (c .before .before .in-use .ensures .0, c .before .symbol-index .ensures .0) at (c .if2 .left))
+    let a = c .before .before .before .before .before .before .before .before .args in
+    let used = sym (c .before .is-used .ensures) ∙ not-false (c .before .is-used .result) (c .if2 .left) in
+    symbol-used (now (a .page)) (now (a .names)) (a .lent) (a .symbol) (sym (c .before .before .before .before .before .is-broken .ensures) ∙ c .before .before .before .before .if1 .left)
+    (rw (c .before .before .before .in-use .ensures .0, c .before .before .symbol-index .ensures .0) at used)
 
 pub symbol-verdict-spec : {M : Type 1} → statement M
-symbol-verdict-spec =
-    tie.close
-    (tie.spec is-broken-requires returns in-use-requires symbol-index-requires returns-2 returns-3)
+symbol-verdict-spec = tie.close (tie.spec is-broken-requires returns in-use-requires symbol-index-requires is-used-requires returns-2 returns-3)

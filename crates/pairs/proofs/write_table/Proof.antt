@@ -6,8 +6,7 @@ use lib.ListN.{length}
 use Prim.Native.Nat.{_*_}
 use Rattle.names.specs.Table.{namesMax}
 use Rattle.pairs.specs.Table.{pairsMax, pairBytes}
-use Rattle.pairs.proofs.Page.{table-written}
-use borrow.Author.Needs.{needs}
+use Rattle.pairs.proofs.Page.{low-below, table-written}
 use borrow.Author.Needs.{needs}
 use Rattle.pairs.proofs.write_table.Statement.{statement}
 use Rattle.pairs.proofs.write_table.Tie as tie
@@ -36,22 +35,20 @@ part-put-bytes-end c =
 put-bytes-requires : tie.Need-put-bytes-requires
 put-bytes-requires c κs = search needs
 
+slice-aggregate-put-low-bytes : tie.Need-slice-aggregate-put-low-bytes
+slice-aggregate-put-low-bytes c = search needs
+
+put-low-bytes-requires : tie.Need-put-low-bytes-requires
+put-low-bytes-requires c κs =
+    let start = c .before .before .before .before .before .before .before .before .before .before .before .before .before in
+    let z : length (start .args .t .parents) ≡ namesMax = search needs in
+    omega (arith, z, c .before .before .before .before .before .before .before .before .before .before .before .parents-at .ensures, start .pre .1, c .before .before .before .before .put-bytes .kept .0)
+
 slice-aggregate-put-bytes : tie.Need-slice-aggregate-put-bytes
 slice-aggregate-put-bytes c = search needs
 
 put-bytes-requires-2 : tie.Need-put-bytes-requires-2
-put-bytes-requires-2 c κs =
-    let start = c .before .before .before .before .before .before .before .before .before .before .before .before .before in
-    let parents-at = c .before .before .before .before .before .before .before .before .before .before .before .parents-at in
-    let put-bytes = c .before .before .before .before .put-bytes in
-    let z : length (start .args .t .parents) ≡ namesMax = search needs in
-    omega (arith, z, parents-at .ensures, start .pre .1, put-bytes .kept .0)
-
-slice-aggregate-put-bytes-2 : tie.Need-slice-aggregate-put-bytes-2
-slice-aggregate-put-bytes-2 c = search needs
-
-put-bytes-requires-3 : tie.Need-put-bytes-requires-3
-put-bytes-requires-3 c κs = search needs
+put-bytes-requires-2 c κs = search needs
 
 same-length : tie.Need-same-length
 same-length c = search needs
@@ -59,29 +56,12 @@ same-length c = search needs
 returns : tie.Need-returns
 returns c =
     let start = c .before .before .before .before .before .before .before .before .before .before .before .before .before .before .before .before .before .before .before .before .before in
-    let parents-at = c .before .before .before .before .before .before .before .before .before .before .before .before .before .before .before .before .before .before .before .parents-at in
-    let put-bytes = c .before .before .before .before .before .before .before .before .before .before .before .before .put-bytes in
-    let put-bytes2 = c .before .before .before .before .before .before .before .put-bytes2 in
-    let count-bytes = c .before .before .before .before .before .before .before .before .before .before .before .before .before .before .before .before .count-bytes in
-    table-written (now (start .args .page)) (start .args .t) (parents-at .result) (parents-at .ensures) _ _ _
-    (put-bytes .ensures)
-    (put-bytes2 .ensures)
-    (c .before .before .put-bytes3 .ensures ∙ rw (count-bytes .ensures))
+    let z : length (start .args .t .parents) ≡ namesMax = search needs in
+    let own = low-below (start .args .t .parents) z (start .pre .2) in
+    table-written (now (start .args .page)) (start .args .t) (c .before .before .before .before .before .before .before .before .before .before .before .before .before .before .before .before .before .before .before .parents-at .result) (c .before .before .before .before .before .before .before .before .before .before .before .before .before .before .before .before .before .before .before .parents-at .ensures) _ _ _
+    (c .before .before .before .before .before .before .before .before .before .before .before .before .put-bytes .ensures)
+    (c .before .before .before .before .before .before .before .put-low-bytes .ensures ∙ rw own)
+    (c .before .before .put-bytes2 .ensures ∙ rw (c .before .before .before .before .before .before .before .before .before .before .before .before .before .before .before .before .count-bytes .ensures))
 
 pub write-table-spec : {M : Type 1} → statement M
-write-table-spec =
-    tie.close
-    (tie.spec
-    parents-at-requires
-    count-bytes-requires
-    mul-put-bytes
-    sub-put-bytes
-    part-put-bytes-start
-    part-put-bytes-end
-    put-bytes-requires
-    slice-aggregate-put-bytes
-    put-bytes-requires-2
-    slice-aggregate-put-bytes-2
-    put-bytes-requires-3
-    same-length
-    returns)
+write-table-spec = tie.close (tie.spec parents-at-requires count-bytes-requires mul-put-bytes sub-put-bytes part-put-bytes-start part-put-bytes-end put-bytes-requires slice-aggregate-put-low-bytes put-low-bytes-requires slice-aggregate-put-bytes put-bytes-requires-2 same-length returns)

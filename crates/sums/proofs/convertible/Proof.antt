@@ -22,8 +22,8 @@ same-sums-requires c κs =
     let group-sums = c .before .group-sums in
     let g = start .args in
     let root = walk (g .steps) (now (g .parents)) in (
-      sums-count root (g .left) (start .pre .1) (group-sums .result) (group-sums .ensures),
-      sums-count root (g .right) (start .pre .2) (c .group-sums2 .result) (c .group-sums2 .ensures),
+      sums-count root (g .left) (start .pre .0) (group-sums .result) (group-sums .ensures),
+      sums-count root (g .right) (start .pre .1) (c .group-sums2 .result) (c .group-sums2 .ensures),
     )
 
 returns : tie.Need-returns
@@ -34,8 +34,8 @@ returns c =
     let group-sums2 = c .before .group-sums2 in
     let g = start .args in
     let root = walk (g .steps) (now (g .parents)) in
-    let left = sums-held root (g .left) (start .pre .1) (group-sums .result) (group-sums .ensures) in
-    let right = sums-held root (g .right) (start .pre .2) (group-sums2 .result) (group-sums2 .ensures) in
+    let left = sums-held root (g .left) (start .pre .0) (group-sums .result) (group-sums .ensures) in
+    let right = sums-held root (g .right) (start .pre .1) (group-sums2 .result) (group-sums2 .ensures) in
     same-convertible namesMax root (termsOf (g .left)) (termsOf (g .right)) (c .same-sums .result) (rw (left, right) at (c .same-sums .ensures))
 
 pub convertible-spec : {M : Type 1} → statement M

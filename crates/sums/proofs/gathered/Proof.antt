@@ -77,18 +77,4 @@ loop-again c =
     (λ m h. c .with-sum .ensures m h ∙ ap (λ z. sumsOf (m ++ power (next-symbol .result) z)) (back (sum-of .result) (sum-of .ok) ∙ sum-of .ensures))
 
 pub gathered-spec : {M : Type 1} → statement M
-gathered-spec =
-    tie.close
-    (tie.spec
-    Inv-loop
-    μ-loop
-    no-sums-requires
-    loop-holds
-    next-symbol-requires
-    returns
-    cast-s
-    sum-of-requires
-    with-sum-requires
-    add-lo
-    loop-less
-    loop-again)
+gathered-spec = tie.close (tie.spec Inv-loop μ-loop no-sums-requires loop-holds next-symbol-requires returns cast-s sum-of-requires with-sum-requires add-lo loop-less loop-again)

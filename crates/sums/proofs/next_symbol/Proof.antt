@@ -16,6 +16,9 @@ abbrev μ-loop : tie.MeasureT-loop
 loop-holds : tie.Need-loop-holds Inv-loop μ-loop
 loop-holds c = nearing-start (c .args .lo) (c .args .t1)
 
+mul-symbol-index : tie.Need-mul-symbol-index Inv-loop μ-loop
+mul-symbol-index c = search needs
+
 element-copy-out-symbol-index : tie.Need-element-copy-out-symbol-index Inv-loop μ-loop
 element-copy-out-symbol-index c = search needs
 
@@ -48,16 +51,4 @@ returns c =
     nearing-end (start .args .lo) (start .args .t1) (loop .least) (loop .i) (loop .inv) (c .loop-test .left)
 
 pub next-symbol-spec : {M : Type 1} → statement M
-next-symbol-spec =
-    tie.close
-    (tie.spec
-    Inv-loop
-    μ-loop
-    loop-holds
-    element-copy-out-symbol-index
-    symbol-index-requires
-    nearer-of-requires
-    add-i
-    loop-less
-    loop-again
-    returns)
+next-symbol-spec = tie.close (tie.spec Inv-loop μ-loop loop-holds mul-symbol-index element-copy-out-symbol-index symbol-index-requires nearer-of-requires add-i loop-less loop-again returns)

@@ -27,6 +27,9 @@ loop-holds c =
     let start = c .before .before in
     rooting-start (walk (start .args .steps) (now (start .args .parents))) (start .args .t3) (c .dimensionless .result) (c .dimensionless .ensures)
 
+mul-root : tie.Need-mul-root Inv-loop μ-loop
+mul-root c = search needs
+
 element-copy-out-root : tie.Need-element-copy-out-root Inv-loop μ-loop
 element-copy-out-root c = search needs
 
@@ -46,7 +49,7 @@ with-term-requires c κs =
     let loop = c .before .before .before .before .loop in
     let loop-test = c .before .before .before .loop-test in
     let g = start .args in
-    omega (arith, rooting-count (walk (g .steps) (now (g .parents))) (g .t3) (loop .v) (loop .i) (loop .inv), loop-test .taken, start .pre .1)
+    omega (arith, rooting-count (walk (g .steps) (now (g .parents))) (g .t3) (loop .v) (loop .i) (loop .inv), loop-test .taken, start .pre)
 
 add-i : tie.Need-add-i Inv-loop μ-loop
 add-i c = search needs
@@ -75,19 +78,4 @@ returns c =
     rooting-end (walk (g .steps) (now (g .parents))) (g .t3) (loop .v) (loop .i) (loop .inv) (c .loop-test .left)
 
 pub rooted-spec : {M : Type 1} → statement M
-rooted-spec =
-    tie.close
-    (tie.spec
-    Inv-loop
-    μ-loop
-    dimensionless-requires
-    loop-holds
-    element-copy-out-root
-    root-requires
-    mul-with-term
-    element-copy-out-with-term
-    with-term-requires
-    add-i
-    loop-less
-    loop-again
-    returns)
+rooted-spec = tie.close (tie.spec Inv-loop μ-loop dimensionless-requires loop-holds mul-root element-copy-out-root root-requires mul-with-term element-copy-out-with-term with-term-requires add-i loop-less loop-again returns)

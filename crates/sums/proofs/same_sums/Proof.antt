@@ -26,8 +26,14 @@ loop-holds c =
     let start = c .before in
     comparing-start (start .args .t1) (start .args .t2) (c .if1 .left)
 
+mul-if2 : tie.Need-mul-if2 Inv-loop μ-loop
+mul-if2 c = search needs
+
 element-copy-out-if2 : tie.Need-element-copy-out-if2 Inv-loop μ-loop
 element-copy-out-if2 c = search needs
+
+mul-if2-2 : tie.Need-mul-if2-2 Inv-loop μ-loop
+mul-if2-2 c = search needs
 
 element-copy-out-if2-2 : tie.Need-element-copy-out-if2-2 Inv-loop μ-loop
 element-copy-out-if2-2 c = search needs
@@ -88,22 +94,4 @@ returns-4 c =
     compared-all (start .args .t1) (start .args .t2) (loop .i) (loop .inv) (c .loop-test .left)
 
 pub same-sums-spec : {M : Type 1} → statement M
-same-sums-spec =
-    tie.close
-    (tie.spec
-    Inv-loop
-    μ-loop
-    returns
-    loop-holds
-    element-copy-out-if2
-    element-copy-out-if2-2
-    returns-2
-    mul-if3
-    element-copy-out-if3
-    mul-if3-2
-    element-copy-out-if3-2
-    returns-3
-    add-i
-    loop-less
-    loop-again
-    returns-4)
+same-sums-spec = tie.close (tie.spec Inv-loop μ-loop returns loop-holds mul-if2 element-copy-out-if2 mul-if2-2 element-copy-out-if2-2 returns-2 mul-if3 element-copy-out-if3 mul-if3-2 element-copy-out-if3-2 returns-3 add-i loop-less loop-again returns-4)

@@ -23,6 +23,9 @@ abbrev μ-loop : tie.MeasureT-loop
 loop-holds : tie.Need-loop-holds Inv-loop μ-loop
 loop-holds c = summing-start (c .args .s) (c .args .t1) (c .pre .1)
 
+mul-if1 : tie.Need-mul-if1 Inv-loop μ-loop
+mul-if1 c = search needs
+
 element-copy-out-if1 : tie.Need-element-copy-out-if1 Inv-loop μ-loop
 element-copy-out-if1 c = search needs
 
@@ -72,17 +75,4 @@ returns c =
     summing-end (start .args .s) (start .args .t1) (toZ w16 (loop .sum)) (loop .i) (loop .inv) (c .loop-test .left)
 
 pub sum-of-spec : {M : Type 1} → statement M
-sum-of-spec =
-    tie.close
-    (tie.spec
-    Inv-loop
-    μ-loop
-    loop-holds
-    element-copy-out-if1
-    mul-sum
-    element-copy-out-sum
-    add-sum
-    add-i
-    loop-less
-    loop-again
-    returns)
+sum-of-spec = tie.close (tie.spec Inv-loop μ-loop loop-holds mul-if1 element-copy-out-if1 mul-sum element-copy-out-sum add-sum add-i loop-less loop-again returns)

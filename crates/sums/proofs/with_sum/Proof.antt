@@ -10,6 +10,7 @@ use borrow.Author.Tests.{eq-eqb, ne-eqb}
 use Rattle.units.specs.Unit.{isZero, placesMax}
 use Rattle.units.proofs.Signed.{bits-zero}
 use Rattle.sums.proofs.Held.{with-none, with-one}
+use borrow.Author.Needs.{needs}
 use Rattle.sums.proofs.with_sum.Statement.{statement}
 use Rattle.sums.proofs.with_sum.Tie as tie
 
@@ -26,6 +27,9 @@ returns c =
     let start = c .before in
     let a = start .args in
     λ l h. with-none (a .w) (a .s) (a .e) l h (sym (bits-zero (a .e) (start .fits .e)) ∙ eq-eqb (ofZ w16 (a .e)) 0 (c .if1 .taken))
+
+mul-v : tie.Need-mul-v
+mul-v c = let h = room c in omega arith
 
 element-write-v : tie.Need-element-write-v
 element-write-v c = room c
@@ -46,5 +50,4 @@ returns-2 c =
     λ l h. rw (toZ-ofZ (start .fits .e)) (with-one (a .w) (a .s) (a .e) l h (nonzero c))
 
 pub with-sum-spec : {M : Type 1} → statement M
-with-sum-spec =
-    tie.close (tie.spec returns element-write-v mul-e element-set-from-e add-v returns-2)
+with-sum-spec = tie.close (tie.spec returns mul-v element-write-v mul-e element-set-from-e add-v returns-2)

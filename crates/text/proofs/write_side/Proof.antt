@@ -51,6 +51,9 @@ write-separator-requires c κs =
     let r = here-room (now (g .page)) (g .above) (placesOf (g .t4)) (now (g .out)) (g .start) (l .out) (l .at) (l .i) (l .inv) (loop-test .taken) (sym (on-is (c .before .before)) ∙ c .before .if1 .taken) in
     omega (arith, w, r)
 
+mul-symbol-index : tie.Need-mul-symbol-index Inv-loop μ-loop
+mul-symbol-index c = search needs
+
 element-copy-out-symbol-index : tie.Need-element-copy-out-symbol-index Inv-loop μ-loop
 element-copy-out-symbol-index c = search needs
 
@@ -149,26 +152,4 @@ returns c =
     writing-end (now (g .page)) (g .above) (placesOf (g .t4)) (now (g .out)) (g .start) (l .out) (l .at) (l .i) (l .inv) (c .loop-test .left)
 
 pub write-side-spec : {M : Type 1} → statement M
-write-side-spec =
-    tie.close
-    (tie.spec
-    Inv-loop
-    μ-loop
-    loop-holds
-    mul-e
-    element-copy-out-e
-    is-on-requires
-    write-separator-requires
-    element-copy-out-symbol-index
-    symbol-index-requires
-    name-of-requires
-    size-requires
-    write-power-requires
-    add-i
-    loop-less
-    loop-again
-    add-i-2
-    loop-less-2
-    loop-again-2
-    same-length
-    returns)
+write-side-spec = tie.close (tie.spec Inv-loop μ-loop loop-holds mul-e element-copy-out-e is-on-requires write-separator-requires mul-symbol-index element-copy-out-symbol-index symbol-index-requires name-of-requires size-requires write-power-requires add-i loop-less loop-again add-i-2 loop-less-2 loop-again-2 same-length returns)

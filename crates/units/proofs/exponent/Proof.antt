@@ -33,14 +33,17 @@ loop-holds c =
     let is-formed = c .before .is-formed in
     seeking-start placesMax namesMax (placesOf (start .args .t1)) (start .args .symbol) (sym (is-formed .ensures) ∙ not-false (is-formed .result) (c .if1 .left))
 
+mul-if2 : tie.Need-mul-if2 Inv-loop μ-loop
+mul-if2 c = search needs
+
 element-copy-out-if2 : tie.Need-element-copy-out-if2 Inv-loop μ-loop
 element-copy-out-if2 c = search needs
 
-mul-t14 : tie.Need-mul-t14 Inv-loop μ-loop
-mul-t14 c = search needs
+mul-t15 : tie.Need-mul-t15 Inv-loop μ-loop
+mul-t15 c = search needs
 
-element-copy-out-t17 : tie.Need-element-copy-out-t17 Inv-loop μ-loop
-element-copy-out-t17 c = search needs
+element-copy-out-t18 : tie.Need-element-copy-out-t18 Inv-loop μ-loop
+element-copy-out-t18 c = search needs
 
 returns-2 : tie.Need-returns-2 Inv-loop μ-loop
 returns-2 c =
@@ -52,7 +55,7 @@ returns-2 c =
     let u = placesOf (start .args .t1) in
     let l = loop in
     exponent-given (start .args .t1) (start .args .symbol) _ (sym (is-formed .ensures) ∙ not-false (is-formed .result) (if1 .left))
-    (back (expAt u (l .i)) (c .t17 .given) ∙ sought-found placesMax u (start .args .symbol) (l .i) (l .inv) (loop-test .taken) (c .before .if2 .taken))
+    (back (expAt u (l .i)) (c .t18 .given) ∙ sought-found placesMax u (start .args .symbol) (l .i) (l .inv) (loop-test .taken) (c .before .if2 .taken))
 
 add-i : tie.Need-add-i Inv-loop μ-loop
 add-i c = search needs
@@ -78,19 +81,4 @@ returns-3 c =
     (sought-absent placesMax (placesOf (start .args .t1)) (start .args .symbol) (l .i) (l .inv) (c .loop-test .left))
 
 pub exponent-spec : {M : Type 1} → statement M
-exponent-spec =
-    tie.close
-    (tie.spec
-    Inv-loop
-    μ-loop
-    is-formed-requires
-    returns
-    loop-holds
-    element-copy-out-if2
-    mul-t14
-    element-copy-out-t17
-    returns-2
-    add-i
-    loop-less
-    loop-again
-    returns-3)
+exponent-spec = tie.close (tie.spec Inv-loop μ-loop is-formed-requires returns loop-holds mul-if2 element-copy-out-if2 mul-t15 element-copy-out-t18 returns-2 add-i loop-less loop-again returns-3)

@@ -30,6 +30,9 @@ loop-holds c =
     stand-start kind placesMax (start .args .quotient) (placesOf (start .args .t1)) (placesOf (start .args .t2)) namesMax (c .empty-sum .result)
     (c .empty-sum .ensures) (start .pre .0) (start .pre .1)
 
+mul-s : tie.Need-mul-s Inv-loop μ-loop
+mul-s c = search needs
+
 element-copy-out-s : tie.Need-element-copy-out-s Inv-loop μ-loop
 element-copy-out-s c = search needs
 
@@ -38,6 +41,9 @@ mul-e c = search needs
 
 element-copy-out-e : tie.Need-element-copy-out-e Inv-loop μ-loop
 element-copy-out-e c = search needs
+
+mul-t : tie.Need-mul-t Inv-loop μ-loop
+mul-t c = search needs
 
 element-copy-out-t : tie.Need-element-copy-out-t Inv-loop μ-loop
 element-copy-out-t c = search needs
@@ -127,14 +133,14 @@ combined-requires c κs =
       rw (back (expAt b (l .j)) (f .given)) (formed-inside placesMax namesMax b (start .pre .1) (l .j) (if2 .taken)),
     )
 
+joined-to-requires : tie.Need-joined-to-requires Inv-loop μ-loop
+joined-to-requires c κs = search needs
+
 add-i-2 : tie.Need-add-i-2 Inv-loop μ-loop
 add-i-2 c = search needs
 
 add-j-2 : tie.Need-add-j-2 Inv-loop μ-loop
 add-j-2 c = search needs
-
-joined-to-requires : tie.Need-joined-to-requires Inv-loop μ-loop
-joined-to-requires c κs = search needs
 
 loop-less-3 : tie.Need-loop-less-3 Inv-loop μ-loop
 loop-less-3 c = search needs
@@ -180,6 +186,9 @@ loop-again-4 c =
     left-last kind placesMax (g .quotient) a b (l .w) (c .pushed3 .result) (l .i) (l .j) (l .inv) (if1 .taken)
     (subst (λ z. Pushed kind (l .w) (c .pushed3 .result) (symAt a (l .i)) z) (back (expAt a (l .i)) (e .given)) (c .pushed3 .ensures))
     (c .before .if2 .left)
+
+mul-pushed : tie.Need-mul-pushed Inv-loop μ-loop
+mul-pushed c = search needs
 
 element-copy-out-pushed : tie.Need-element-copy-out-pushed Inv-loop μ-loop
 element-copy-out-pushed c = search needs
@@ -238,44 +247,4 @@ returns c =
     stand-end kind placesMax (g .quotient) a b (l .w) (l .w) (l .i) (l .j) (l .inv) (c .before .if1 .left) (c .if5 .left)
 
 pub merged-spec : {M : Type 1} → statement M
-merged-spec =
-    tie.close
-    (tie.spec
-    Inv-loop
-    μ-loop
-    empty-sum-requires
-    loop-holds
-    element-copy-out-s
-    mul-e
-    element-copy-out-e
-    element-copy-out-t
-    mul-f
-    element-copy-out-f
-    pushed-requires
-    add-i
-    loop-less
-    loop-again
-    turned-by-requires
-    pushed-requires-2
-    add-j
-    loop-less-2
-    loop-again-2
-    combined-requires
-    joined-to-requires
-    add-i-2
-    add-j-2
-    loop-less-3
-    loop-again-3
-    pushed-requires-3
-    add-i-3
-    loop-less-4
-    loop-again-4
-    element-copy-out-pushed
-    mul-turned-by
-    element-copy-out-turned-by
-    turned-by-requires-2
-    pushed-requires-4
-    add-j-3
-    loop-less-5
-    loop-again-5
-    returns)
+merged-spec = tie.close (tie.spec Inv-loop μ-loop empty-sum-requires loop-holds mul-s element-copy-out-s mul-e element-copy-out-e mul-t element-copy-out-t mul-f element-copy-out-f pushed-requires add-i loop-less loop-again turned-by-requires pushed-requires-2 add-j loop-less-2 loop-again-2 combined-requires joined-to-requires add-i-2 add-j-2 loop-less-3 loop-again-3 pushed-requires-3 add-i-3 loop-less-4 loop-again-4 mul-pushed element-copy-out-pushed mul-turned-by element-copy-out-turned-by turned-by-requires-2 pushed-requires-4 add-j-3 loop-less-5 loop-again-5 returns)

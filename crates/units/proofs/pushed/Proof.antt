@@ -11,6 +11,9 @@ is-outside-requires c κs = search needs
 add-v : tie.Need-add-v
 add-v c = search needs
 
+mul-v : tie.Need-mul-v
+mul-v c = search needs
+
 element-write-v : tie.Need-element-write-v
 element-write-v c = search needs
 
@@ -33,6 +36,4 @@ returns-2 c l p =
     (sum-full l (a .s) (a .e) (rw p at (c .if1 .left)))
 
 pub pushed-spec : {M : Type 1} → statement M
-pushed-spec =
-    tie.close
-    (tie.spec is-outside-requires add-v element-write-v mul-e element-set-from-e returns returns-2)
+pushed-spec = tie.close (tie.spec is-outside-requires add-v mul-v element-write-v mul-e element-set-from-e returns returns-2)

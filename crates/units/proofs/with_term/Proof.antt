@@ -4,6 +4,9 @@ use borrow.Author.Needs.{needs}
 use Rattle.units.proofs.with_term.Statement.{statement}
 use Rattle.units.proofs.with_term.Tie as tie
 
+mul-v : tie.Need-mul-v
+mul-v c = search needs
+
 element-write-v : tie.Need-element-write-v
 element-write-v c = search needs
 
@@ -20,11 +23,4 @@ returns : tie.Need-returns
 returns c = rw (toZ-ofZ (c .fits .e))
 
 pub with-term-spec : {M : Type 1} → statement M
-with-term-spec =
-    tie.close
-    (tie.spec
-    element-write-v
-    mul-e
-    element-set-from-e
-    add-v
-    returns)
+with-term-spec = tie.close (tie.spec mul-v element-write-v mul-e element-set-from-e add-v returns)
