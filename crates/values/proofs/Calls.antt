@@ -13,7 +13,7 @@ use Rattle.refusals.specs.declared.Verdict.the-variants.{Passed, Refused}
 use Rattle.pages.proofs.Bytes.{and-false}
 use Rattle.units.specs.Unit.{placesMax}
 use Rattle.units.specs.Calls.{unitOf}
-use Rattle.values.specs.Value.{noneCount, termBytes, termsAt, isNone, isSome, valueVerdict, unitIn, valueIn}
+use Rattle.values.specs.Value.{noneCount, termBytes, termsAt, isNone, isSome, readable, valueVerdict, unitIn, valueIn}
 use Rattle.values.specs.declared.Value.{Value}
 
 -- no unit, with a verdict
@@ -22,7 +22,7 @@ noneWith v = record { verdict = v; unit = record { some = false; unit = unitOf [
 
 module _ (bytes : List ℕ) where
   neither : isNone bytes ≡ false → isSome bytes ≡ false → noneWith (Refused BadUnit) ≡ valueIn bytes
-  unfolding valueVerdict unitIn
+  unfolding valueVerdict readable unitIn
   neither h k = rw (h, k)
 
   pub read-nothing : length bytes < 1 → noneWith (Refused BadUnit) ≡ valueIn bytes
@@ -34,7 +34,7 @@ module _ (bytes : List ℕ) where
       not-none = rw (← e, ne-eqb n noneCount (λ q. omega arith)) (and-false (eqb (length bytes) 1))
 
       pub read-some : length bytes ≡ 1 + termBytes * n → _≡_ {A = Value} (record { verdict = Passed; unit = record { some = true; unit = unitOf (termsAt bytes n 1) } }) (valueIn bytes)
-      unfolding valueVerdict unitIn
+      unfolding valueVerdict readable unitIn
       read-some l =
           let s : isSome bytes ≡ true = rw (le-leb 1 (length bytes) h, ← e, le-leb n placesMax few, eq-eqb (length bytes) (1 + termBytes * n) l) in
           rw (not-none, s, e)
@@ -53,7 +53,7 @@ module _ (bytes : List ℕ) where
       read-long l = neither (rw (ne-eqb (length bytes) 1 l)) not-some
 
       pub read-none : n ≡ noneCount → length bytes ≡ 1 → noneWith Passed ≡ valueIn bytes
-      unfolding valueVerdict unitIn
+      unfolding valueVerdict readable unitIn
       read-none o l =
           let s : isNone bytes ≡ true = rw (eq-eqb (length bytes) 1 l, ← e, eq-eqb n noneCount o) in
           rw (not-some, s)

@@ -3,3 +3,4 @@ pub mod Sixteen
 pub mod Terms
 pub mod Calls
 pub mod Back
+pub mod Used

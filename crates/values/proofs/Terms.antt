@@ -1,7 +1,7 @@
 -- The terms of a unit read from bytes and written to them, one after another. Assumes nothing.
 use mathlib.Core.Path.{_≡_, refl, sym, ap, _∙_}
 use mathlib.Core.List.{List, [], _∷_, _++_, append-assoc, append-nil}
-use Prim.Native.Nat.{ℕ, suc, _+_, _-_, _*_, _≤_, _<_}
+use Prim.Native.Nat.{ℕ, suc, _+_, _-_, _*_, _%_, _≤_, _<_}
 use native.Mathlib.Omega.{arith}
 use lib.ListN.{length, getD, replicate, length-append, length-replicate}
 use Rattle.pages.specs.Bytes.{wordAt, bytesOf, put}
@@ -67,7 +67,7 @@ length-bytes [] = refl
 length-bytes (x ∷ xs) = let z = length-bytes xs in omega arith
 
 abbrev pub entryOf : Unit → ℕ → List ℕ
-entryOf u i = symAt (placesOf u) i ∷ bytesOf (rawOf (expAt (placesOf u) i))
+entryOf u i = symAt (placesOf u) i % 256 ∷ bytesOf (rawOf (expAt (placesOf u) i))
 
 pub record Writing (page : List ℕ) (u : Unit) (out : List ℕ) (at i : ℕ) : Type 0 where
   pub text : List ℕ

@@ -1,4 +1,5 @@
 // The unit of a value node, in bytes (document 01, "Formulas and sheets").
+use names::Symbol;
 use pages::index;
 use refusals::Refusal;
 use refusals::Verdict;
@@ -15,7 +16,7 @@ ghost use Rattle.pages.specs.Bytes.{put};
 ghost use Rattle.pages.specs.Pad.{pad};
 ghost use Rattle.units.specs.Unit.{placesMax};
 ghost use Rattle.units.specs.Calls.{termsOf, unitOf};
-ghost use Rattle.values.specs.Value.{termBytes, unitMax, signedOf, termsAt, valueIn, rawOf, bytesIn, unitBytes};
+ghost use Rattle.values.specs.Value.{termBytes, unitMax, signedOf, termsAt, valueIn, saidIn, symbolsUsed, rawOf, bytesIn, unitBytes};
 
 // The count that says that there is no unit.
 pub const NONE_COUNT: usize = 255;
@@ -56,7 +57,8 @@ fn unit_at(bytes: &[u8], n: usize) -> Unit
     let mut at: usize = 1;
     let mut i: usize = 0;
     while i < n {
-        u = with_term(u, bytes[at], signed(bytes[at + 1], bytes[at + 2]));
+        let symbol = index(bytes[at]) as Symbol;
+        u = with_term(u, symbol, signed(bytes[at + 1], bytes[at + 2]));
         at += TERM_BYTES;
         i += 1;
     }
@@ -104,6 +106,40 @@ pub fn read_value(bytes: &[u8]) -> Value
     none(Verdict::Passed)
 }
 
+// How many symbols the bytes say that there are, all there or not.
+fn symbols_said(bytes: &[u8]) -> usize
+    ensures { λ r. ⌜ (r ≡ saidIn (now (bytes .entry))) × (r < 256) ⌝ }
+{
+    if bytes.len() < 1 {
+        return 0;
+    }
+    let n = index(bytes[0]);
+    if n == NONE_COUNT {
+        return 0;
+    }
+    n
+}
+
+// Whether every symbol that stands in the bytes is in use, where n names are in use, whatever else is wrong with them. For crates above (their
+// entry calls answer 3).
+pub fn are_used(bytes: &[u8], n: usize) -> bool
+    ensures { λ r. ⌜ r ≡ symbolsUsed n (now (bytes .entry)) ⌝ }
+{
+    let said = symbols_said(bytes);
+    let mut i: usize = 0;
+    while i < said {
+        let at = 1 + TERM_BYTES * i;
+        if at >= bytes.len() {
+            return true;
+        }
+        if !names::is_used(n, index(bytes[at])) {
+            return false;
+        }
+        i += 1;
+    }
+    true
+}
+
 // A signed number as sixteen bits.
 pub fn raw(e: i16) -> usize
     ensures { λ r. ⌜ (r ≡ rawOf e) × (r < 65536) ⌝ }
@@ -124,7 +160,8 @@ fn write_terms(out: &mut [u8], u: Unit)
     let mut i: usize = 0;
     while i < n {
         let word = pages::count_bytes(raw(u.exponents[i]));
-        let entry = [u.symbols[i], word[0], word[1]];
+        let symbol = (u.symbols[i] % 256) as u8;
+        let entry = [symbol, word[0], word[1]];
         pages::put_bytes(out, at, &entry);
         at += TERM_BYTES;
         i += 1;

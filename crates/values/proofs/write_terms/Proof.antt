@@ -35,14 +35,20 @@ raw-requires c κs = search needs
 count-bytes-requires : tie.Need-count-bytes-requires Inv-loop μ-loop
 count-bytes-requires c κs = c .raw .ensures .1
 
-element-copy-out-t18 : tie.Need-element-copy-out-t18 Inv-loop μ-loop
-element-copy-out-t18 c = search needs
+mul-symbol : tie.Need-mul-symbol Inv-loop μ-loop
+mul-symbol c = search needs
 
-array-read-t21 : tie.Need-array-read-t21 Inv-loop μ-loop
-array-read-t21 c = search needs
+element-copy-out-symbol : tie.Need-element-copy-out-symbol Inv-loop μ-loop
+element-copy-out-symbol c = search needs
 
-array-read-t24 : tie.Need-array-read-t24 Inv-loop μ-loop
-array-read-t24 c = search needs
+cast-symbol : tie.Need-cast-symbol Inv-loop μ-loop
+cast-symbol c = search needs
+
+array-read-t23 : tie.Need-array-read-t23 Inv-loop μ-loop
+array-read-t23 c = search needs
+
+array-read-t26 : tie.Need-array-read-t26 Inv-loop μ-loop
+array-read-t26 c = search needs
 
 slice-aggregate-put-bytes : tie.Need-slice-aggregate-put-bytes Inv-loop μ-loop
 slice-aggregate-put-bytes c = search needs
@@ -92,24 +98,4 @@ returns c =
     let l = c .before .loop in writing-end (now (start .args .out)) (start .args .t2) (l .out) (l .at) (l .i) (l .inv) (c .loop-test .left)
 
 pub write-terms-spec : {M : Type 1} → statement M
-write-terms-spec =
-    tie.close
-    (tie.spec
-    Inv-loop
-    μ-loop
-    loop-holds
-    mul-raw
-    element-copy-out-raw
-    raw-requires
-    count-bytes-requires
-    element-copy-out-t18
-    array-read-t21
-    array-read-t24
-    slice-aggregate-put-bytes
-    put-bytes-requires
-    add-at
-    add-i
-    loop-less
-    loop-again
-    same-length
-    returns)
+write-terms-spec = tie.close (tie.spec Inv-loop μ-loop loop-holds mul-raw element-copy-out-raw raw-requires count-bytes-requires mul-symbol element-copy-out-symbol cast-symbol array-read-t23 array-read-t26 slice-aggregate-put-bytes put-bytes-requires add-at add-i loop-less loop-again same-length returns)
