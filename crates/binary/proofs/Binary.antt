@@ -17,18 +17,21 @@ use Rattle.matching.specs.declared.Checked.the-variants.{Known, Unknown, Functi
 use Rattle.matching.specs.Matching.{inUse}
 use Rattle.matching.proofs.Matching.{known-in-use}
 use Rattle.operators.specs.Operators.{fits}
-use Rattle.operators.specs.Outcome.{noError, outcome, passes, plainBinary}
+use Rattle.operators.specs.Outcome.{noError, outcome, isKnown, passes, plainBinary}
 use Rattle.operators.specs.declared.Outcome.{Outcome}
-use Rattle.members.specs.Members.{sizeOf, member}
+use Rattle.members.specs.Members.{sizeOf, member, Concluded, concluded}
+use Rattle.members.specs.declared.Conclusion.{Conclusion}
 use Rattle.members.specs.Trials.{foldTo, Tried, joined, settled}
 use Rattle.members.specs.Leaves.{leafOf}
 use Rattle.members.proofs.Members.{member-lower, member-low, member-used}
 use Rattle.members.proofs.Leaves.{leaf-used, leaf-plain}
-use Rattle.binary.specs.Binary.{familyIn, either, rowTried, rowsTried, anyRule, binaryRule}
+use Rattle.binary.specs.Binary.{familyIn, either, rowTried, rowsTried, outcomeOf, anyRule, binaryRule}
 use Rattle.binary.specs.Binary.{binaryBy, binaryKnown, binaryAny, checkBinary}
 use Rattle.binary.proofs.Rule.{never, Says, plain-says, says-passes, says-joined}
 use Rattle.binary.proofs.Trials.{any-says, one-at-most}
 use Rattle.binary.proofs.Families.{standing, shared, standing-plain}
+use Rattle.binary.proofs.Tallies.{settled-alone, settle-passes, settle-unknown}
+use Rattle.binary.specs.Tally.{tallyOf, settleTally}
 
 -- ---- rules that answer every pair of members alike
 
@@ -52,7 +55,7 @@ module _ (page : List ℕ) (rule other : ℕ → ℕ → Outcome) (l r : ℕ)
 
   any-same : anyRule page rule l r ≡ anyRule page other l r
   unfolding anyRule
-  any-same = ap settled (rows-same (sizeOf page l) (λ i k. k))
+  any-same = ap (λ (q : Tried). outcomeOf (settled page q .conclusion)) (rows-same (sizeOf page l) (λ i k. k))
 
 neither : (a b : Bool) → (a || b) ≡ false → (a ≡ false) × (b ≡ false)
 neither true b h = absurd (never h)
@@ -160,6 +163,30 @@ module _ (page : List ℕ) (form : Formed page) (op : ℕ) (clash : Bool) where
         one-at-most page (binaryKnown page op clash) l r op clash (λ i. standing page (member page l i))
         (λ j. standing page (member page r j))
         (λ i j h k. known-says (member page l i) (member page r j) (member-used page form l u i h) (member-used page form r v j k))
+
+    abbrev trials : Tried
+    trials = rowsTried page (binaryKnown page op clash) l r (sizeOf page l)
+
+    alone : settled page trials ≡ concluded (Conclusion.Is (settleTally (tallyOf trials))) page
+    alone = settled-alone page (trials .results) (trials .failed) one-result
+
+    -- which is what src/ keeps
+    pub any-tally : settleTally (tallyOf trials) ≡ binaryAny page op clash l r
+    unfolding binaryAny anyRule outcomeOf
+    any-tally = sym (ap (λ (z : Concluded). outcomeOf (z .conclusion)) alone)
+
+    -- and no union is made: the store stays as it is, and nothing is refused
+    pub any-settled : settled page trials ≡ concluded (Conclusion.Is (binaryAny page op clash l r)) page
+    any-settled = alone ∙ ap (λ (o : Outcome). concluded (Conclusion.Is o) page) any-tally
+
+    -- a check of members passes exactly where it answers a type
+    pub any-passes : passes (binaryAny page op clash l r) ≡ isKnown (binaryAny page op clash l r .checked)
+    any-passes = rw any-tally at (settle-passes (tallyOf trials))
+
+    -- and else Unknown
+    pub any-unknown : passes (binaryAny page op clash l r) ≡ false → binaryAny page op clash l r .checked ≡ Unknown
+    any-unknown h =
+        rw any-tally at (settle-unknown (tallyOf trials) (ap (λ (o : Outcome). isKnown (o .checked)) any-tally ∙ sym any-passes ∙ h))
 
 -- ---- checked types
 

@@ -1,31 +1,33 @@
--- What a binary check answers: where it passes one of five types, never a union; and a number below 256 in any case. Assumes nothing.
+-- What a binary check answers: where it passes one of five types, never a union; and in any case a number below 256, and a type in use.
+-- Assumes nothing.
 use mathlib.Core.Path.{_≡_, refl, ap, sym, _∙_}
 use mathlib.Core.Bool.{Bool, true, false, _&&_, _||_, not, cond}
-use mathlib.Core.List.{List, [], _∷_}
+use mathlib.Core.List.{List}
 use Prim.Native.Nat.{ℕ, suc, _-_, _%_, _<_}
 use native.Mathlib.Omega.{arith}
 use borrow.Author.Tests.{ltb-true, ltb-false, lt-leb, ne-eqb}
 use lib.Dec.{eqb, ltb, leb}
-use lib.ListN.{length}
 use Rattle.pages.specs.Bytes.{within}
 use Rattle.pages.specs.Quant.{allTo}
-use Rattle.pages.proofs.Quant.{all-at}
+use Rattle.pages.proofs.Quant.{and-true, all-at}
 use Rattle.kinds.specs.Kinds.{isUnion}
 use Rattle.types.specs.Store.{Formed}
 use Rattle.types.specs.Types.{typesIn, kindOf}
 use Rattle.types.proofs.Types.{kind-fixed}
-use Rattle.matching.specs.declared.Checked.the-variants.{Known, Unknown}
+use Rattle.matching.specs.Matching.{inUse}
+use Rattle.matching.specs.declared.Checked.{Checked}
+use Rattle.matching.specs.declared.Checked.the-variants.{Known, Unknown, Function}
+use Rattle.matching.proofs.Matching.{known-in-use, in-use-known}
 use Rattle.operators.specs.Operators.{notBinary, equality, logic, nothing, operands, truth, resultRule, classOf}
 use Rattle.operators.specs.Operators.{int, uint, float, bool, noFamily, familyOf, isNumber, takes, gives, suits, fits}
-use Rattle.operators.specs.Outcome.{noError, oneError, noMember, outcome, numberOf, passes, misfit, plainBinary}
+use Rattle.operators.specs.Outcome.{noError, outcome, numberOf, passes, misfit, plainBinary}
 use Rattle.operators.specs.declared.Outcome.{Outcome}
-use Rattle.members.specs.Members.{sizeOf}
-use Rattle.members.specs.Trials.{Failures, errorsOf, tried, only, settled}
 use Rattle.members.specs.Leaves.{leafOf}
-use Rattle.binary.specs.Binary.{either, rowsTried, anyRule, binaryKnown, binaryAny}
+use Rattle.members.proofs.Kept.{unknown-used}
+use Rattle.binary.specs.Binary.{familyIn, either, binaryKnown, binaryAny, besideFunction, checkBinary}
 use Rattle.binary.proofs.Rule.{never, fits-takes}
 use Rattle.binary.proofs.Families.{standing}
-use Rattle.binary.proofs.Binary.{known-eq, known-says, known-passes}
+use Rattle.binary.proofs.Binary.{known-eq, known-says, known-passes, any-unknown}
 
 -- ---- families
 
@@ -142,25 +144,10 @@ plain-small op clash k g =
         go true = ltb-true (familyOf k) 256 (family-small k)
         go false = omega arith
 
--- trials that do not pass have no type
-settled-unknown : (ts : List ℕ) (f : Failures) → passes (settled (tried ts f)) ≡ false → settled (tried ts f) .checked ≡ Unknown
-unfolding settled errorsOf passes
-settled-unknown ts f h = go (eqb (f .count) 0) refl
-  where
-    alone : (ts : List ℕ) → passes (outcome (only ts) (cond (eqb (length ts) 0) (oneError noMember) noError)) ≡ false → only ts ≡ Unknown
-    alone [] k = refl
-    alone (t ∷ []) k = absurd (never k)
-    alone (t ∷ u ∷ ts) k = refl
-
-    go : (b : Bool) → eqb (f .count) 0 ≡ b → settled (tried ts f) .checked ≡ Unknown
-    go true e = rw e (alone ts (rw e at h))
-    go false e = rw e refl
-
 -- the number that a check of members answers
 module _ (page : List ℕ) (form : Formed page) (op : ℕ) (clash : Bool) (l r : ℕ) (u : l < typesIn page) (v : r < typesIn page)
     (e : either page l r ≡ true) where
   pub any-small : numberOf (binaryAny page op clash l r .checked) < 256
-  unfolding binaryAny anyRule
   any-small = go (passes (binaryAny page op clash l r)) refl
     where
       is-known : binaryKnown page op clash l r ≡ binaryAny page op clash l r
@@ -170,6 +157,54 @@ module _ (page : List ℕ) (form : Formed page) (op : ℕ) (clash : Bool) (l r :
       go true h =
           let five = answer-five page form op clash l r u v (ap passes is-known ∙ h) in
           omega (arith, five-low (numberOf (binaryAny page op clash l r .checked)) (rw is-known at five))
+      go false h = rw (any-unknown page form op clash l r u v h) (omega arith)
+
+-- ---- types in use
+
+-- what a check answers is in use
+abbrev Used : List ℕ → Outcome → Type 0
+Used page o = inUse page (o .checked) ≡ true
+
+choice : (page : List ℕ) (b : Bool) (o p : Outcome) → (b ≡ true → Used page o) → Used page p → Used page (cond b o p)
+choice page true o p h k = h refl
+choice page false o p h k = k
+
+plain-used : (page : List ℕ) (op : ℕ) (clash : Bool) (k g : ℕ) → Used page (plainBinary op clash (familyOf k) g)
+unfolding plainBinary misfit suits
+plain-used page op clash k g =
+    choice page (fits op clash (familyOf k) g) _ _ (λ e. given (fits-takes op clash (familyOf k) g e))
+    (choice page (eqb (classOf op) notBinary) _ _ (λ e. unknown-used page)
+    (choice page (eqb (classOf op) logic) _ _ (λ e. in-use-known page bool (omega arith))
+    (choice page (suits op (familyOf k) g) _ _ (λ e. given (and-true (eqb (familyOf k) g) (takes op (familyOf k)) e .1))
+    (choice page (eqb (classOf op) equality) _ _ (λ e. in-use-known page bool (omega arith)) (unknown-used page)))))
+  where
+    given : takes op (familyOf k) ≡ true → inUse page (Known (gives op (familyOf k))) ≡ true
+    given h = in-use-known page (gives op (familyOf k)) (omega (arith, five-low (gives op (familyOf k)) (gives-answer op k h)))
+
+module _ (page : List ℕ) (form : Formed page) (op : ℕ) (clash : Bool) where
+  known-used : (l r : ℕ) → l < typesIn page → r < typesIn page → Used page (binaryKnown page op clash l r)
+  known-used l r u v = go (passes (binaryKnown page op clash l r)) refl
+    where
+      go : (b : Bool) → passes (binaryKnown page op clash l r) ≡ b → Used page (binaryKnown page op clash l r)
+      go true h =
+          let is = answer-known page form op clash l r u v h in
+          let five = rw is at (answer-five page form op clash l r u v h) in
+          rw is (in-use-known page (gives op (standing page l)) (omega (arith, five-low (gives op (standing page l)) five)))
       go false h =
-          let q = rowsTried page (binaryKnown page op clash) l r (sizeOf page l) in
-          rw (settled-unknown (q .results) (q .failed) h) (omega arith)
+          let is = known-eq page op clash form l r u v in
+          rw is
+          (choice page (either page l r) (binaryAny page op clash l r) (plainBinary op clash (familyIn page l) (familyIn page r))
+          (λ e. rw (any-unknown page form op clash l r u v (sym (ap passes (is ∙ rw e refl)) ∙ h)) (unknown-used page))
+          (plain-used page op clash (kindOf page l) (familyIn page r)))
+
+  pub binary-used : (x y : Checked) → inUse page x ≡ true → inUse page y ≡ true → Used page (checkBinary page op clash x y)
+  unfolding checkBinary besideFunction familyOf
+  binary-used Unknown y u v = unknown-used page
+  binary-used (Known l) Unknown u v = unknown-used page
+  binary-used (Known l) (Known r) u v = known-used l r (known-in-use page l u) (known-in-use page r v)
+  binary-used (Known l) (Function g) u v =
+      choice page (isUnion (kindOf page l)) _ _ (λ e. unknown-used page) (plain-used page op clash (kindOf page l) noFamily)
+  binary-used (Function f) Unknown u v = unknown-used page
+  binary-used (Function f) (Known r) u v =
+      choice page (isUnion (kindOf page r)) _ _ (λ e. unknown-used page) (plain-used page op clash noFamily (familyIn page r))
+  binary-used (Function f) (Function g) u v = plain-used page op clash noFamily noFamily

@@ -1,6 +1,6 @@
 -- The trials as src/ keeps them: one more trial, and what they come to. Assumes nothing.
 use mathlib.Core.Path.{_≡_, refl, ap, sym, _∙_}
-use mathlib.Core.Bool.{Bool, true, false, cond}
+use mathlib.Core.Bool.{Bool, true, false, _&&_, cond}
 use mathlib.Core.List.{List, [], _∷_, _++_}
 use Prim.Native.Nat.{ℕ, suc, _+_, _-_, _≤_}
 use native.Mathlib.Omega.{arith}
@@ -9,10 +9,11 @@ use borrow.Author.Tests.{eq-eqb, ne-eqb, eqb-true}
 use lib.Dec.{eqb}
 use lib.ListN.{length}
 use Rattle.matching.specs.declared.Checked.the-variants.{Known, Unknown}
-use Rattle.operators.specs.Outcome.{noError, oneError, outcome, noMember, numberOf, passes}
+use Rattle.operators.specs.Outcome.{noError, oneError, someFail, outcome, noMember, numberOf, isKnown, passes}
 use Rattle.operators.specs.declared.Outcome.{Outcome}
-use Rattle.members.specs.Members.{has, merged}
-use Rattle.members.specs.Trials.{Failures, failedAt, errorsOf, Tried, tried, joined, only, settled}
+use Rattle.members.specs.Members.{has, merged, unionOf, concluded}
+use Rattle.members.specs.declared.Conclusion.{Conclusion}
+use Rattle.members.specs.Trials.{Failures, failedAt, errorsOf, Tried, tried, joined, settled}
 use Rattle.binary.specs.declared.Tally.{Tally}
 use Rattle.binary.specs.Tally.{firstIn, tallyOf, settleTally}
 
@@ -62,18 +63,45 @@ module _ (x y : ℕ) (o : Outcome) (w : Tally) (q : Tried) (e : w ≡ tallyOf q)
 
 -- ---- what they come to
 
--- the first result is the only one, or some trial fails
-pub settled-so : (ts : List ℕ) (f : Failures) → (f .count ≡ 0 → length ts ≤ 1) → settleTally (tallyOf (tried ts f)) ≡ settled (tried ts f)
-unfolding settleTally settled errorsOf
-settled-so ts f one = go (eqb (f .count) 0) refl
+-- where the first result is the only one, or some trial fails, nothing enters the store
+pub settled-alone : (page ts : List ℕ) (f : Failures) → (f .count ≡ 0 → length ts ≤ 1)
+    → settled page (tried ts f) ≡ concluded (Conclusion.Is (settleTally (tallyOf (tried ts f)))) page
+unfolding settleTally settled errorsOf unionOf
+settled-alone page ts f one = go ts (eqb (f .count) 0) refl (λ e. one (eqb-true (f .count) 0 e))
   where
-    alone : (ts : List ℕ) → length ts ≤ 1
-        → cond (eqb (firstIn ts) 0) (outcome Unknown (oneError noMember)) (outcome (Known (firstIn ts - 1)) noError)
-        ≡ outcome (only ts) (cond (eqb (length ts) 0) (oneError noMember) noError)
-    alone [] h = refl
-    alone (t ∷ []) h = let back : suc t - 1 ≡ t = omega arith in rw (ne-eqb (suc t) 0 (λ z. omega arith), back) refl
-    alone (t ∷ u ∷ ts) h = absurd (omega arith)
+    go : (ts : List ℕ) (b : Bool) → eqb (f .count) 0 ≡ b → (eqb (f .count) 0 ≡ true → length ts ≤ 1)
+        → settled page (tried ts f) ≡ concluded (Conclusion.Is (settleTally (tallyOf (tried ts f)))) page
+    go ts false e h = rw e refl
+    go [] true e h = rw e refl
+    go (t ∷ []) true e h = let back : suc t - 1 ≡ t = omega arith in rw (e, ne-eqb (suc t) 0 (λ z. omega arith), back) refl
+    go (t ∷ u ∷ ts) true e h = absurd (omega (arith, h e))
 
-    go : (b : Bool) → eqb (f .count) 0 ≡ b → settleTally (tallyOf (tried ts f)) ≡ settled (tried ts f)
-    go true e = rw e (alone ts (one (eqb-true (f .count) 0 e)))
-    go false e = rw e refl
+-- trials pass exactly where they answer a type
+pub settle-passes : (w : Tally) → passes (settleTally w) ≡ isKnown (settleTally w .checked)
+unfolding settleTally passes
+settle-passes w = go (eqb (w .failing) 0) (eqb (w .seen) 0)
+  where
+    both : Outcome → Type 0
+    both o = (isKnown (o .checked) && eqb (o .errors .count) 0) ≡ isKnown (o .checked)
+
+    go : (a b : Bool)
+        → both (cond a (cond b (outcome Unknown (oneError noMember)) (outcome (Known (w .seen - 1)) noError))
+        (outcome Unknown (someFail (w .failing) (w .left) (w .right))))
+    go true true = refl
+    go true false = refl
+    go false b = refl
+
+-- and where they answer no type, Unknown
+pub settle-unknown : (w : Tally) → isKnown (settleTally w .checked) ≡ false → settleTally w .checked ≡ Unknown
+unfolding settleTally
+settle-unknown w = go (eqb (w .failing) 0) (eqb (w .seen) 0)
+  where
+    outcomes : Bool → Bool → Outcome
+    outcomes a b =
+        cond a (cond b (outcome Unknown (oneError noMember)) (outcome (Known (w .seen - 1)) noError))
+        (outcome Unknown (someFail (w .failing) (w .left) (w .right)))
+
+    go : (a b : Bool) → isKnown (outcomes a b .checked) ≡ false → outcomes a b .checked ≡ Unknown
+    go true true h = refl
+    go true false h = absurd (let z : _≡_ {A = ℕ} 0 1 = cc in omega arith)
+    go false b h = refl

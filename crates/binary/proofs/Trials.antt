@@ -9,14 +9,13 @@ use native.Mathlib.Nat.{not-suc-le-zero, le-of-suc-le-suc, eq-or-lt-of-le}
 use borrow.Author.Tests.{eq-eqb, eqb-true}
 use lib.Dec.{eqb}
 use lib.ListN.{length}
-use Rattle.matching.specs.declared.Checked.the-variants.{Known, Unknown}
+use Rattle.matching.specs.declared.Checked.the-variants.{Known}
 use Rattle.operators.specs.Operators.{noFamily, gives, fits}
 use Rattle.operators.specs.Outcome.{noError, outcome, passes}
-use Rattle.operators.specs.declared.Errors.{Errors}
 use Rattle.operators.specs.declared.Outcome.{Outcome}
-use Rattle.members.specs.Members.{sizeOf, member, has, merged}
-use Rattle.members.specs.Trials.{foldTo, noFailure, failedAt, errorsOf, Tried, tried, joined, only, settled}
-use Rattle.binary.specs.Binary.{rowTried, rowsTried, anyRule}
+use Rattle.members.specs.Members.{sizeOf, member, has, merged, unionOf}
+use Rattle.members.specs.Trials.{foldTo, noFailure, failedAt, errorsOf, Tried, tried, joined, settled}
+use Rattle.binary.specs.Binary.{rowTried, rowsTried, outcomeOf, anyRule}
 use Rattle.binary.proofs.Rule.{never, Says, fits-same, fits-some}
 
 -- ---- trials that all answer type t
@@ -36,27 +35,24 @@ module _ (t x y : ℕ) where
   unfolding joined passes merged has
   join-again = rw (eq-eqb t t refl) refl
 
-settle-one : (t : ℕ) → settled (one t) ≡ outcome (Known t) noError
-unfolding settled errorsOf
-settle-one t = refl
+-- what trials come to
+abbrev comesTo : List ℕ → Tried → Outcome
+comesTo page q = outcomeOf (settled page q .conclusion)
+
+settle-one : (page : List ℕ) (t : ℕ) → comesTo page (one t) ≡ outcome (Known t) noError
+unfolding outcomeOf settled errorsOf unionOf
+settle-one page t = refl
 
 -- trials that pass: there is a result, and no failure
-some-result : (ts : List ℕ) (e : Errors) → passes (outcome (only ts) e) ≡ true → 0 < length ts
-unfolding passes
-some-result [] e h = absurd (never (sym h))
-some-result (t ∷ ts) e h = omega arith
-
-unknown-fails : (e : Errors) → passes (outcome Unknown e) ≡ true → ⊥
-unfolding passes
-unknown-fails e h = never (sym h)
-
-settled-passes : (q : Tried) → passes (settled q) ≡ true → (q .failed .count ≡ 0) × (0 < length (q .results))
-unfolding settled
-settled-passes q h = go (eqb (q .failed .count) 0) refl
+settled-passes : (page : List ℕ) (q : Tried) → passes (comesTo page q) ≡ true → (q .failed .count ≡ 0) × (0 < length (q .results))
+unfolding outcomeOf settled errorsOf passes
+settled-passes page q = go (q .results) (eqb (q .failed .count) 0) refl
   where
-    go : (b : Bool) → eqb (q .failed .count) 0 ≡ b → (q .failed .count ≡ 0) × (0 < length (q .results))
-    go true e = (eqb-true (q .failed .count) 0 e, some-result (q .results) (errorsOf (q .failed) (length (q .results))) (rw e at h))
-    go false e = absurd (unknown-fails (errorsOf (q .failed) (length (q .results))) (rw e at h))
+    go : (ts : List ℕ) (b : Bool) → eqb (q .failed .count) 0 ≡ b → passes (comesTo page (tried ts (q .failed))) ≡ true
+        → (q .failed .count ≡ 0) × (0 < length ts)
+    go ts false e h = absurd (never (sym (rw e at h)))
+    go [] true e h = absurd (never (sym (rw e at h)))
+    go (t ∷ ts) true e h = (eqb-true (q .failed .count) 0 e, omega arith)
 
 -- a trial after which there is no failure
 join-passes : (x y : ℕ) (o : Outcome) (q : Tried) → joined x y o q .failed .count ≡ 0 → (q .failed .count ≡ 0) × (passes o ≡ true)
@@ -190,21 +186,21 @@ module _ (page : List ℕ) (rule : ℕ → ℕ → Outcome) (l r op : ℕ) (clas
     unfolding anyRule
     any-says = record { passing = passed; failing = failed }
       where
-        passed : fits op clash F G ≡ true → settled all ≡ outcome (Known (gives op F)) noError
+        passed : fits op clash F G ≡ true → comesTo page all ≡ outcome (Known (gives op F)) noError
         passed h =
             let a = fits-some op clash F G h in
             let e = fits-same op clash F G h in
             let m = left .some a in
             let n = right .some (λ z. a (e ∙ z)) in
-            ap settled (all-one F (λ i j p q. rw (m .1 i p, n .1 j q) h) (m .1) (m .0) (n .0)) ∙ settle-one (gives op F)
+            ap (comesTo page) (all-one F (λ i j p q. rw (m .1 i p, n .1 j q) h) (m .1) (m .0) (n .0)) ∙ settle-one page (gives op F)
 
-        failed : fits op clash F G ≡ false → passes (settled all) ≡ false
-        failed h = go (passes (settled all)) refl
+        failed : fits op clash F G ≡ false → passes (comesTo page all) ≡ false
+        failed h = go (passes (comesTo page all)) refl
           where
-            go : (b : Bool) → passes (settled all) ≡ b → passes (settled all) ≡ false
+            go : (b : Bool) → passes (comesTo page all) ≡ b → passes (comesTo page all) ≡ false
             go false e = e
             go true e =
-                let p = settled-passes all e in
+                let p = settled-passes page all e in
                 let z = sizes-some (p .1) in
                 let x = left .same (z .0) (left-same (p .0) (z .1)) in
                 let y = right .same (z .1) (right-same (p .0) (z .0)) in

@@ -15,11 +15,10 @@ use Rattle.members.specs.Trials.{foldTo, noFailure, Tried, tried, joined}
 use Rattle.members.specs.Leaves.{leafOf, Leaves}
 use Rattle.members.proofs.Members.{member-used}
 use Rattle.members.proofs.Leaves.{leaf-low}
-use Rattle.binary.specs.Binary.{either, rowTried, rowsTried, anyRule, binaryKnown, binaryAny}
+use Rattle.binary.specs.Binary.{either, rowTried, rowsTried, binaryKnown, binaryAny}
 use Rattle.binary.specs.Tally.{tallyOf, settleTally}
 use Rattle.binary.specs.declared.Tally.{Tally}
-use Rattle.binary.proofs.Binary.{pair-lower, stand-in, one-result}
-use Rattle.binary.proofs.Tallies.{settled-so}
+use Rattle.binary.proofs.Binary.{pair-lower, stand-in, any-tally}
 
 module _ (page : List ℕ) (op : ℕ) (clash : Bool) (l r : ℕ) where
   -- the trials of the first m members of l, and of the next one with the first n of r
@@ -106,8 +105,5 @@ module _ (page : List ℕ) (form : Formed page) (op : ℕ) (clash : Bool) (l r :
 
   pub rows-ended : (w : Tally) (m : ℕ) (o : Outcome) → m ≡ sizeOf page l → w ≡ tallyOf (rows page op clash l r m) → o ≡ settleTally w
       → o ≡ binaryAny page op clash l r
-  unfolding binaryAny anyRule
   rows-ended w m o e h k =
-      let q = rows page op clash l r (sizeOf page l) in
-      k ∙ ap settleTally h ∙ ap (λ (m : ℕ). settleTally (tallyOf (rows page op clash l r m))) e
-      ∙ settled-so (q .results) (q .failed) (one-result page form op clash l r u v)
+      k ∙ ap settleTally h ∙ ap (λ (m : ℕ). settleTally (tallyOf (rows page op clash l r m))) e ∙ any-tally page form op clash l r u v

@@ -12,6 +12,7 @@ use Rattle.operators.specs.Operators.{noFamily, familyOf}
 use Rattle.operators.specs.Outcome.{noError, oneError, outcome, plainBinary, noMember}
 use Rattle.operators.specs.declared.Outcome.{Outcome}
 use Rattle.members.specs.Members.{sizeOf, member}
+use Rattle.members.specs.declared.Conclusion.{Conclusion}
 use Rattle.members.specs.Trials.{foldTo, noFailure, Tried, tried, joined, settled}
 
 -- the family of type t
@@ -33,8 +34,16 @@ rowTried page rule l r i n q =
 unfoldable pub rowsTried : List ℕ → (ℕ → ℕ → Outcome) → ℕ → ℕ → ℕ → Tried
 rowsTried page rule l r m = foldTo m (λ i q. rowTried page rule l r i (sizeOf page r) q) (tried [] noFailure)
 
+-- the outcome of a check; one that is refused has none
+unfoldable pub outcomeOf : Conclusion → Outcome
+outcomeOf (Conclusion.Is o) = o
+outcomeOf (Conclusion.Refused r) = outcome Unknown noError
+
+-- what the trials come to. Of several results the Rust makes a union, which would enter the store; in a binary check there is at most
+-- one where no pair fails, and with a failure none is looked at, so that the store stays as it is and nothing is refused
+-- (`any-settled` in proofs/Binary.antt)
 unfoldable pub anyRule : List ℕ → (ℕ → ℕ → Outcome) → ℕ → ℕ → Outcome
-anyRule page rule l r = settled (rowsTried page rule l r (sizeOf page l))
+anyRule page rule l r = outcomeOf (settled page (rowsTried page rule l r (sizeOf page l)) .conclusion)
 
 -- ---- `check_binary_operator`: the operator's own rule, where neither type is a union
 

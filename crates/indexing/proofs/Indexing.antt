@@ -5,7 +5,6 @@ use mathlib.Core.List.{List}
 use Prim.Native.Nat.{ℕ, _<_}
 use native.Mathlib.Omega.{arith}
 use lib.Dec.{eqb}
-use lib.ListN.{length}
 use Rattle.refusals.specs.declared.Refusal.{Refusal}
 use Rattle.kinds.specs.Kinds.{isUnion}
 use Rattle.types.specs.Store.{Formed}
@@ -16,12 +15,12 @@ use Rattle.matching.specs.declared.Checked.the-variants.{Known, Unknown, Functi
 use Rattle.matching.proofs.Matching.{known-in-use}
 use Rattle.operators.specs.Outcome.{noError, oneError, outcome, notIndexable}
 use Rattle.members.specs.Members.{sizeOf, unionOf, concluded, conclude}
-use Rattle.members.specs.Trials.{errorsOf, Tried}
+use Rattle.members.specs.Trials.{Tried, errorsIn, settled}
 use Rattle.members.specs.declared.Conclusion.{Conclusion}
 use Rattle.members.proofs.Unions.{union-sound, union-refused}
-use Rattle.members.proofs.Kept.{Kept, kept-same, kept-entered, refused-made}
-use Rattle.indexing.specs.Indexing.{indexTarget, membersTried, unionIndexed, indexAny, checkIndex}
-use Rattle.indexing.proofs.Targets.{target-used}
+use Rattle.members.proofs.Kept.{Kept, unknown-used, kept-same, kept-entered, refused-made}
+use Rattle.indexing.specs.Indexing.{indexTarget, membersTried, indexAny, checkIndex}
+use Rattle.indexing.proofs.Targets.{target-in-use}
 use Rattle.indexing.proofs.Trying.{tried-used}
 
 -- ---- what is answered
@@ -48,23 +47,23 @@ module _ (page : List ℕ) (key : Checked) where
 
 module _ (page : List ℕ) (f : Formed page) (key : Checked) where
   any-kept : (t : ℕ) → t < typesIn page → Kept page (indexAny page key t)
-  unfolding indexAny unionIndexed
-  any-kept t u = go (eqb (errorsOf (q .failed) (length (q .results)) .count) 0)
+  unfolding indexAny settled
+  any-kept t u = go (eqb (errorsIn q .count) 0)
     where
       q : Tried
       q = membersTried page key t (sizeOf page t)
 
       go : (b : Bool) → Kept page (cond b (concluded (conclude (unionOf page (q .results) .made)) (unionOf page (q .results) .store))
-          (concluded (Conclusion.Is (outcome Unknown (errorsOf (q .failed) (length (q .results))))) page))
+          (concluded (Conclusion.Is (outcome Unknown (errorsIn q))) page))
       go true =
           kept-entered page (unionOf page (q .results))
           (union-sound page f (q .results) (tried-used page key t f u (sizeOf page t) (omega arith)))
-      go false = kept-same page f (outcome Unknown (errorsOf (q .failed) (length (q .results)))) (omega arith)
+      go false = kept-same page f (outcome Unknown (errorsIn q)) (unknown-used page)
 
   pub index-kept : (target : Checked) → inUse page target ≡ true → Kept page (checkIndex page key target)
   unfolding checkIndex
-  index-kept Unknown h = kept-same page f (outcome Unknown noError) (omega arith)
-  index-kept (Function g) h = kept-same page f (outcome Unknown (oneError notIndexable)) (omega arith)
+  index-kept Unknown h = kept-same page f (outcome Unknown noError) (unknown-used page)
+  index-kept (Function g) h = kept-same page f (outcome Unknown (oneError notIndexable)) (unknown-used page)
   index-kept (Known t) h = go (isUnion (kindOf page t))
     where
       u : t < typesIn page
@@ -72,21 +71,21 @@ module _ (page : List ℕ) (f : Formed page) (key : Checked) where
 
       go : (b : Bool) → Kept page (cond b (indexAny page key t) (concluded (Conclusion.Is (indexTarget page key t)) page))
       go true = any-kept t u
-      go false = kept-same page f (indexTarget page key t) (target-used page f t u key)
+      go false = kept-same page f (indexTarget page key t) (target-in-use page f t u key)
 
   -- a refusal leaves the store as it was
   any-refused : (t : ℕ) (r : Refusal) → indexAny page key t .conclusion ≡ Conclusion.Refused r → indexAny page key t .store ≡ page
-  unfolding indexAny unionIndexed
-  any-refused t r = go (eqb (errorsOf (q .failed) (length (q .results)) .count) 0)
+  unfolding indexAny settled
+  any-refused t r = go (eqb (errorsIn q .count) 0)
     where
       q : Tried
       q = membersTried page key t (sizeOf page t)
 
       go : (b : Bool)
           → cond b (concluded (conclude (unionOf page (q .results) .made)) (unionOf page (q .results) .store))
-          (concluded (Conclusion.Is (outcome Unknown (errorsOf (q .failed) (length (q .results))))) page) .conclusion ≡ Conclusion.Refused r
+          (concluded (Conclusion.Is (outcome Unknown (errorsIn q))) page) .conclusion ≡ Conclusion.Refused r
           → cond b (concluded (conclude (unionOf page (q .results) .made)) (unionOf page (q .results) .store))
-          (concluded (Conclusion.Is (outcome Unknown (errorsOf (q .failed) (length (q .results))))) page) .store ≡ page
+          (concluded (Conclusion.Is (outcome Unknown (errorsIn q))) page) .store ≡ page
       go true e = union-refused page (q .results) r (refused-made (unionOf page (q .results) .made) r e)
       go false e = refl
 

@@ -9,12 +9,14 @@ use Rattle.kinds.specs.Kinds.{null, isArray, isSet, isMap, isTuple}
 use Rattle.types.specs.Store.{Formed}
 use Rattle.types.specs.Types.{typesIn, kindOf, arity, childOf}
 use Rattle.types.proofs.Types.{child-lower}
-use Rattle.matching.specs.Matching.{matches}
+use Rattle.matching.specs.Matching.{matches, inUse}
 use Rattle.matching.specs.declared.Checked.{Checked}
 use Rattle.matching.specs.declared.Checked.the-variants.{Known, Unknown}
 use Rattle.matching.proofs.Parts.{one-child, two-children}
+use Rattle.matching.proofs.Matching.{in-use-known}
 use Rattle.operators.specs.Outcome.{noError, oneError, outcome, numberOf, badKey, notIndexable}
 use Rattle.operators.specs.declared.Outcome.{Outcome}
+use Rattle.members.proofs.Kept.{unknown-used, number-used}
 use Rattle.indexing.specs.Indexing.{indexTarget}
 
 -- has a type elements of one sort, and does it index to Unknown
@@ -58,28 +60,32 @@ module _ (page : List ℕ) (f : Formed page) (t : ℕ) (u : t < typesIn page) wh
       go false a false e h = absurd (let z : _≡_ {A = ℕ} 0 1 = cc in omega arith)
 
   module _ (key : Checked) where
-    pub target-used : numberOf (indexTarget page key t .checked) < typesIn page
+    pub target-in-use : inUse page (indexTarget page key t .checked) ≡ true
     unfolding indexTarget
-    target-used = element (hasElements page t) refl
+    target-in-use = element (hasElements page t) refl
       where
-        other : (n : Bool) → numberOf (cond n (outcome Unknown noError) (outcome Unknown (oneError notIndexable)) .checked) < typesIn page
-        other true = omega arith
-        other false = omega arith
+        other : (n : Bool) → inUse page (cond n (outcome Unknown noError) (outcome Unknown (oneError notIndexable)) .checked) ≡ true
+        other true = unknown-used page
+        other false = unknown-used page
 
         value : (m : Bool) → isMap (kindOf page t) ≡ m
-            → numberOf (cond m
+            → inUse page (cond m
             (outcome (Known (childOf page t 1)) (cond (matches page key (Known (childOf page t 0))) noError (oneError badKey)))
-            (cond (isUnknown page t) (outcome Unknown noError) (outcome Unknown (oneError notIndexable))) .checked) < typesIn page
-        value true h = omega (arith, child-lower page f t u 1 (omega (arith, two-children page f t u h)))
+            (cond (isUnknown page t) (outcome Unknown noError) (outcome Unknown (oneError notIndexable))) .checked) ≡ true
+        value true h =
+            in-use-known page (childOf page t 1) (omega (arith, child-lower page f t u 1 (omega (arith, two-children page f t u h))))
         value false h = other (isUnknown page t)
 
         element : (b : Bool) → hasElements page t ≡ b
-            → numberOf (cond b (outcome (Known (childOf page t 0)) noError)
+            → inUse page (cond b (outcome (Known (childOf page t 0)) noError)
             (cond (isMap (kindOf page t))
             (outcome (Known (childOf page t 1)) (cond (matches page key (Known (childOf page t 0))) noError (oneError badKey)))
-            (cond (isUnknown page t) (outcome Unknown noError) (outcome Unknown (oneError notIndexable)))) .checked) < typesIn page
-        element true h = omega (arith, child-lower page f t u 0 (element-there h))
+            (cond (isUnknown page t) (outcome Unknown noError) (outcome Unknown (oneError notIndexable)))) .checked) ≡ true
+        element true h = in-use-known page (childOf page t 0) (omega (arith, child-lower page f t u 0 (element-there h)))
         element false h = value (isMap (kindOf page t)) refl
+
+    pub target-used : numberOf (indexTarget page key t .checked) < typesIn page
+    target-used = number-used page (indexTarget page key t .checked) target-in-use
 
     -- what `check_index_target` promises
     pub target-is : (r : Outcome) → r ≡ indexTarget page key t → (r ≡ indexTarget page key t) × (numberOf (r .checked) < typesIn page)

@@ -7,23 +7,25 @@ use native.Mathlib.Numerals.{add-one}
 use native.Mathlib.Omega.{arith}
 use lib.ListN.{length, getD, take}
 use lib.Seq.{length-take-le, getD-take}
-use borrow.Author.Tests.{eq-eqb, ne-eqb}
+use borrow.Author.Tests.{eq-eqb, ne-eqb, lt-ltb, le-ltb}
 use Rattle.types.specs.Store.{Formed}
 use Rattle.types.specs.Types.{typesIn}
+use Rattle.types.specs.Making.{Grows}
 use Rattle.types.specs.Calls.{allBelow}
 use Rattle.types.specs.declared.Made.{Made}
 use Rattle.matching.specs.Memo.{Noted, Found}
+use Rattle.matching.proofs.Grown.{noted-grown}
 use Rattle.matching.specs.declared.Checked.{Checked}
 use Rattle.matching.specs.declared.Checked.the-variants.{Unknown}
 use Rattle.operators.specs.Outcome.{oneError, someFail, outcome, numberOf, passes, noMember}
 use Rattle.operators.specs.declared.Outcome.{Outcome}
 use Rattle.members.specs.Members.{membersMax, sizeOf, member, merged, Entered, entered, unionOf, concluded, conclude}
-use Rattle.members.specs.Trials.{foldTo, failedAt, errorsOf, Tried, tried, joined}
+use Rattle.members.specs.Trials.{foldTo, failedAt, errorsOf, Tried, tried, joined, settled}
 use Rattle.members.specs.declared.Conclusion.{Conclusion}
 use Rattle.members.proofs.Members.{member-used}
 use Rattle.members.proofs.Flattening.{Flattened}
-use Rattle.members.proofs.Unions.{merged-below}
-use Rattle.indexing.specs.Indexing.{indexTarget, membersTried, triedOf, unionIndexed, indexAny}
+use Rattle.members.proofs.Unions.{merged-below, union-sound}
+use Rattle.indexing.specs.Indexing.{indexTarget, membersTried, triedOf, indexAny}
 use Rattle.indexing.specs.declared.Trials.{Trials}
 use Rattle.indexing.proofs.Targets.{target-used}
 
@@ -107,23 +109,30 @@ module _ (page : List ℕ) (key : Checked) (t : ℕ) (results : List ℕ) (trial
     (e : triedOf results trials ≡ membersTried page key t (sizeOf page t)) where
   pub some-failed : (trials .failing ≡ 0 → ⊥)
       → concluded (Conclusion.Is (outcome Unknown (someFail (trials .failing) (trials .first) 0))) page ≡ indexAny page key t
-  unfolding indexAny unionIndexed errorsOf
+  unfolding indexAny settled errorsOf
   some-failed n = rw (← e, ne-eqb (trials .failing) 0 n) refl
 
   module _ (z : trials .failing ≡ 0) (l : trials .merged ≤ length results) where
     pub no-results : trials .merged ≡ 0 → concluded (Conclusion.Is (outcome Unknown (oneError noMember))) page ≡ indexAny page key t
-    unfolding indexAny unionIndexed errorsOf
+    unfolding indexAny settled errorsOf
     no-results m =
         let size = length-take-le (trials .merged) results l in
-        rw (← e, eq-eqb (trials .failing) 0 z, eq-eqb (length (take (trials .merged) results)) 0 (size ∙ m)) refl
+        rw (← e, eq-eqb (trials .failing) 0 z, le-ltb 0 (length (take (trials .merged) results)) (omega (arith, size, m))) refl
 
     pub some-results : (trials .merged ≡ 0 → ⊥) → (m : Made) (s : List ℕ) → entered m s ≡ unionOf page (take (trials .merged) results)
         → concluded (conclude m) s ≡ indexAny page key t
-    unfolding indexAny unionIndexed errorsOf
+    unfolding indexAny settled errorsOf
     some-results n m s h =
         let size = length-take-le (trials .merged) results l in
         ap (λ (o : Entered). concluded (conclude (o .made)) (o .store)) h
-        ∙ rw (← e, eq-eqb (trials .failing) 0 z, ne-eqb (length (take (trials .merged) results)) 0 (λ k. n (omega (arith, size, k)))) refl
+        ∙ rw (← e, eq-eqb (trials .failing) 0 z, lt-ltb 0 (length (take (trials .merged) results)) (omega (arith, size, n))) refl
 
   pub results-used : Formed page → t < typesIn page → allBelow (typesIn page) (take (trials .merged) results) ≡ true
   results-used f u = rw (← e) at (tried-used page key t f u (sizeOf page t) (omega arith))
+
+-- what is in mind stays so where their union enters the store
+pub union-noted : (page : List ℕ) → Formed page → (rs : List ℕ) → allBelow (typesIn page) rs ≡ true → (m : Made) (after : List ℕ)
+    → entered m after ≡ unionOf page rs → Formed after → (memo : List ℕ) → Noted (Found page) memo → Noted (Found after) memo
+union-noted page f rs u m after e fa memo n =
+    let g : Grows page after = rw (← e) at (union-sound page f rs u .grown) in
+    noted-grown page after f fa g memo n

@@ -4,7 +4,7 @@ use mathlib.Core.Bool.{_||_, cond}
 use mathlib.Core.List.{List, []}
 use Prim.Native.Nat.{ℕ}
 use lib.Dec.{eqb}
-use lib.ListN.{length, take}
+use lib.ListN.{take}
 use Rattle.kinds.specs.Kinds.{null, isArray, isSet, isMap, isTuple, isUnion}
 use Rattle.types.specs.Types.{kindOf, childOf}
 use Rattle.matching.specs.Matching.{matches}
@@ -12,8 +12,8 @@ use Rattle.matching.specs.declared.Checked.{Checked}
 use Rattle.matching.specs.declared.Checked.the-variants.{Known, Unknown, Function}
 use Rattle.operators.specs.Outcome.{noError, oneError, outcome, badKey, notIndexable}
 use Rattle.operators.specs.declared.Outcome.{Outcome}
-use Rattle.members.specs.Members.{sizeOf, member, unionOf, Concluded, concluded, conclude}
-use Rattle.members.specs.Trials.{foldTo, failures, noFailure, errorsOf, Tried, tried, joined}
+use Rattle.members.specs.Members.{sizeOf, member, Concluded, concluded}
+use Rattle.members.specs.Trials.{foldTo, failures, noFailure, Tried, tried, joined, settled}
 use Rattle.members.specs.declared.Conclusion.{Conclusion}
 use Rattle.indexing.specs.declared.Trials.{Trials}
 
@@ -38,15 +38,8 @@ membersTried page key t n = foldTo n (λ i q. joined (member page t i) 0 (indexT
 abbrev pub triedOf : List ℕ → Trials → Tried
 triedOf results trials = tried (take (trials .merged) results) (failures (trials .failing) (trials .first) 0)
 
--- with an error Unknown, else the union of the results, which enters the store
-unfoldable pub unionIndexed : List ℕ → Tried → Concluded
-unionIndexed page q =
-    cond (eqb (errorsOf (q .failed) (length (q .results)) .count) 0)
-    (concluded (conclude (unionOf page (q .results) .made)) (unionOf page (q .results) .store))
-    (concluded (Conclusion.Is (outcome Unknown (errorsOf (q .failed) (length (q .results))))) page)
-
 unfoldable pub indexAny : List ℕ → Checked → ℕ → Concluded
-indexAny page key t = unionIndexed page (membersTried page key t (sizeOf page t))
+indexAny page key t = settled page (membersTried page key t (sizeOf page t))
 
 -- ---- on checked types
 

@@ -128,7 +128,7 @@ fn try_members(
     requires { ⌜ (t < typesIn (now page)) × (inUse (now page) key ≡ true) × (length (now results) ≡ membersMax) ⌝ }
     requires { ⌜ Noted (Found (now page)) (now memo) ⌝ }
     ensures { λ r. ⌜ triedOf (now (results .exit)) r ≡ membersTried (now (page .entry)) key t (sizeOf (now (page .entry)) t) ⌝ }
-    ensures { λ r. ⌜ (length (now (results .exit)) ≡ membersMax) × (r .merged ≤ membersMax) ⌝ }
+    ensures { λ r. ⌜ (length (now (results .exit)) ≡ membersMax) × (r .merged ≤ membersMax) × Noted (Found (now (page .entry))) (now (memo .exit)) ⌝ }
 {
     let mut types = no_members();
     let n = flatten(page, offsets, t, &mut types);
@@ -147,7 +147,7 @@ fn try_members(
     trials
 }
 
-// What indexing a union comes to: every member is tried. Of what the memo then holds nothing is said.
+// What indexing a union comes to: every member is tried. What the memo holds stays right in the store that grows.
 pub fn check_index_any(
     page: &mut [u8],
     offsets: &mut [usize],
@@ -161,6 +161,7 @@ pub fn check_index_any(
     requires { ⌜ Noted (Found (now page)) (now memo) ⌝ }
     ensures { λ r. ⌜ concluded r (now (page .exit)) ≡ indexAny (now (page .entry)) key t ⌝ }
     ensures { λ _. ⌜ Measured (now (page .exit)) (now (offsets .exit)) (now (depths .exit)) ⌝ }
+    ensures { λ _. ⌜ Noted (Found (now (page .exit))) (now (memo .exit)) ⌝ }
 {
     let mut results = no_members();
     let trials = try_members(page, offsets, memo, key, t, &mut results);
@@ -178,7 +179,7 @@ pub fn check_index_any(
 }
 
 // What indexing a checked type comes to, for crates above (`answers::check_index` is the entry call). A refusal leaves
-// the store as it was; of what the memo then holds nothing is said.
+// the store as it was.
 pub fn check_index(
     page: &mut [u8],
     offsets: &mut [usize],
@@ -192,6 +193,7 @@ pub fn check_index(
     requires { ⌜ Noted (Found (now page)) (now memo) ⌝ }
     ensures { λ r. ⌜ concluded r (now (page .exit)) ≡ checkIndex (now (page .entry)) key target ⌝ }
     ensures { λ _. ⌜ Measured (now (page .exit)) (now (offsets .exit)) (now (depths .exit)) ⌝ }
+    ensures { λ _. ⌜ Noted (Found (now (page .exit))) (now (memo .exit)) ⌝ }
 {
     match target {
         Checked::Unknown => Conclusion::Is(operators::unknown(operators::no_error())),

@@ -5,7 +5,7 @@ use mathlib.Core.List.{List}
 use Prim.Native.Nat.{ℕ, _<_, _≤_}
 use native.Mathlib.Omega.{arith}
 use lib.Dec.{ltb, eqb, T}
-use borrow.Author.Tests.{ltb-false}
+use borrow.Author.Tests.{ltb-true, ltb-false}
 use Rattle.pages.specs.Quant.{allTo}
 use Rattle.pages.proofs.Quant.{and-true, all-cong}
 use Rattle.kinds.specs.Kinds.{null, isArray, isTuple, isMap}
@@ -17,7 +17,7 @@ use Rattle.types.proofs.Types.{child-lower}
 use Rattle.matching.specs.Matching.{both, smaller, nullOr, arrayElision, nullArrayElision, mapElision, nullMapElision}
 use Rattle.matching.proofs.Parts.{one-child, two-children}
 
-smaller-left : (m n : ℕ) → smaller m n ≤ m
+pub smaller-left : (m n : ℕ) → smaller m n ≤ m
 unfolding smaller
 smaller-left m n = go (ltb m n) refl
   where
@@ -25,12 +25,20 @@ smaller-left m n = go (ltb m n) refl
     go true e = omega arith
     go false e = ltb-false m n e
 
+pub smaller-right : (m n : ℕ) → smaller m n ≤ n
+unfolding smaller
+smaller-right m n = go (ltb m n) refl
+  where
+    go : (b : Bool) → ltb m n ≡ b → cond b m n ≤ n
+    go true e = omega (arith, ltb-true m n e)
+    go false e = omega arith
+
 -- a rule that is asked only where a test passes
-and-cong : (b x y : Bool) → (b ≡ true → x ≡ y) → (b && x) ≡ (b && y)
+pub and-cong : (b x y : Bool) → (b ≡ true → x ≡ y) → (b && x) ≡ (b && y)
 and-cong true x y h = h refl
 and-cong false x y h = refl
 
-cond-cong : (b x y z w : Bool) → (b ≡ true → x ≡ y) → z ≡ w → cond b x z ≡ cond b y w
+pub cond-cong : (b x y z w : Bool) → (b ≡ true → x ≡ y) → z ≡ w → cond b x z ≡ cond b y w
 cond-cong true x y z w h k = h refl
 cond-cong false x y z w h k = k
 

@@ -3,3 +3,4 @@ pub mod Memo
 pub mod Parts
 pub mod Elision
 pub mod Matching
+pub mod Grown

@@ -64,32 +64,33 @@ any-small true = omega arith
 any-small false = omega arith
 
 module _ (page : List ℕ) (a b : ℕ) where
-  pub found-arrays : nullArrayElision page a b ≡ true → Found page 0 a b
-  unfolding found
-  found-arrays h = h
+  module _ (u : a < typesIn page) (v : b < typesIn page) where
+    pub found-arrays : nullArrayElision page a b ≡ true → Found page 0 a b
+    unfolding found
+    found-arrays h = (u, v, h)
+
+    pub found-maps : nullMapElision page a b ≡ true → Found page 1 a b
+    unfolding found
+    found-maps h = (u, v, h)
+
+    -- what `any_matches` answered
+    pub found-any : (answer : Bool) → answer ≡ anyMatches page a b → Found page (cond answer 3 2) a b
+    unfolding found
+    found-any true e = (u, v, sym e)
+    found-any false e = (u, v, rw (← e) refl)
 
   pub arrays-found : Found page 0 a b → true ≡ nullArrayElision page a b
   unfolding found
-  arrays-found h = sym h
-
-  pub found-maps : nullMapElision page a b ≡ true → Found page 1 a b
-  unfolding found
-  found-maps h = h
+  arrays-found h = sym (h .2)
 
   pub maps-found : Found page 1 a b → true ≡ nullMapElision page a b
   unfolding found
-  maps-found h = sym h
-
-  -- what `any_matches` answered
-  pub found-any : (answer : Bool) → answer ≡ anyMatches page a b → Found page (cond answer 3 2) a b
-  unfolding found
-  found-any true e = sym e
-  found-any false e = rw (← e) refl
+  maps-found h = sym (h .2)
 
   pub yes-found : Found page 3 a b → anyMatches page a b ≡ true
   unfolding found
-  yes-found h = h
+  yes-found h = h .2
 
   pub no-found : Found page 2 a b → anyMatches page a b ≡ false
   unfolding found
-  no-found h = not-true (anyMatches page a b) h
+  no-found h = not-true (anyMatches page a b) (h .2)

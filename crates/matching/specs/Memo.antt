@@ -7,6 +7,7 @@ use Prim.Native.Nat.{ℕ, _+_, _*_, _%_, _<_}
 use lib.Dec.{eqb}
 use lib.ListN.{length, getD}
 use Rattle.types.specs.Store.{typesMax}
+use Rattle.types.specs.Types.{typesIn}
 use Rattle.matching.specs.Matching.{nullArrayElision, nullMapElision, anyMatches}
 
 -- how many places there are
@@ -35,5 +36,6 @@ unfoldable pub found : List ℕ → ℕ → ℕ → ℕ → Bool
 found page q a b =
     cond (eqb q 0) (nullArrayElision page a b) (cond (eqb q 1) (nullMapElision page a b) (cond (eqb q 2) (not (anyMatches page a b)) (anyMatches page a b)))
 
+-- found of two types in use, and so in every store that grows out of this one (`noted-grown` in proofs/Grown.antt)
 abbrev pub Found : List ℕ → ℕ → ℕ → ℕ → Type 0
-Found page q a b = found page q a b ≡ true
+Found page q a b = (a < typesIn page) × (b < typesIn page) × (found page q a b ≡ true)

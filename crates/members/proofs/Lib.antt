@@ -6,3 +6,4 @@ pub mod Merging
 pub mod Leaves
 pub mod Unions
 pub mod Kept
+pub mod Tables

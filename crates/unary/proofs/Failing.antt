@@ -7,8 +7,9 @@ use Prim.Native.Nat.{ℕ, zero, suc, _+_, _<_}
 use native.Mathlib.Numerals.{add-one}
 use native.Mathlib.Omega.{arith}
 use lib.Dec.{eqb, ltb}
-use borrow.Author.Tests.{ne-eqb, lt-ltb}
+use borrow.Author.Tests.{ne-eqb, eqb-true, lt-ltb}
 use Rattle.pages.specs.Quant.{allTo}
+use Rattle.pages.proofs.Bytes.{and-false}
 use Rattle.kinds.specs.Kinds.{isUnion}
 use Rattle.types.specs.Store.{Formed}
 use Rattle.types.specs.Types.{typesIn, kindOf}
@@ -20,12 +21,14 @@ use Rattle.unary.proofs.Passing.{memberPasses, passes-plain, passes-uni
 use Rattle.unary.specs.Unary.{unaryPasses, failing, unaryErrors}
 
 -- a union has no error if it has a member and none fails
-union-count : (f : Failures) (a : Bool) → eqb (f .count) 0 ≡ a → (n : ℕ) → eqb (errorsOf f n .count) 0 ≡ (ltb 0 n && a)
+union-count : (f : Failures) (a : Bool) → eqb (f .count) 0 ≡ a → (n : ℕ) → eqb (errorsOf f (ltb (f .count) n) .count) 0 ≡ (ltb 0 n && a)
 unfolding errorsOf
-union-count f true e zero = rw e refl
-union-count f true e (suc n) = rw (e, ne-eqb (suc n) 0 (λ x. omega arith), lt-ltb 0 (suc n) (omega arith)) refl
-union-count f false e zero = rw e refl
-union-count f false e (suc n) = rw (e, lt-ltb 0 (suc n) (omega arith)) refl
+union-count f true e n = rw (eqb-true (f .count) 0 e) (go (ltb 0 n))
+  where
+    go : (b : Bool) → eqb (cond b noError (oneError noMember) .count) 0 ≡ (b && true)
+    go true = refl
+    go false = refl
+union-count f false e n = rw e (sym (and-false (ltb 0 n)))
 
 -- ---- failures of the first members
 
@@ -70,7 +73,8 @@ module _ (page : List ℕ) (op t : ℕ) where
   -- ---- one law for each return
 
   module _ (h : isUnion (kindOf page t) ≡ true) where
-    errors-union : unaryErrors page op t ≡ errorsOf (failing page op t (sizeOf page t)) (sizeOf page t)
+    errors-union : unaryErrors page op t
+        ≡ errorsOf (failing page op t (sizeOf page t)) (ltb (failing page op t (sizeOf page t) .count) (sizeOf page t))
     unfolding unaryErrors
     errors-union = rw h refl
 
@@ -81,7 +85,7 @@ module _ (page : List ℕ) (op t : ℕ) where
     module _ (count first : ℕ) (e : failures count first 0 ≡ failing page op t (sizeOf page t)) where
       pub errors-none : (sizeOf page t ≡ 0 → ⊥) → count ≡ 0 → noError ≡ unaryErrors page op t
       unfolding errorsOf
-      errors-none z c = sym (errors-union ∙ rw (← e, c, ne-eqb (sizeOf page t) 0 z) refl)
+      errors-none z c = sym (errors-union ∙ rw (← e, c, lt-ltb 0 (sizeOf page t) (omega (arith, z))) refl)
 
       pub errors-some : (count ≡ 0 → ⊥) → someFail count first 0 ≡ unaryErrors page op t
       unfolding errorsOf

@@ -39,10 +39,12 @@ unaryPasses page op = cov false (λ t rule. passRule page op rule t)
 unfoldable pub failing : List ℕ → ℕ → ℕ → ℕ → Failures
 failing page op t n = foldTo n (λ i f. cond (unaryPasses page op (member page t i)) f (failedAt (member page t i) 0 f)) noFailure
 
--- the errors of the check of type t
+-- the errors of the check of type t: where fewer members fail than there are, some member passes
 unfoldable pub unaryErrors : List ℕ → ℕ → ℕ → Errors
 unaryErrors page op t =
-    cond (isUnion (kindOf page t)) (errorsOf (failing page op t (sizeOf page t)) (sizeOf page t)) (plainUnary op (kindOf page t) .errors)
+    cond (isUnion (kindOf page t))
+    (errorsOf (failing page op t (sizeOf page t)) (ltb (failing page op t (sizeOf page t) .count) (sizeOf page t)))
+    (plainUnary op (kindOf page t) .errors)
 
 -- ---- the type answered, where there is no error
 

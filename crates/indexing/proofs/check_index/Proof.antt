@@ -86,14 +86,14 @@ returns-2 c =
     let start = c .before .before .before .before .before .before .before .before in
     let a = start .args in
     let same = index-unknown (now (a .page)) (a .key) in
-    (rw (c .before .before .enum-told .given .1, c .unknown .ensures, c .before .no-error .ensures) same, start .pre .0)
+    (rw (c .before .before .enum-told .given .1, c .unknown .ensures, c .before .no-error .ensures) same, (start .pre .0, start .pre .1 .1))
 
 returns-3 : tie.Need-returns-3
 returns-3 c =
     let start = c .before .before .before .before .before .before .before .before in
     let a = start .args in
     let same = index-function (now (a .page)) (a .key) _ in
-    (rw (c .before .before .enum-told2 .given .1, c .unknown2 .ensures, c .before .one-error .ensures) same, start .pre .0)
+    (rw (c .before .before .enum-told2 .given .1, c .unknown2 .ensures, c .before .one-error .ensures) same, (start .pre .0, start .pre .1 .1))
 
 same-length-5 : tie.Need-same-length-5
 same-length-5 c = search needs
@@ -113,7 +113,8 @@ returns-4 c =
     let pre = start .pre in
     let t = match .target .given .1 in
     let u = rw (test .before .before .kind-of .ensures) at (sym (test .before .is-union .ensures) ∙ test .if1 .left) in
-    (rw (t, c .before .before .check-index-target .ensures .0 .0) (index-other (now (a .page)) (a .key) _ u), pre .0)
+    let index = c .before .before .check-index-target in
+    (rw (t, index .ensures .0 .0) (index-other (now (a .page)) (a .key) _ u), (pre .0, index .ensures .1))
 
 pub check-index-spec : {M : Type 1} → statement M
 check-index-spec =

@@ -1,7 +1,7 @@
 -- `indexing::check_index_any` meets its contract. Assumes nothing.
 use native.Mathlib.Omega.{arith}
 use denote.Ref.{now}
-use Rattle.indexing.proofs.Trying.{some-failed, no-results, some-results, results-used}
+use Rattle.indexing.proofs.Trying.{some-failed, no-results, some-results, results-used, union-noted}
 use borrow.Author.Needs.{needs}
 use Rattle.indexing.proofs.check_index_any.Statement.{statement}
 use Rattle.indexing.proofs.check_index_any.Tie as tie
@@ -39,7 +39,7 @@ returns c =
     let a = start .args in
     let pre = start .pre in
     let some = some-failed (now (a .page)) (a .key) (a .t) _ (tried .result) (tried .ensures .0) (first .if1 .taken) in
-    (rw (c .unknown .ensures, c .before .some-fail .ensures) some, pre .0)
+    (rw (c .unknown .ensures, c .before .some-fail .ensures) some, (pre .0, tried .ensures .1 .2))
 
 one-error-requires : tie.Need-one-error-requires
 one-error-requires c κs = search needs
@@ -66,9 +66,9 @@ returns-2 c =
     let a = start .args in
     let pre = start .pre in
     let none =
-    no-results (now (a .page)) (a .key) (a .t) _ (tried .result) (tried .ensures .0) (first .if1 .left) (omega (arith, tried .ensures .1))
+    no-results (now (a .page)) (a .key) (a .t) _ (tried .result) (tried .ensures .0) (first .if1 .left) (omega (arith, tried .ensures .1 .0, tried .ensures .1 .1))
     (second .if2 .taken) in
-    (rw (c .unknown2 .ensures, c .before .one-error .ensures) none, pre .0)
+    (rw (c .unknown2 .ensures, c .before .one-error .ensures) none, (pre .0, tried .ensures .1 .2))
 
 slice-aggregate-enter-union : tie.Need-slice-aggregate-enter-union
 slice-aggregate-enter-union c = search needs
@@ -82,7 +82,7 @@ enter-union-requires c κs =
     let a = start .args in
     let pre = start .pre in
     let used = results-used (now (a .page)) (a .key) (a .t) _ (tried .result) (tried .ensures .0) (pre .0 .held .sound) (pre .1 .0 .0) in
-    (pre .0, (omega (arith, second .if2 .left), omega (arith, tried .ensures .1), used))
+    (pre .0, (omega (arith, second .if2 .left), omega (arith, tried .ensures .1 .0, tried .ensures .1 .1), used))
 
 conclusion-of-requires : tie.Need-conclusion-of-requires
 conclusion-of-requires c κs = search needs
@@ -109,9 +109,14 @@ returns-3 c =
     let a = start .args in
     let union = c .before .before .before .before .before .before .before .enter-union in
     let some =
-    some-results (now (a .page)) (a .key) (a .t) _ (tried .result) (tried .ensures .0) (first .if1 .left) (omega (arith, tried .ensures .1))
+    some-results (now (a .page)) (a .key) (a .t) _ (tried .result) (tried .ensures .0) (first .if1 .left) (omega (arith, tried .ensures .1 .0, tried .ensures .1 .1))
     (second .if2 .left) (union .result) _ (union .ensures .0) in
-    (rw (c .conclusion-of .ensures) some, union .ensures .1)
+    let pre = start .pre in
+    let form = pre .0 .held .sound in
+    let used = results-used (now (a .page)) (a .key) (a .t) _ (tried .result) (tried .ensures .0) form (pre .1 .0 .0) in
+    let noted =
+    union-noted (now (a .page)) form _ used (union .result) _ (union .ensures .0) (union .ensures .1 .held .sound) _ (tried .ensures .1 .2) in
+    (rw (c .conclusion-of .ensures) some, (union .ensures .1, noted))
 
 pub check-index-any-spec : {M : Type 1} → statement M
 check-index-any-spec =

@@ -118,7 +118,7 @@ returns c =
     let flat = c .before .before .before .flatten .ensures in
     let all : loop .i ≡ sizeOf (now (a .page)) (a .t) = omega (arith, loop .inv .0, c .loop-test .left, flat .0) in (
       going .so-far ∙ ap (membersTried (now (a .page)) (a .key) (a .t)) all,
-      (going .size, omega (arith, going .few, loop .inv .0, flat .1)),
+      (going .size, omega (arith, going .few, loop .inv .0, flat .1), going .noted),
     )
 
 pub try-members-spec : {M : Type 1} → statement M

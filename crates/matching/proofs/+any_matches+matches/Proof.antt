@@ -525,7 +525,7 @@ matches-returns-8 t c =
     let m = c .before .before .before .before .before .before .any-matches in
     let p = known-any page f b (k .1) a (sym (plain-matches .ensures .0) ∙ if1 .left) in
     let n = noted-set (Found page) (m .last .1 .1 .0) (m .ensures .1) (cond (m .result) 3 2) a b (any-small (m .result)) (k .2) (k .3)
-    (found-any page a b (m .result) (m .ensures .0)) in
+    (found-any page a b (k .0) (k .1) (m .result) (m .ensures .0)) in
     (m .ensures .0 ∙ sym p ∙ k .4, rw (c .before .before .note-any .ensures) n)
 
 pub +any-matches+matches-spec : {M : Type 1} → statement M

@@ -243,7 +243,7 @@ null-array-elision-returns-4 t c =
     let q : allTo (smaller-of .result) (elided page (nullArrayElision page) (a .a) (a .b)) ≡ true = rw i at (l .inv .2) in
     let r = sym q ∙ compared t (before) in
     let n = noted-set (Found page) (l .memo) (l .inv .1) 0 (a .a) (a .b) (omega arith) (small (a .a) (p .1 .0 .0)) (small (a .b) (p .1 .0 .1))
-    (found-arrays page (a .a) (a .b) (sym r)) in
+    (found-arrays page (a .a) (a .b) (p .1 .0 .0) (p .1 .0 .1) (sym r)) in
     (r, rw (c .before .before .note .ensures) n)
 
 pub +null-array-elision-spec : {M : Type 1} → statement M

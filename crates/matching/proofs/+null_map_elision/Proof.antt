@@ -291,7 +291,7 @@ null-map-elision-returns-5 t c =
     let q : allTo 2 (elided page (partRule page (nullMapElision page)) (a .a) (a .b)) ≡ true = rw i at (l .inv .2) in
     let r = sym q ∙ map-all page (p .0 .sound) (a .a) (p .1 .0 .0) (a .b) (h .0) (h .1) in
     let n = noted-set (Found page) (l .memo) (l .inv .1) 1 (a .a) (a .b) (omega arith) (small (a .a) (p .1 .0 .0)) (small (a .b) (p .1 .0 .1))
-    (found-maps page (a .a) (a .b) (sym r)) in
+    (found-maps page (a .a) (a .b) (p .1 .0 .0) (p .1 .0 .1) (sym r)) in
     (r, rw (c .before .before .note .ensures) n)
 
 pub +null-map-elision-spec : {M : Type 1} → statement M
