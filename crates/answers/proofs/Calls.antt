@@ -1,8 +1,10 @@
 -- What the calls for operators and indexing come to, one law for each return. Assumes nothing.
-use mathlib.Core.Path.{_≡_, refl, sym, ap, _∙_}
+use mathlib.Core.Path.{_≡_, refl, sym, ap, fun-ext, _∙_}
 use mathlib.Core.Bool.{Bool, true, false, _&&_, _||_, not}
 use mathlib.Core.List.{List, [], _∷_}
-use Prim.Native.Nat.{ℕ, _<_}
+use Prim.Native.Nat.{ℕ, _<_, _≤_}
+use native.Mathlib.Nat.{le-refl}
+use native.Mathlib.Omega.{arith}
 use borrow.Author.Tests.{not-false}
 use Rattle.refusals.specs.Lowest.{_when_, lowest}
 use Rattle.refusals.specs.declared.Refusal.{Refusal}
@@ -11,6 +13,7 @@ use Rattle.refusals.specs.declared.Verdict.the-variants.{Passed, Refused}
 use Rattle.refusals.proofs.Lowest.{first-holds, passed-parts}
 use Rattle.pages.proofs.Quant.{and-true}
 use Rattle.names.specs.Calls.{usedOf}
+use Rattle.types.specs.Store.{Formed}
 use Rattle.types.specs.Types.{typesIn}
 use Rattle.types.specs.Making.{Grows}
 use Rattle.types.specs.Calls.{storeBroken}
@@ -20,14 +23,18 @@ use Rattle.units.specs.Unit.{inUse}
 use Rattle.units.specs.Calls.{present}
 use Rattle.units.specs.declared.MaybeUnit.{MaybeUnit}
 use Rattle.pairs.specs.Calls.{tableBroken}
-use Rattle.sums.specs.Calls.{orEmpty}
+use Rattle.sums.specs.Calls.{rootsIn, orEmpty}
 use Rattle.operators.specs.Operators.{isOperator}
 use Rattle.operators.specs.Outcome.{numberOf}
+use Rattle.operators.proofs.Table.{operator-range}
 use Rattle.operators.specs.declared.Outcome.{Outcome}
 use Rattle.members.specs.Members.{Concluded, concluded}
 use Rattle.members.specs.declared.Conclusion.{Conclusion}
-use Rattle.members.proofs.Kept.{Kept}
+use Rattle.members.specs.Leaves.{Leaves}
+use Rattle.members.proofs.Leaves.{leaves-grown}
+use Rattle.members.proofs.Kept.{Kept, number-used}
 use Rattle.unary.specs.Unary.{checkUnary}
+use Rattle.unary.proofs.Kept.{unary-kept}
 use Rattle.indexing.specs.Indexing.{checkIndex}
 use Rattle.answers.specs.Calls.{operandUsed, operandFormed, operandConditions, refused, answered, binaryVerdict, binaryChecked, binaryAnswer, concludedBy, storeAfter, unaryVerdict, unaryUnit, unaryChecked, unaryAnswer, unaryPage, keyed, indexVerdict, indexAnswer, indexPage}
 use Rattle.answers.specs.declared.CheckedExpr.{CheckedExpr}
@@ -98,23 +105,32 @@ module _ (page names : List ℕ) (lent : Bool) (pairs : List ℕ) (op : ℕ) (le
       binary-unfit r v = binary-refused r (rw (d, b, t) (sym v))
 
       pub binary-passed : Passed ≡ lowest (operandConditions page (usedOf names lent) left right)
-          → binaryChecked page pairs op left right ≡ binaryAnswer page names lent pairs op left right
+          → (root : ℕ → ℕ) → ((s : ℕ) → root s ≡ rootsIn pairs s)
+          → binaryChecked page root op left right ≡ binaryAnswer page names lent pairs op left right
       unfolding binaryAnswer
-      binary-passed v = rw (d, b, t, ← v)
+      binary-passed v root same = rw (d, b, t, ← v) (ap (λ (by : ℕ → ℕ). binaryChecked page by op left right) (fun-ext same))
 
 -- ---- a conclusion and the store that it leaves
 
+-- the check of an operator with one operand
+module _ (page : List ℕ) (f : Formed page) (op : ℕ) (d : isOperator op ≡ true) (x : Checked) (u : matching.inUse page x ≡ true)
+    (r : Conclusion) (after : List ℕ) (e : concluded r after ≡ checkUnary page op x) where
+  kept : Kept page (concluded r after)
+  kept = rw e (unary-kept page f op (operator-range op d .0) x u)
+
+  pub unary-used : (o : Outcome) → r ≡ Conclusion.Is o → numberOf (o .checked) < typesIn after
+  unary-used o h = number-used after (o .checked) (kept .used o h)
+
+  pub unary-grown : Grows page after
+  unary-grown = kept .grown
+
+  -- a table of leaves has those of the types that there were
+  pub unary-leaves : (leaves : List ℕ) (n : ℕ) → n ≡ typesIn page → Leaves true page leaves (typesIn page)
+      → (n ≤ typesIn after) × Leaves true after leaves n
+  unary-leaves leaves n is l =
+      (omega (arith, is, kept .grown .more), rw is (leaves-grown true page after f (kept .form) (kept .grown) leaves (typesIn page) (le-refl (typesIn page)) l))
+
 module _ (page : List ℕ) (z : Concluded) (r : Conclusion) (after : List ℕ) (e : concluded r after ≡ z) where
-  module _ (k : Kept page z) where
-    there : Kept page (concluded r after)
-    there = rw e k
-
-    pub used-after : (o : Outcome) → r ≡ Conclusion.Is o → numberOf (o .checked) < typesIn after
-    used-after o h = there .used o h
-
-    pub grown-after : Grows page after
-    grown-after = there .grown
-
   pub unary-is : (op : ℕ) (u : MaybeUnit) (o : Outcome) → r ≡ Conclusion.Is o
       → (answered o (unaryUnit after op o u) ≡ unaryChecked z op u) × (after ≡ storeAfter z page)
   unary-is op u o h = (rw (← e, h) refl, rw (← e, h) refl)

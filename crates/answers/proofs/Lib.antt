@@ -2,3 +2,4 @@
 pub mod Calls
 pub mod Units
 pub mod Sums
+pub mod Grown

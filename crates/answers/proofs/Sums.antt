@@ -1,13 +1,13 @@
 -- Sums and differences of two operands with units (document 01, "Answers"): where the units are not convertible, no type, and so no
--- number, is answered without an error (`sum-errs`); where they are, a type that is answered has the left's unit (`sum-keeps`).
+-- number, is answered without an error (`sum-errs`); where they are, a type that is answered has the left's unit (`sum-keeps`). The same
+-- by the roots of any groups: `checked-errs`, `checked-keeps`.
 -- Assumes nothing.
 use mathlib.Core.Path.{_≡_, refl, sym, ap, _∙_}
-use mathlib.Core.Bool.{Bool, true, false, _&&_, _||_, not, cond}
-use mathlib.Core.List.{List, [], _∷_}
+use mathlib.Core.Bool.{Bool, true, false, _||_, not, cond}
+use mathlib.Core.List.{List, _∷_}
 use Prim.Native.Nat.{ℕ, _<_, _≤_}
 use native.Mathlib.Omega.{arith}
 use lib.Dec.{eqb, leb}
-use lib.ListN.{length}
 use borrow.Author.Tests.{leb-true, le-leb, eqb-false}
 use Rattle.refusals.specs.Lowest.{_when_, lowest}
 use Rattle.refusals.specs.declared.Refusal.the-variants.{Undefined, Broken}
@@ -33,12 +33,11 @@ use Rattle.pairs.specs.Calls.{tableBroken}
 use Rattle.sums.specs.Sums.{convertible}
 use Rattle.sums.specs.Calls.{rootsIn}
 use Rattle.operators.specs.Operators.{isOperator, arithmetic, classOf, adopted, multiplied, divided, compared, ignored, unitRule, noFamily, looks, suits, fits}
-use Rattle.operators.specs.Outcome.{noError, oneError, someFail, outcome, isKnown, passes, misfit, plainBinary, noMember}
+use Rattle.operators.specs.Outcome.{oneError, outcome, isKnown, passes, misfit, plainBinary, noMember}
 use Rattle.operators.specs.declared.Outcome.{Outcome}
-use Rattle.members.specs.Trials.{Tried, errorsOf, only, settled}
-use Rattle.binary.specs.Binary.{familyIn, either, binaryAny, anyRule, besideFunction, checkBinary}
+use Rattle.binary.specs.Binary.{familyIn, either, binaryAny, besideFunction, checkBinary}
 use Rattle.binary.proofs.Rule.{plain-says}
-use Rattle.binary.proofs.Binary.{known-eq, known-passes}
+use Rattle.binary.proofs.Binary.{known-eq, known-passes, any-passes}
 use Rattle.answers.specs.Units.{noUnit, clashes, adoptedBy, binaryUnit}
 use Rattle.answers.specs.Calls.{operandConditions, answered, unless, withUnit, binaryVerdict, binaryChecked, binaryAnswer}
 use Rattle.answers.specs.declared.Answered.{Answered}
@@ -49,20 +48,6 @@ never : false ≡ true → ⊥
 never e = let z : _≡_ {A = ℕ} 0 1 = cc in omega arith
 
 -- ---- a check of a sum or difference
-
--- trials that answer a type pass
-settled-known : (q : Tried) → isKnown (settled q .checked) ≡ true → passes (settled q) ≡ true
-unfolding settled passes errorsOf
-settled-known q = go (q .results) (eqb (q .failed .count) 0)
-  where
-    go : (rs : List ℕ) (b : Bool) → isKnown (cond b (only rs) Unknown) ≡ true
-        → (isKnown (cond b (only rs) Unknown)
-        && eqb (cond b (cond (eqb (length rs) 0) (oneError noMember) noError) (someFail (q .failed .count) (q .failed .left) (q .failed .right)) .count) 0)
-        ≡ true
-    go rs false h = absurd (never h)
-    go [] true h = absurd (never h)
-    go (t ∷ []) true h = refl
-    go (t ∷ u ∷ ts) true h = absurd (never h)
 
 module _ (op : ℕ) (sum : unitRule op ≡ adopted) where
   sum-class : classOf op ≡ arithmetic
@@ -122,7 +107,7 @@ module _ (op : ℕ) (sum : unitRule op ≡ adopted) where
 
     check-known : (x y : Checked) → inUse page x ≡ true → inUse page y ≡ true
         → isKnown (checkBinary page op false x y .checked) ≡ true → passes (checkBinary page op false x y) ≡ true
-    unfolding checkBinary binaryAny anyRule
+    unfolding checkBinary
     check-known Unknown y u v h = absurd (never h)
     check-known (Known l) Unknown u v h = absurd (never h)
     check-known (Known l) (Known r) u v h =
@@ -132,14 +117,67 @@ module _ (op : ℕ) (sum : unitRule op ≡ adopted) where
         go : (b : Bool)
             → isKnown (cond b (binaryAny page op false l r) (plainBinary op false (familyIn page l) (familyIn page r)) .checked) ≡ true
             → passes (cond b (binaryAny page op false l r) (plainBinary op false (familyIn page l) (familyIn page r))) ≡ true
-        go true k = settled-known _ k
+        go true k = any-passes page form op false l r (known-in-use page l u) (known-in-use page r v) ∙ k
         go false k = plain-known (familyIn page l) (familyIn page r) k
     check-known (Known l) (Function g) u v h = beside-known l _ (plain-known (familyIn page l) noFamily) h
     check-known (Function f) Unknown u v h = absurd (never h)
     check-known (Function f) (Known r) u v h = beside-known r _ (plain-known noFamily (familyIn page r)) h
     check-known (Function f) (Function g) u v h = plain-known noFamily noFamily h
 
--- ---- the answer
+-- ---- the answer, by the roots of any groups
+
+module _ (page : List ℕ) (form : Formed page) (root : ℕ → ℕ) (op : ℕ) (left right : CheckedExpr) (sum : unitRule op ≡ adopted)
+    (l : unitless (left .unit) ≡ false) (r : unitless (right .unit) ≡ false) (u : inUse page (left .checked) ≡ true)
+    (v : inUse page (right .checked) ≡ true) (t : ℕ) (known : binaryChecked page root op left right .checked ≡ Known t) where
+  module _ (apart : convertible namesMax root (termsOf (left .unit .unit)) (termsOf (right .unit .unit)) ≡ false) where
+    clash : clashes root (left .unit) (right .unit) ≡ true
+    unfolding clashes
+    clash = rw (l, r, apart) refl
+
+    fails : passes (checkBinary page op true (left .checked) (right .checked)) ≡ false
+    fails = clash-fails op sum page form (left .checked) (right .checked) u v
+
+    is-outcome : binaryChecked page root op left right ≡ answered (checkBinary page op true (left .checked) (right .checked)) noUnit
+    unfolding binaryChecked withUnit
+    is-outcome = rw (clash, fails) refl
+
+    pub checked-errs : 0 < binaryChecked page root op left right .errors .count
+    unfolding passes
+    checked-errs =
+        let o = checkBinary page op true (left .checked) (right .checked) in
+        let k : o .checked ≡ Known t = ap (λ (a : Answered). a .checked) (sym is-outcome) ∙ known in
+        let n : eqb (o .errors .count) 0 ≡ false = rw k at fails in
+        rw is-outcome (omega (arith, eqb-false (o .errors .count) 0 n))
+
+  module _ (together : convertible namesMax root (termsOf (left .unit .unit)) (termsOf (right .unit .unit)) ≡ true) where
+    no-clash : clashes root (left .unit) (right .unit) ≡ false
+    unfolding clashes
+    no-clash = rw (l, r, together) refl
+
+    left-unit : binaryUnit op (left .unit) (right .unit) ≡ record { verdict = Passed; unit = left .unit }
+    unfolding binaryUnit adoptedBy
+    left-unit = rw (sum, l) refl
+
+    -- whether or not the check passes, its type is answered
+    is-either : binaryChecked page root op left right
+        ≡ cond (passes (checkBinary page op false (left .checked) (right .checked)))
+        (answered (checkBinary page op false (left .checked) (right .checked)) (left .unit))
+        (answered (checkBinary page op false (left .checked) (right .checked)) noUnit)
+    unfolding binaryChecked withUnit
+    is-either = rw (no-clash, left-unit) refl
+
+    pub checked-keeps : binaryChecked page root op left right .unit ≡ left .unit
+    checked-keeps =
+        let o = checkBinary page op false (left .checked) (right .checked) in
+        let k : o .checked ≡ Known t = sym (either-way (passes o) o) ∙ ap (λ (a : Answered). a .checked) (sym is-either) ∙ known in
+        let p = check-known op sum page form (left .checked) (right .checked) u v (rw k refl) in
+        rw (is-either, p) refl
+      where
+        either-way : (b : Bool) (o : Outcome) → cond b (answered o (left .unit)) (answered o noUnit) .checked ≡ o .checked
+        either-way true o = refl
+        either-way false o = refl
+
+-- ---- and of the call
 
 module _ (page names : List ℕ) (lent : Bool) (pairs : List ℕ) (op : ℕ) (left right : CheckedExpr) (sum : unitRule op ≡ adopted)
     (l : unitless (left .unit) ≡ false) (r : unitless (right .unit) ≡ false)
@@ -150,9 +188,9 @@ module _ (page names : List ℕ) (lent : Bool) (pairs : List ℕ) (op : ℕ) (le
 
   verdict : binaryVerdict page names lent pairs op left right ≡ Passed
   unfolding binaryAnswer
-  verdict = not-refused _ (binaryChecked page pairs op left right) passed
+  verdict = not-refused _ (binaryChecked page (rootsIn pairs) op left right) passed
 
-  is-checked : binaryAnswer page names lent pairs op left right ≡ binaryChecked page pairs op left right
+  is-checked : binaryAnswer page names lent pairs op left right ≡ binaryChecked page (rootsIn pairs) op left right
   unfolding binaryAnswer
   is-checked = rw verdict refl
 
@@ -174,50 +212,16 @@ module _ (page names : List ℕ) (lent : Bool) (pairs : List ℕ) (op : ℕ) (le
   used = passed-used page (usedOf names lent) left right (behind .1)
 
   module _ (t : ℕ) (known : binaryAnswer page names lent pairs op left right .checked ≡ Known t) where
-    module _ (apart : convertible namesMax (rootsIn pairs) (termsOf (left .unit .unit)) (termsOf (right .unit .unit)) ≡ false) where
-      clash : clashes (rootsIn pairs) (left .unit) (right .unit) ≡ true
-      unfolding clashes
-      clash = rw (l, r, apart) refl
+    is-known : binaryChecked page (rootsIn pairs) op left right .checked ≡ Known t
+    is-known = ap (λ (a : Answered). a .checked) (sym is-checked) ∙ known
 
-      fails : passes (checkBinary page op true (left .checked) (right .checked)) ≡ false
-      fails = clash-fails op sum page form (left .checked) (right .checked) (used .0) (used .1)
+    pub sum-errs : convertible namesMax (rootsIn pairs) (termsOf (left .unit .unit)) (termsOf (right .unit .unit)) ≡ false
+        → 0 < binaryAnswer page names lent pairs op left right .errors .count
+    sum-errs apart =
+        rw is-checked (checked-errs page form (rootsIn pairs) op left right sum l r (used .0) (used .1) t is-known apart)
 
-      is-outcome : binaryAnswer page names lent pairs op left right ≡ answered (checkBinary page op true (left .checked) (right .checked)) noUnit
-      unfolding binaryChecked withUnit
-      is-outcome = is-checked ∙ rw (clash, fails) refl
-
-      pub sum-errs : 0 < binaryAnswer page names lent pairs op left right .errors .count
-      unfolding passes
-      sum-errs =
-          let o = checkBinary page op true (left .checked) (right .checked) in
-          let k : o .checked ≡ Known t = ap (λ (a : Answered). a .checked) (sym is-outcome) ∙ known in
-          let n : eqb (o .errors .count) 0 ≡ false = rw k at fails in
-          rw is-outcome (omega (arith, eqb-false (o .errors .count) 0 n))
-
-    module _ (together : convertible namesMax (rootsIn pairs) (termsOf (left .unit .unit)) (termsOf (right .unit .unit)) ≡ true) where
-      no-clash : clashes (rootsIn pairs) (left .unit) (right .unit) ≡ false
-      unfolding clashes
-      no-clash = rw (l, r, together) refl
-
-      left-unit : binaryUnit op (left .unit) (right .unit) ≡ record { verdict = Passed; unit = left .unit }
-      unfolding binaryUnit adoptedBy
-      left-unit = rw (sum, l) refl
-
-      -- whether or not the check passes, its type is answered
-      is-either : binaryAnswer page names lent pairs op left right
-          ≡ cond (passes (checkBinary page op false (left .checked) (right .checked)))
-          (answered (checkBinary page op false (left .checked) (right .checked)) (left .unit))
-          (answered (checkBinary page op false (left .checked) (right .checked)) noUnit)
-      unfolding binaryChecked withUnit
-      is-either = is-checked ∙ rw (no-clash, left-unit) refl
-
-      pub sum-keeps : binaryAnswer page names lent pairs op left right .unit ≡ left .unit
-      sum-keeps =
-          let o = checkBinary page op false (left .checked) (right .checked) in
-          let k : o .checked ≡ Known t = sym (either-way (passes o) o) ∙ ap (λ (a : Answered). a .checked) (sym is-either) ∙ known in
-          let p = check-known op sum page form (left .checked) (right .checked) (used .0) (used .1) (rw k refl) in
-          rw (is-either, p) refl
-        where
-          either-way : (b : Bool) (o : Outcome) → cond b (answered o (left .unit)) (answered o noUnit) .checked ≡ o .checked
-          either-way true o = refl
-          either-way false o = refl
+    pub sum-keeps : convertible namesMax (rootsIn pairs) (termsOf (left .unit .unit)) (termsOf (right .unit .unit)) ≡ true
+        → binaryAnswer page names lent pairs op left right .unit ≡ left .unit
+    sum-keeps together =
+        ap (λ (a : Answered). a .unit) is-checked
+        ∙ checked-keeps page form (rootsIn pairs) op left right sum l r (used .0) (used .1) t is-known together

@@ -1,5 +1,5 @@
 -- Units in answers. Assumes nothing.
-use mathlib.Core.Path.{_≡_, refl, fun-ext}
+use mathlib.Core.Path.{_≡_, refl}
 use mathlib.Core.Bool.{Bool, true, false, not}
 use Prim.Native.Nat.{ℕ}
 use native.Mathlib.Omega.{arith}
@@ -21,10 +21,9 @@ some-unit m h = go (m .some) (m .unit) refl
     go false u e = absurd (let k = rw e at h in let z : _≡_ {A = ℕ} 0 1 = cc in omega arith)
 
 -- two units that are not unitless clash where they are not convertible
-pub clash-by : (root walked : ℕ → ℕ) → ((s : ℕ) → walked s ≡ root s) → (left right : MaybeUnit) → unitless left ≡ false → unitless right ≡ false
-    → (b : Bool) → b ≡ convertible namesMax walked (termsOf (orEmpty left)) (termsOf (orEmpty right)) → not b ≡ clashes root left right
+pub clash-by : (root : ℕ → ℕ) (left right : MaybeUnit) → unitless left ≡ false → unitless right ≡ false
+    → (b : Bool) → b ≡ convertible namesMax root (termsOf (orEmpty left)) (termsOf (orEmpty right)) → not b ≡ clashes root left right
 unfolding clashes
-clash-by root walked same left right l r b e =
-    let f : b ≡ convertible namesMax root (termsOf (left .unit)) (termsOf (right .unit)) =
-    rw (fun-ext same, some-unit left l, some-unit right r) at e in
+clash-by root left right l r b e =
+    let f : b ≡ convertible namesMax root (termsOf (left .unit)) (termsOf (right .unit)) = rw (some-unit left l, some-unit right r) at e in
     rw (l, r, f)

@@ -81,15 +81,15 @@ binaryVerdict page names lent pairs op left right =
 unfoldable pub withUnit : Outcome → MaybeResult → Answered
 withUnit o u = cond (passes o) (unless (u .verdict) (answered o (u .unit))) (answered o noUnit)
 
--- the operands' units enter the check by one test, whether they clash
-unfoldable pub binaryChecked : List ℕ → List ℕ → ℕ → CheckedExpr → CheckedExpr → Answered
-binaryChecked page pairs op left right =
-    withUnit (checkBinary page op (clashes (rootsIn pairs) (left .unit) (right .unit)) (left .checked) (right .checked))
+-- the operands' units enter the check by one test, whether they clash by the roots of the groups
+unfoldable pub binaryChecked : List ℕ → (ℕ → ℕ) → ℕ → CheckedExpr → CheckedExpr → Answered
+binaryChecked page root op left right =
+    withUnit (checkBinary page op (clashes root (left .unit) (right .unit)) (left .checked) (right .checked))
     (binaryUnit op (left .unit) (right .unit))
 
 unfoldable pub binaryAnswer : List ℕ → List ℕ → Bool → List ℕ → ℕ → CheckedExpr → CheckedExpr → Answered
 binaryAnswer page names lent pairs op left right =
-    unless (binaryVerdict page names lent pairs op left right) (binaryChecked page pairs op left right)
+    unless (binaryVerdict page names lent pairs op left right) (binaryChecked page (rootsIn pairs) op left right)
 
 -- ---- calls whose answer may enter a union into the store
 
@@ -108,7 +108,7 @@ storeAfter q page = leftBy (q .conclusion) (q .store) page
 
 -- ---- `check_unary_operator`
 
--- the operand is judged as if it was given twice
+-- the operand is judged as if it were given twice
 abbrev pub unaryVerdict : List ℕ → List ℕ → Bool → ℕ → CheckedExpr → Verdict
 unaryVerdict page names lent op x =
     lowest

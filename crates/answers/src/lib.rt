@@ -2,6 +2,7 @@
 // the source's structs.rs).
 use matching::Checked;
 use members::Conclusion;
+use names::Symbol;
 use operators::ADOPTED;
 use operators::DIVIDED;
 use operators::Errors;
@@ -17,20 +18,20 @@ use types::no_offsets;
 use units::MaybeUnit;
 use units::Unit;
 ghost use mathlib.Core.Path.{_≡_};
-ghost use mathlib.Core.Bool.{true};
+ghost use mathlib.Core.Bool.{true, false};
 ghost use Prim.Native.Nat.{_≤_, _<_};
 ghost use lib.ListN.{length};
 ghost use Rattle.refusals.specs.Lowest.{lowest};
-ghost use Rattle.names.specs.Table.{namesMax};
 ghost use Rattle.pages.specs.Bytes.{countBytes};
 ghost use Rattle.types.specs.Types.{typesIn, Held, Measured};
 ghost use Rattle.types.specs.Making.{takenBack};
 ghost use Rattle.matching.specs.Matching.{inUse};
+ghost use Rattle.matching.specs.Memo.{Noted, Found};
 ghost use Rattle.units.specs.Calls.{unitless};
-ghost use Rattle.pairs.specs.Page as pairs;
-ghost use Rattle.sums.specs.Calls.{rootsIn};
+ghost use Rattle.groups.specs.Groups.{walk};
 ghost use Rattle.operators.specs.Operators.{isOperator};
 ghost use Rattle.operators.specs.Outcome.{numberOf};
+ghost use Rattle.members.specs.Leaves.{Leaves};
 ghost use Rattle.unary.specs.Unary.{checkUnary};
 ghost use Rattle.indexing.specs.Indexing.{checkIndex};
 ghost use Rattle.answers.specs.Units.{noUnit, clashes, adoptedBy, orNone, combined, binaryUnit};
@@ -103,11 +104,15 @@ fn is_dimensionless(m: MaybeUnit) -> bool
     u.count == 0
 }
 
-// Whether two operands' units clash: `add_unit_mismatch` of the source.
-fn add_unit_mismatch(table: &[u8], left: CheckedExpr, right: CheckedExpr) -> bool
-    requires { ⌜ pairs.formed (now table) namesMax ≡ true ⌝ }
+// Whether two operands' units clash, where so many steps lead from a symbol to its root: `add_unit_mismatch` of the source.
+fn add_unit_mismatch(
+    parents: &[Symbol],
+    steps: usize,
+    left: CheckedExpr,
+    right: CheckedExpr,
+) -> bool
     requires { ⌜ (operandFormed left ≡ true) × (operandFormed right ≡ true) ⌝ }
-    ensures { λ r. ⌜ r ≡ clashes (rootsIn (now (table .entry))) (left .unit) (right .unit) ⌝ }
+    ensures { λ r. ⌜ r ≡ clashes (walk steps (now (parents .entry))) (left .unit) (right .unit) ⌝ }
 {
     if is_dimensionless(left.unit) {
         return false;
@@ -117,7 +122,7 @@ fn add_unit_mismatch(table: &[u8], left: CheckedExpr, right: CheckedExpr) -> boo
     }
     let a = sums::or_empty(left.unit);
     let b = sums::or_empty(right.unit);
-    !sums::convertible(pairs::parents_of(table), pages::count(table), a, b)
+    !sums::convertible(parents, steps, a, b)
 }
 
 // The unit of a sum: a unitless side adopts the other's.
@@ -240,27 +245,28 @@ fn operands_verdict(
     Verdict::Passed
 }
 
-// What a binary operator answers for two operands in use, over a table of pairs in form.
-fn binary_checked(
+// What a binary operator answers for two operands in use, by the parents of symbols and the leaves of types, for crates above
+// (`check_binary_operator` is the entry call, and tests the forms).
+pub fn binary_checked(
     page: &[u8],
     offsets: &[usize],
-    table: &[u8],
+    leaves: &[u16],
+    parents: &[Symbol],
+    steps: usize,
     op: usize,
     left: CheckedExpr,
     right: CheckedExpr,
 ) -> Answered
     requires { ⌜ Held (now page) (now offsets) ⌝ }
-    requires { ⌜ pairs.formed (now table) namesMax ≡ true ⌝ }
+    requires { ⌜ Leaves false (now page) (now leaves) (typesIn (now page)) ⌝ }
     requires { ⌜ (isOperator op ≡ true) × (inUse (now page) (left .checked) ≡ true) × (inUse (now page) (right .checked) ≡ true) ⌝ }
     requires { ⌜ (operandFormed left ≡ true) × (operandFormed right ≡ true) ⌝ }
-    ensures { λ r. ⌜ r ≡ binaryChecked (now (page .entry)) (now (table .entry)) op left right ⌝ }
+    ensures { λ r. ⌜ r ≡ binaryChecked (now (page .entry)) (walk steps (now (parents .entry))) op left right ⌝ }
 {
-    let clash = add_unit_mismatch(table, left, right);
-    let mut leaves = members::no_leaves();
-    members::fill_leaves(page, offsets, &mut leaves, false, 0);
+    let clash = add_unit_mismatch(parents, steps, left, right);
     let l = left.checked;
     let r = right.checked;
-    let o = binary::check_binary(page, offsets, &leaves, op, clash, l, r);
+    let o = binary::check_binary(page, offsets, leaves, op, clash, l, r);
     with_unit(o, binary_unit(op, left.unit, right.unit))
 }
 
@@ -292,7 +298,11 @@ pub fn check_binary_operator(
     if let Verdict::Refused(r) = verdict {
         return refuse(r);
     }
-    binary_checked(page, &offsets, table, op, left, right)
+    let mut leaves = members::no_leaves();
+    members::fill_leaves(page, &offsets, &mut leaves, false, 0);
+    let parents = pairs::parents_of(table);
+    let steps = pages::count(table);
+    binary_checked(page, &offsets, &leaves, &parents, steps, op, left, right)
 }
 
 // The unit of an operator's answer on one operand with that unit: − keeps it, unless its answer is a union.
@@ -320,6 +330,26 @@ fn unary_unit(
     unit
 }
 
+// What a check that is not refused answers, and the leaves of the types from n on, which it entered.
+fn unary_answer(
+    page: &[u8],
+    offsets: &[usize],
+    leaves: &mut [u16],
+    n: usize,
+    op: usize,
+    outcome: Outcome,
+    unit: MaybeUnit,
+) -> Answered
+    requires { ⌜ Held (now page) (now offsets) ⌝ }
+    requires { ⌜ (n ≤ typesIn (now page)) × Leaves true (now page) (now leaves) n ⌝ }
+    requires { ⌜ numberOf (outcome .checked) < typesIn (now page) ⌝ }
+    ensures { λ r. ⌜ r ≡ answered outcome (unaryUnit (now (page .entry)) op outcome unit) ⌝ }
+    ensures { λ _. ⌜ Leaves true (now (page .entry)) (now (leaves .exit)) (typesIn (now (page .entry))) ⌝ }
+{
+    members::fill_leaves(page, offsets, leaves, true, n);
+    answer(outcome, unary_unit(page, offsets, op, outcome, unit))
+}
+
 // Puts the store back where it was before a union that is refused, and refuses.
 fn put_back(page: &mut [u8], front: Word, end: usize, refusal: Refusal) -> Answered
     requires { ⌜ (countBytes ≤ end) × (end ≤ length (now page)) ⌝ }
@@ -329,27 +359,31 @@ fn put_back(page: &mut [u8], front: Word, end: usize, refusal: Refusal) -> Answe
     refuse(refusal)
 }
 
-// What an operator answers for one operand in use; a union that it answers enters the store.
-fn unary_checked(
+// What an operator answers for one operand in use; a union that it answers enters the store. The tables stay right for the store
+// that it leaves. For crates above (`check_unary_operator` is the entry call, and tests the forms).
+pub fn unary_checked(
     page: &mut [u8],
     offsets: &mut [usize],
     depths: &mut [u8],
+    leaves: &mut [u16],
     op: usize,
     x: CheckedExpr,
 ) -> Answered
     requires { ⌜ Measured (now page) (now offsets) (now depths) ⌝ }
+    requires { ⌜ Leaves true (now page) (now leaves) (typesIn (now page)) ⌝ }
     requires { ⌜ (isOperator op ≡ true) × (inUse (now page) (x .checked) ≡ true) ⌝ }
     ensures { λ r. ⌜ r ≡ unaryChecked (checkUnary (now (page .entry)) op (x .checked)) op (x .unit) ⌝ }
     ensures { λ _. ⌜ now (page .exit) ≡ storeAfter (checkUnary (now (page .entry)) op (x .checked)) (now (page .entry)) ⌝ }
+    ensures { λ _. ⌜ Measured (now (page .exit)) (now (offsets .exit)) (now (depths .exit)) ⌝ }
+    ensures { λ _. ⌜ Leaves true (now (page .exit)) (now (leaves .exit)) (typesIn (now (page .exit))) ⌝ }
 {
     let front = types::front(page);
-    let end = types::offset_of(offsets, types::count(page));
-    let mut leaves = members::no_leaves();
-    members::fill_leaves(page, offsets, &mut leaves, true, 0);
+    let n = types::count(page);
+    let end = types::offset_of(offsets, n);
     let c = x.checked;
-    let conclusion = unary::check_unary(page, offsets, depths, &leaves, op, c);
+    let conclusion = unary::check_unary(page, offsets, depths, leaves, op, c);
     match conclusion {
-        Conclusion::Is(o) => answer(o, unary_unit(page, offsets, op, o, x.unit)),
+        Conclusion::Is(o) => unary_answer(page, offsets, leaves, n, op, o, x.unit),
         Conclusion::Refused(r) => put_back(page, front, end, r),
     }
 }
@@ -377,25 +411,31 @@ pub fn check_unary_operator(
     if let Verdict::Refused(r) = verdict {
         return refuse(r);
     }
-    unary_checked(page, &mut offsets, &mut depths, op, x)
+    let mut leaves = members::no_leaves();
+    members::fill_leaves(page, &offsets, &mut leaves, true, 0);
+    unary_checked(page, &mut offsets, &mut depths, &mut leaves, op, x)
 }
 
-// What indexing a target in use by a key in use answers; a union that it answers enters the store.
-fn index_checked(
+// What indexing a target in use by a key in use answers; a union that it answers enters the store. The tables, and what matching
+// has found, stay right for the store that it leaves. For crates above (`check_index` is the entry call, and tests the forms).
+pub fn index_checked(
     page: &mut [u8],
     offsets: &mut [usize],
     depths: &mut [u8],
+    memo: &mut [usize],
     target: CheckedExpr,
     key: Checked,
 ) -> Answered
     requires { ⌜ Measured (now page) (now offsets) (now depths) ⌝ }
     requires { ⌜ (inUse (now page) (target .checked) ≡ true) × (inUse (now page) key ≡ true) ⌝ }
+    requires { ⌜ Noted (Found (now page)) (now memo) ⌝ }
     ensures { λ r. ⌜ r ≡ concludedBy (checkIndex (now (page .entry)) key (target .checked) .conclusion) (target .unit) ⌝ }
     ensures { λ _. ⌜ now (page .exit) ≡ storeAfter (checkIndex (now (page .entry)) key (target .checked)) (now (page .entry)) ⌝ }
+    ensures { λ _. ⌜ Measured (now (page .exit)) (now (offsets .exit)) (now (depths .exit)) ⌝ }
+    ensures { λ _. ⌜ Noted (Found (now (page .exit))) (now (memo .exit)) ⌝ }
 {
-    let mut memo = matching::no_memo();
     let c = target.checked;
-    let conclusion = indexing::check_index(page, offsets, depths, &mut memo, c, key);
+    let conclusion = indexing::check_index(page, offsets, depths, memo, c, key);
     match conclusion {
         Conclusion::Is(o) => answer(o, target.unit),
         Conclusion::Refused(r) => refuse(r),
@@ -426,5 +466,6 @@ pub fn check_index(
     if let Verdict::Refused(r) = verdict {
         return refuse(r);
     }
-    index_checked(page, &mut offsets, &mut depths, target, key)
+    let mut memo = matching::no_memo();
+    index_checked(page, &mut offsets, &mut depths, &mut memo, target, key)
 }

@@ -3,6 +3,8 @@ use mathlib.Core.Path.{sym, _∙_}
 use denote.Ref.{now}
 use borrow.Author.Tests.{not-false}
 use Rattle.types.proofs.Calls.{unbroken-both}
+use Rattle.matching.specs.Memo.{Found}
+use Rattle.matching.proofs.Memo.{noted-none}
 use Rattle.answers.proofs.Calls.{passed-used, index-broken, index-unfit, index-passed}
 use borrow.Author.Needs.{needs}
 use Rattle.answers.proofs.check_index.Statement.{statement}
@@ -86,55 +88,40 @@ returns-2 c =
 enum-told : tie.Need-enum-told
 enum-told c = search needs
 
+no-memo-requires : tie.Need-no-memo-requires
+no-memo-requires c κs = search needs
+
 slice-aggregate-index-checked : tie.Need-slice-aggregate-index-checked
 slice-aggregate-index-checked c = search needs
 
 slice-aggregate-index-checked-2 : tie.Need-slice-aggregate-index-checked-2
 slice-aggregate-index-checked-2 c = search needs
 
+slice-aggregate-index-checked-3 : tie.Need-slice-aggregate-index-checked-3
+slice-aggregate-index-checked-3 c = search needs
+
 index-checked-requires : tie.Need-index-checked-requires
 index-checked-requires c κs =
-    let operands-verdict = c .before .before .before .before .before .operands-verdict in
-    let enum-told = c .before .before .before .enum-told in
-    let start =
-    c .before .before .before .before .before .before .before .before .before .before .before .before .before .before .before
-    .before .before .before .before .before .before in
-    let in-use = c .before .before .before .before .before .before .before .before .before .in-use in
-    let no-unit = c .before .before .before .before .before .before .before .before .no-unit in
-    let opened =
-    c .before .before .before .before .before .before .before .before .before .before .before .before .before .opened in
-    let if1 = c .before .before .before .before .before .before .before .before .before .before .if1 in
-    let v = sym (operands-verdict .ensures) ∙ enum-told .given .1 in
-    let used =
-    passed-used (now (start .args .page)) (in-use .result) (start .args .target)
-    (record { checked = start .args .key; unit = no-unit .result }) v in
-    ((opened .ensures .1 (not-false (opened .result) (if1 .left))), (used .0, used .1))
+    let start = c .before .before .before .before .before .before .before .before .before .before .before .before .before .before .before .before .before .before .before .before .before .before .before in
+    let opened = c .before .before .before .before .before .before .before .before .before .before .before .before .before .before .before .opened in
+    let page = now (start .args .page) in
+    let v = sym (c .before .before .before .before .before .before .before .operands-verdict .ensures) ∙ c .before .before .before .before .before .enum-told .given .1 in
+    let used = passed-used page (c .before .before .before .before .before .before .before .before .before .before .before .in-use .result) (start .args .target) (record { checked = start .args .key; unit = c .before .before .before .before .before .before .before .before .before .before .no-unit .result }) v in (
+      opened .ensures .1 (not-false (opened .result) (c .before .before .before .before .before .before .before .before .before .before .before .before .if1 .left)),
+      ((used .0, used .1), rw (c .before .before .before .before .no-memo .ensures) (noted-none (Found page))),
+    )
 
 same-length-3 : tie.Need-same-length-3
 same-length-3 c = search needs
 
 returns-3 : tie.Need-returns-3
 returns-3 c =
-    let start =
-    c .before .before .before .before .before .before .before .before .before .before .before .before .before .before .before
-    .before .before .before .before .before .before .before .before .before .before .before in
-    let opened =
-    c .before .before .before .before .before .before .before .before .before .before .before .before .before .before .before
-    .before .before .before .opened in
-    let if1 =
-    c .before .before .before .before .before .before .before .before .before .before .before .before .before .before .before .if1
-    in
-    let enum-told = c .before .before .before .before .before .before .before .before .enum-told in
-    let in-use =
-    c .before .before .before .before .before .before .before .before .before .before .before .before .before .before .in-use in
-    let no-unit =
-    c .before .before .before .before .before .before .before .before .before .before .before .before .before .no-unit in
-    let operands-verdict = c .before .before .before .before .before .before .before .before .before .before .operands-verdict in
-    let index-checked = c .before .before .before .before .index-checked in
+    let start = c .before .before .before .before .before .before .before .before .before .before .before .before .before .before .before .before .before .before .before .before .before .before .before .before .before .before .before .before .before in
+    let index-checked = c .before .before .before .before .before .index-checked in
     index-passed (now (start .args .page)) (now (start .args .names)) (start .args .lent) (start .args .target) (start .args .key)
-    (opened .ensures .0 ∙ if1 .left)
-    (sym (enum-told .given .1) ∙ rw (in-use .ensures .0, no-unit .ensures) at (operands-verdict .ensures))
-    (index-checked .ensures .0) (index-checked .ensures .1)
+    (c .before .before .before .before .before .before .before .before .before .before .before .before .before .before .before .before .before .before .before .before .before .opened .ensures .0 ∙ c .before .before .before .before .before .before .before .before .before .before .before .before .before .before .before .before .before .before .if1 .left)
+    (sym (c .before .before .before .before .before .before .before .before .before .before .before .enum-told .given .1) ∙ rw (c .before .before .before .before .before .before .before .before .before .before .before .before .before .before .before .before .before .in-use .ensures .0, c .before .before .before .before .before .before .before .before .before .before .before .before .before .before .before .before .no-unit .ensures) at (c .before .before .before .before .before .before .before .before .before .before .before .before .before .operands-verdict .ensures))
+    (index-checked .ensures .0) (index-checked .ensures .1 .0)
 
 pub check-index-spec : {M : Type 1} → statement M
 check-index-spec =
@@ -157,8 +144,10 @@ check-index-spec =
     same-length-2
     returns-2
     enum-told
+    no-memo-requires
     slice-aggregate-index-checked
     slice-aggregate-index-checked-2
+    slice-aggregate-index-checked-3
     index-checked-requires
     same-length-3
     returns-3)

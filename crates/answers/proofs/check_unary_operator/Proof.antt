@@ -1,6 +1,7 @@
 -- `answers::check_unary_operator` meets its contract. Assumes nothing.
 use mathlib.Core.Path.{sym, _∙_}
 use denote.Ref.{now}
+use native.Mathlib.Omega.{arith}
 use borrow.Author.Tests.{not-true, not-false}
 use Rattle.types.proofs.Calls.{unbroken-both}
 use Rattle.answers.proofs.Calls.{passed-used, unary-undefined, unary-broken, unary-unfit, unary-passed}
@@ -106,34 +107,40 @@ returns-3 c =
 enum-told : tie.Need-enum-told
 enum-told c = search needs
 
+no-leaves-requires : tie.Need-no-leaves-requires
+no-leaves-requires c κs = search needs
+
+slice-aggregate-fill-leaves : tie.Need-slice-aggregate-fill-leaves
+slice-aggregate-fill-leaves c = search needs
+
+slice-aggregate-fill-leaves-2 : tie.Need-slice-aggregate-fill-leaves-2
+slice-aggregate-fill-leaves-2 c = search needs
+
+fill-leaves-requires : tie.Need-fill-leaves-requires
+fill-leaves-requires c κs = (c .before .before .before .before .before .before .before .before .before .before .before .before .before .opened .ensures .1 (not-false (c .before .before .before .before .before .before .before .before .before .before .before .before .before .opened .result) (c .before .before .before .before .before .before .before .before .before .before .if2 .left)) .held, (omega arith, search needs))
+
 slice-aggregate-unary-checked : tie.Need-slice-aggregate-unary-checked
 slice-aggregate-unary-checked c = search needs
 
 slice-aggregate-unary-checked-2 : tie.Need-slice-aggregate-unary-checked-2
 slice-aggregate-unary-checked-2 c = search needs
 
+slice-aggregate-unary-checked-3 : tie.Need-slice-aggregate-unary-checked-3
+slice-aggregate-unary-checked-3 c = search needs
+
 unary-checked-requires : tie.Need-unary-checked-requires
 unary-checked-requires c κs =
-    let operands-verdict = c .before .before .before .before .before .operands-verdict in
-    let enum-told = c .before .before .before .enum-told in
-    let opened = c .before .before .before .before .before .before .before .before .before .before .before .before .opened in
-    let if2 = c .before .before .before .before .before .before .before .before .before .if2 in
-    let is-operator =
-    c .before .before .before .before .before .before .before .before .before .before .before .before .before .before .before
-    .before .before .before .before .is-operator in
-    let if1 =
-    c .before .before .before .before .before .before .before .before .before .before .before .before .before .before .before
-    .before .before .before .if1 in
-    let start =
-    c .before .before .before .before .before .before .before .before .before .before .before .before .before .before .before
-    .before .before .before .before .before .before .before in
-    let in-use = c .before .before .before .before .before .before .before .before .in-use in
-    let v = sym (operands-verdict .ensures) ∙ enum-told .given .1 in (
-      (opened .ensures .1 (not-false (opened .result) (if2 .left))),
+    let start = c .before .before .before .before .before .before .before .before .before .before .before .before .before .before .before .before .before .before .before .before .before .before .before .before .before .before .before .before .before in
+    let opened = c .before .before .before .before .before .before .before .before .before .before .before .before .before .before .before .before .before .before .before .opened in
+    let is-operator = c .before .before .before .before .before .before .before .before .before .before .before .before .before .before .before .before .before .before .before .before .before .before .before .before .before .before .is-operator in
+    let v = sym (c .before .before .before .before .before .before .before .before .before .before .before .before .operands-verdict .ensures) ∙ c .before .before .before .before .before .before .before .before .before .before .enum-told .given .1 in (
+      opened .ensures .1 (not-false (opened .result) (c .before .before .before .before .before .before .before .before .before .before .before .before .before .before .before .before .if2 .left)),
       (
-        (sym (is-operator .ensures) ∙ not-false (is-operator .result) (if1 .left)),
-        passed-used (now (start .args .page))
-            (in-use .result) (start .args .x) (start .args .x) v .0,
+        c .before .before .before .before .before .fill-leaves .ensures,
+        (
+          sym (is-operator .ensures) ∙ not-false (is-operator .result) (c .before .before .before .before .before .before .before .before .before .before .before .before .before .before .before .before .before .before .before .before .before .before .before .before .before .if1 .left),
+          passed-used (now (start .args .page)) (c .before .before .before .before .before .before .before .before .before .before .before .before .before .before .before .in-use .result) (start .args .x) (start .args .x) v .0,
+        ),
       ),
     )
 
@@ -142,29 +149,13 @@ same-length-3 c = search needs
 
 returns-4 : tie.Need-returns-4
 returns-4 c =
-    let start =
-    c .before .before .before .before .before .before .before .before .before .before .before .before .before .before .before
-    .before .before .before .before .before .before .before .before .before .before .before .before in
-    let is-operator =
-    c .before .before .before .before .before .before .before .before .before .before .before .before .before .before .before
-    .before .before .before .before .before .before .before .before .before .is-operator in
-    let if1 =
-    c .before .before .before .before .before .before .before .before .before .before .before .before .before .before .before
-    .before .before .before .before .before .before .before .before .if1 in
-    let opened =
-    c .before .before .before .before .before .before .before .before .before .before .before .before .before .before .before
-    .before .before .opened in
-    let if2 =
-    c .before .before .before .before .before .before .before .before .before .before .before .before .before .before .if2 in
-    let enum-told = c .before .before .before .before .before .before .before .before .enum-told in
-    let in-use =
-    c .before .before .before .before .before .before .before .before .before .before .before .before .before .in-use in
-    let operands-verdict = c .before .before .before .before .before .before .before .before .before .before .operands-verdict in
-    let unary-checked = c .before .before .before .before .unary-checked in
+    let start = c .before .before .before .before .before .before .before .before .before .before .before .before .before .before .before .before .before .before .before .before .before .before .before .before .before .before .before .before .before .before .before .before .before .before .before in
+    let is-operator = c .before .before .before .before .before .before .before .before .before .before .before .before .before .before .before .before .before .before .before .before .before .before .before .before .before .before .before .before .before .before .before .before .is-operator in
+    let unary-checked = c .before .before .before .before .before .unary-checked in
     unary-passed (now (start .args .page)) (now (start .args .names)) (start .args .lent) (start .args .op) (start .args .x)
-    (sym (is-operator .ensures) ∙ not-false (is-operator .result) (if1 .left)) (opened .ensures .0 ∙ if2 .left)
-    (sym (enum-told .given .1) ∙ rw (in-use .ensures .0) at (operands-verdict .ensures)) (unary-checked .ensures .0)
-    (unary-checked .ensures .1)
+    (sym (is-operator .ensures) ∙ not-false (is-operator .result) (c .before .before .before .before .before .before .before .before .before .before .before .before .before .before .before .before .before .before .before .before .before .before .before .before .before .before .before .before .before .before .before .if1 .left)) (c .before .before .before .before .before .before .before .before .before .before .before .before .before .before .before .before .before .before .before .before .before .before .before .before .before .opened .ensures .0 ∙ c .before .before .before .before .before .before .before .before .before .before .before .before .before .before .before .before .before .before .before .before .before .before .if2 .left)
+    (sym (c .before .before .before .before .before .before .before .before .before .before .before .before .before .before .before .before .enum-told .given .1) ∙ rw (c .before .before .before .before .before .before .before .before .before .before .before .before .before .before .before .before .before .before .before .before .before .in-use .ensures .0) at (c .before .before .before .before .before .before .before .before .before .before .before .before .before .before .before .before .before .before .operands-verdict .ensures)) (unary-checked .ensures .0)
+    (unary-checked .ensures .1 .0)
 
 pub check-unary-operator-spec : {M : Type 1} → statement M
 check-unary-operator-spec =
@@ -189,8 +180,13 @@ check-unary-operator-spec =
     same-length-2
     returns-3
     enum-told
+    no-leaves-requires
+    slice-aggregate-fill-leaves
+    slice-aggregate-fill-leaves-2
+    fill-leaves-requires
     slice-aggregate-unary-checked
     slice-aggregate-unary-checked-2
+    slice-aggregate-unary-checked-3
     unary-checked-requires
     same-length-3
     returns-4)
