@@ -3,12 +3,11 @@ use mathlib.Core.Path.{_≡_, refl, sym, _∙_, ap}
 use mathlib.Core.Bool.{Bool, _&&_, _||_, not}
 use mathlib.Core.List.{List, [], _∷_, _++_}
 use Prim.Native.Nat.{ℕ, _+_, _*_, _<_}
-use native.Mathlib.Nat.{le-refl}
 use native.Mathlib.Omega.{arith}
 use mathlib.Mathlib.Data.Bool.Basic.{or-eq-false-eq-eq-false-and-eq-false}
 use lib.Dec.{ltb}
 use lib.ListN.{length, take, drop, replicate, length-append, length-drop}
-use lib.Seq.{take-length, length-take-le}
+use lib.Seq.{length-take-le}
 use borrow.Author.Tests.{ltb-true, not-false}
 use Rattle.refusals.specs.Lowest.{_when_}
 use Rattle.refusals.specs.declared.Refusal.the-variants.{Broken, Unused}
@@ -17,18 +16,15 @@ use Rattle.refusals.specs.declared.Verdict.the-variants.{Passed, Refused}
 use Rattle.refusals.specs.declared.Answer.{Answer}
 use Rattle.refusals.specs.declared.Answer.the-variants as answer
 use Rattle.refusals.proofs.Lowest.{passed-parts}
-use Rattle.pages.specs.Bytes.{put}
-use Rattle.pages.specs.Pad.{pad}
+use Rattle.pages.specs.Bytes.{words, lowBytes, put}
 use Rattle.pages.proofs.Quant.{and-true}
-use Rattle.pages.proofs.Pad.{length-pad, pad-front}
 use Rattle.pages.proofs.Put.{put-append, put-whole}
+use Rattle.pages.proofs.Words.{words-length}
+use Rattle.pages.proofs.Low.{low-length}
 use Rattle.names.specs.Calls.{usedOf}
 use Rattle.types.specs.Store.{childBytes, Formed}
 use Rattle.types.specs.Types.{typesIn}
-use Rattle.types.specs.Making.{words}
-use Rattle.types.specs.Calls.{storeBroken, listTo}
-use Rattle.types.proofs.Entries.{words-length}
-use Rattle.types.proofs.Reading.{list-length}
+use Rattle.types.specs.Calls.{storeBroken}
 use Rattle.types.proofs.Calls.{unbroken-both}
 use Rattle.matching.specs.Matching.{inUse}
 use Rattle.matching.specs.declared.Checked.{Checked}
@@ -42,40 +38,29 @@ use Rattle.unification.proofs.Growth.{Given}
 use Rattle.unification.proofs.Arguments.{unify-arg-grown}
 use Rattle.checked.specs.Calls.{verdictOf, bindingsVerdict, keptBy, unifiedOr, unifyArgAnswer, unifyAnswer}
 use Rattle.checked.proofs.Calls.{unify-known}
-use Rattle.calls.specs.Types.{typesFrom, bindingBytes, boundIn, bytesOfBindings}
+use Rattle.calls.specs.Types.{typesFrom, bindingBytes, bytesOfBindings}
 
 -- ---- read
-
--- a list that fills its places
-pad-whole : (n : ℕ) (xs : List ℕ) → length xs ≡ n → pad n 0 xs ≡ xs
-pad-whole n xs e = sym (rw (length-pad n 0 xs) at (take-length (pad n 0 xs))) ∙ pad-front n xs n e (le-refl n)
-
-pub types-read : (bytes : List ℕ) (i : ℕ) → i ≡ bindingsMax → pad bindingsMax 0 (listTo i (boundIn bytes)) ≡ listTo bindingsMax (boundIn bytes)
-types-read bytes i e = rw e (pad-whole bindingsMax (listTo bindingsMax (boundIn bytes)) (list-length bindingsMax (boundIn bytes)))
 
 module _ (bytes : List ℕ) (n : length bytes ≡ bindingBytes) where
   pub names-length : length (take bindingsMax (drop 1 bytes)) ≡ bindingsMax
   names-length = length-take-le bindingsMax (drop 1 bytes) (omega (arith, length-drop 1 bytes, n))
 
-  pub names-read : put (replicate bindingsMax 0) 0 (take bindingsMax (drop 1 bytes)) ≡ take bindingsMax (drop 1 bytes)
-  names-read = put-whole (replicate bindingsMax 0) (take bindingsMax (drop 1 bytes)) (omega (arith, names-length))
-
-pub types-length : (bytes : List ℕ) → length (listTo bindingsMax (boundIn bytes)) ≡ bindingsMax
-types-length bytes = list-length bindingsMax (boundIn bytes)
-
 -- ---- written
 
 pub bindings-made : (b : Bindings) → length (b .names) ≡ bindingsMax → length (b .types) ≡ bindingsMax
-    → put (put (put (replicate bindingBytes 0) 0 (b .count ∷ [])) 1 (b .names)) typesFrom (words (b .types)) ≡ bytesOfBindings b
+    → put (put (put (replicate bindingBytes 0) 0 (b .count ∷ [])) 1 (lowBytes (b .names))) typesFrom (words (b .types)) ≡ bytesOfBindings b
 unfolding bytesOfBindings
 bindings-made b n t =
     let l : List ℕ = replicate bindingBytes 0 in
+    let names : List ℕ = lowBytes (b .names) in
+    let k : length names ≡ bindingsMax = low-length (b .names) ∙ n in
     let w : length (words (b .types)) ≡ childBytes * bindingsMax = words-length (b .types) ∙ ap (λ (x : ℕ). childBytes * x) t in
-    let e : 0 + length (b .count ∷ b .names) ≡ typesFrom = omega (arith, n) in
-    ap (λ (x : List ℕ). put x typesFrom (words (b .types))) (put-append l 0 (b .count ∷ []) (b .names) (omega (arith, n)))
-    ∙ ap (λ (x : ℕ). put (put l 0 (b .count ∷ b .names)) x (words (b .types))) (sym e)
-    ∙ put-append l 0 (b .count ∷ b .names) (words (b .types)) (omega (arith, n, w))
-    ∙ put-whole l (b .count ∷ (b .names ++ words (b .types))) (omega (arith, length-append (b .names) (words (b .types)), n, w))
+    let e : 0 + length (b .count ∷ names) ≡ typesFrom = omega (arith, k) in
+    ap (λ (x : List ℕ). put x typesFrom (words (b .types))) (put-append l 0 (b .count ∷ []) names (omega (arith, k)))
+    ∙ ap (λ (x : ℕ). put (put l 0 (b .count ∷ names)) x (words (b .types))) (sym e)
+    ∙ put-append l 0 (b .count ∷ names) (words (b .types)) (omega (arith, k, w))
+    ∙ put-whole l (b .count ∷ (names ++ words (b .types))) (omega (arith, length-append names (words (b .types)), k, w))
 
 -- ---- the count after unifying fits in a byte
 

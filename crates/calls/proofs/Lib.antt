@@ -1,4 +1,5 @@
 -- Laws that the proofs of this crate cite.
+pub mod Bytes
 pub mod Sums
 pub mod Types
 pub mod Bindings

@@ -1,24 +1,34 @@
 -- The answers of operators and indexing as numbers and bytes, for callers in other languages.
-use mathlib.Core.Bool.{Bool, cond}
+use mathlib.Core.Bool.{Bool, _&&_, _||_, not, cond}
 use mathlib.Core.List.{List, [], _∷_, _++_}
 use Prim.Native.Nat.{ℕ, _+_}
-use Rattle.refusals.specs.Lowest.{unlessRefused}
+use Rattle.refusals.specs.Lowest.{Condition, _when_, lowest, unlessRefused}
+use Rattle.refusals.specs.declared.Refusal.the-variants.{Undefined, Broken, Unused, BadUnit}
+use Rattle.refusals.specs.declared.Verdict.{Verdict}
 use Rattle.pages.specs.Bytes.{countBytes, bigEndian}
 use Rattle.pages.specs.Pad.{pad}
+use Rattle.names.specs.Calls.{usedOf}
+use Rattle.types.specs.Calls.{storeBroken}
+use Rattle.matching.specs.Matching.{inUse}
 use Rattle.units.specs.declared.MaybeUnit.{MaybeUnit}
-use Rattle.values.specs.Value.{noneCount, unitMax}
+use Rattle.pairs.specs.Calls.{tableBroken}
+use Rattle.sums.specs.Calls.{rootsIn}
+use Rattle.values.specs.Value.{noneCount, unitMax, unitIn, symbolsUsed}
+use Rattle.operators.specs.Operators.{isOperator}
 use Rattle.operators.specs.declared.Errors.{Errors}
-use Rattle.answers.specs.Calls.{binaryAnswer, unaryAnswer, unaryPage, indexAnswer, indexPage}
+use Rattle.unary.specs.Unary.{checkUnary}
+use Rattle.indexing.specs.Indexing.{checkIndex}
+use Rattle.answers.specs.Calls.{unless, binaryChecked, unaryChecked, concludedBy, storeAfter}
 use Rattle.answers.specs.declared.CheckedExpr.{CheckedExpr}
 use Rattle.answers.specs.declared.Answered.{Answered}
-use Rattle.calls.specs.Codes.{packed, bytesOfUnit, maybeOrBroken}
+use Rattle.calls.specs.Codes.{packed, bytesOfUnit, maybeFormedIn}
 use Rattle.calls.specs.Types.{checkedOf, numberIn}
 
 -- an operand: a checked type in one number, and bytes that say a unit or none
 abbrev pub operandOf : ℕ → List ℕ → CheckedExpr
-operandOf c unit = record { checked = checkedOf c; unit = maybeOrBroken unit }
+operandOf c unit = record { checked = checkedOf c; unit = unitIn unit }
 
--- ---- an answer in one number: the number of its type, or 65,535 where none is known
+-- ---- an answer in one number: its checked type's
 
 unfoldable pub answeredCode : Answered → ℕ
 answeredCode a = packed (a .verdict) (unlessRefused (a .verdict) (numberIn (a .checked)) 0)
@@ -56,23 +66,67 @@ bytesOfAnswer a = bytesOfErrors (a .errors) ++ bytesOfMaybe (a .unit)
 unfoldable pub outAfterAnswer : Answered → List ℕ → List ℕ
 outAfterAnswer a out = unlessRefused (a .verdict) (bytesOfAnswer a) out
 
--- ---- the calls
+-- ---- refusals of what a call is given
 
--- a binary operator on two operands
+-- are an operand's type, and the symbols that stand in its unit's bytes, in use
+abbrev pub operandUsedIn : List ℕ → ℕ → ℕ → List ℕ → Bool
+operandUsedIn page used c unit = inUse page (checkedOf c) && symbolsUsed used unit
+
+-- 3 a number, 5 a unit: tested of both operands together
+abbrev pub operandsIn : List ℕ → ℕ → ℕ → List ℕ → ℕ → List ℕ → List Condition
+operandsIn page used left unit right other =
+    (Unused when not (operandUsedIn page used left unit && operandUsedIn page used right other))
+    ∷ (BadUnit when not (maybeFormedIn unit && maybeFormedIn other))
+    ∷ []
+
+-- and 2 the names or the store
+unfoldable pub operandsVerdictIn : List ℕ → List ℕ → Bool → ℕ → List ℕ → ℕ → List ℕ → Verdict
+operandsVerdictIn page names lent left unit right other =
+    lowest ((Broken when storeBroken page names lent) ∷ operandsIn page (usedOf names lent) left unit right other)
+
+-- ---- a binary operator on two operands
+
+-- 1 the operator; 2 the names, the store or the pairs
+unfoldable pub binaryVerdictIn : List ℕ → List ℕ → Bool → List ℕ → ℕ → ℕ → List ℕ → ℕ → List ℕ → Verdict
+binaryVerdictIn page names lent pairs op left unit right other =
+    lowest
+    ((Undefined when not (isOperator op))
+    ∷ (Broken when (storeBroken page names lent || tableBroken pairs names lent))
+    ∷ operandsIn page (usedOf names lent) left unit right other)
+
 abbrev pub binaryIn : List ℕ → List ℕ → Bool → List ℕ → ℕ → ℕ → List ℕ → ℕ → List ℕ → Answered
-binaryIn page names lent pairs op left leftUnit right rightUnit =
-    binaryAnswer page names lent pairs op (operandOf left leftUnit) (operandOf right rightUnit)
+binaryIn page names lent pairs op left unit right other =
+    unless (binaryVerdictIn page names lent pairs op left unit right other)
+    (binaryChecked page (rootsIn pairs) op (operandOf left unit) (operandOf right other))
 
--- an operator on one, and the store afterwards
+-- ---- an operator on one, and the store afterwards
+
+-- the operand is judged as if it were given twice
+unfoldable pub unaryVerdictIn : List ℕ → List ℕ → Bool → ℕ → ℕ → List ℕ → Verdict
+unaryVerdictIn page names lent op operand unit =
+    lowest
+    ((Undefined when not (isOperator op))
+    ∷ (Broken when storeBroken page names lent)
+    ∷ operandsIn page (usedOf names lent) operand unit operand unit)
+
 abbrev pub unaryIn : List ℕ → List ℕ → Bool → ℕ → ℕ → List ℕ → Answered
-unaryIn page names lent op operand unit = unaryAnswer page names lent op (operandOf operand unit)
+unaryIn page names lent op operand unit =
+    unless (unaryVerdictIn page names lent op operand unit) (unaryChecked (checkUnary page op (checkedOf operand)) op (unitIn unit))
 
 abbrev pub unaryPageIn : List ℕ → List ℕ → Bool → ℕ → ℕ → List ℕ → List ℕ
-unaryPageIn page names lent op operand unit = unaryPage page names lent op (operandOf operand unit)
+unaryPageIn page names lent op operand unit =
+    unlessRefused (unaryVerdictIn page names lent op operand unit) (storeAfter (checkUnary page op (checkedOf operand)) page) page
 
--- a target indexed by a key, and the store afterwards
+-- ---- a target indexed by a key, and the store afterwards
+
+-- a key has no unit, which the byte 255 says
+abbrev pub indexVerdictIn : List ℕ → List ℕ → Bool → ℕ → List ℕ → ℕ → Verdict
+indexVerdictIn page names lent target unit key = operandsVerdictIn page names lent target unit key (noneCount ∷ [])
+
 abbrev pub indexIn : List ℕ → List ℕ → Bool → ℕ → List ℕ → ℕ → Answered
-indexIn page names lent target unit key = indexAnswer page names lent (operandOf target unit) (checkedOf key)
+indexIn page names lent target unit key =
+    unless (indexVerdictIn page names lent target unit key) (concludedBy (checkIndex page (checkedOf key) (checkedOf target) .conclusion) (unitIn unit))
 
 abbrev pub indexPageIn : List ℕ → List ℕ → Bool → ℕ → List ℕ → ℕ → List ℕ
-indexPageIn page names lent target unit key = indexPage page names lent (operandOf target unit) (checkedOf key)
+indexPageIn page names lent target unit key =
+    unlessRefused (indexVerdictIn page names lent target unit key) (storeAfter (checkIndex page (checkedOf key) (checkedOf target)) page) page

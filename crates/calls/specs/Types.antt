@@ -1,18 +1,17 @@
 -- The answers of the entry calls on types as numbers, and what they are lent, for callers in other languages.
 use mathlib.Core.Bool.{Bool, cond}
 use mathlib.Core.List.{List, _∷_, _++_}
-use Prim.Native.Nat.{ℕ, _+_, _-_, _*_}
+use Prim.Native.Nat.{ℕ, _+_, _-_, _*_, _%_}
 use lib.Dec.{ltb}
 use lib.ListN.{getD, take, drop}
 use Rattle.refusals.specs.Lowest.{unlessRefused}
 use Rattle.refusals.specs.declared.Verdict.the-variants.{Passed, Refused}
 use Rattle.refusals.specs.declared.Answer.{Answer}
 use Rattle.refusals.specs.declared.Answer.the-variants as answer
-use Rattle.pages.specs.Bytes.{wordAt}
+use Rattle.pages.specs.Bytes.{words, wordsAt, lowBytes}
 use Rattle.pages.specs.Pad.{pad}
 use Rattle.types.specs.Store.{childBytes}
-use Rattle.types.specs.Making.{words, entryOf, entryMax}
-use Rattle.types.specs.Calls.{listTo}
+use Rattle.types.specs.Making.{entryOf, entryMax}
 use Rattle.types.specs.declared.Made.{Made}
 use Rattle.types.specs.declared.Made.the-variants as made
 use Rattle.types.specs.declared.Shape.{Shape}
@@ -48,15 +47,20 @@ functionsFrom = 65536
 
 -- and from which one none is known
 abbrev pub unknownFrom : ℕ
-unknownFrom = 131072
+unknownFrom = 2 * functionsFrom
 
 unfoldable pub checkedOf : ℕ → Checked
 checkedOf c = cond (ltb c functionsFrom) (Known c) (cond (ltb c unknownFrom) (Function (c - functionsFrom)) Unknown)
 
--- the number of its type, or 65,535 where none is known
+-- an answer has sixteen bits for it, which is enough for 4,096 types: from which number on it is a Function there
+abbrev pub answeredFunctions : ℕ
+answeredFunctions = 32768
+
+-- the number of a type that is known; a Function's, that much higher (the remainder is the number itself for every type that there
+-- can be); 65,535 where none is known
 abbrev pub numberIn : Checked → ℕ
 numberIn (Known t) = t
-numberIn (Function t) = t
+numberIn (Function t) = answeredFunctions + t % answeredFunctions
 numberIn Unknown = absent
 
 -- what making a checked type const answers
@@ -71,17 +75,13 @@ typesFrom = 1 + bindingsMax
 abbrev pub bindingBytes : ℕ
 bindingBytes = typesFrom + childBytes * bindingsMax
 
--- the type in place i
-abbrev pub boundIn : List ℕ → ℕ → ℕ
-boundIn bytes i = wordAt bytes (typesFrom + childBytes * i)
-
 -- the bindings that the bytes say; a count above 32 breaks their form
 unfoldable pub bindingsIn : List ℕ → Bindings
-bindingsIn bytes = record { count = getD bytes 0 0; names = take bindingsMax (drop 1 bytes); types = listTo bindingsMax (boundIn bytes) }
+bindingsIn bytes = record { count = getD bytes 0 0; names = take bindingsMax (drop 1 bytes); types = wordsAt bytes typesFrom bindingsMax }
 
 -- the bytes of bindings
 unfoldable pub bytesOfBindings : Bindings → List ℕ
-bytesOfBindings b = b .count ∷ (b .names ++ words (b .types))
+bytesOfBindings b = b .count ∷ (lowBytes (b .names) ++ words (b .types))
 
 -- the bytes lent for bindings, afterwards: those of the bindings beside a yes or a no, as they were where the call is refused
 abbrev pub bindingsAfter : Answer → Bindings → List ℕ → List ℕ

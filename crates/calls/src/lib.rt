@@ -10,6 +10,7 @@ use matching::Checked;
 use names::Added;
 use names::Found;
 use names::NAME_BYTES;
+use names::Symbol;
 use names::symbol_index;
 use operators::Errors;
 use pages::LONG_BYTES;
@@ -17,9 +18,11 @@ use pages::index;
 use pairs::Factor;
 use pairs::Root;
 use refusals::Answer;
+use refusals::Refusal;
 use refusals::Verdict;
 use sums::Sums;
 use text::TEXT_BYTES;
+use text::Text;
 use types::CHILD_BYTES;
 use types::ENTRY_BYTES;
 use types::Made;
@@ -32,11 +35,15 @@ use units::Unit;
 use values::NONE_COUNT;
 use values::UNIT_BYTES;
 use values::UnitBytes;
+use values::Value;
 ghost use mathlib.Core.Path.{_≡_};
-ghost use mathlib.Core.List.{[], _∷_};
-ghost use Prim.Native.Nat.{_≤_, _<_};
+ghost use mathlib.Core.Bool.{false, _&&_};
+ghost use mathlib.Core.List.{List, [], _∷_};
+ghost use Prim.Native.Nat.{ℕ, _≤_, _<_};
 ghost use lib.ListN.{length, replicate};
+ghost use Rattle.refusals.specs.declared.Verdict.{Verdict};
 ghost use Rattle.refusals.specs.Lowest.{unlessRefused};
+ghost use Rattle.names.specs.Table.{namesMax};
 ghost use Rattle.names.specs.Calls.{emptyVerdict, emptyPage, addAnswer, pageAfter, findAnswer, readAnswer};
 ghost use Rattle.units.specs.Unit.{placesMax};
 ghost use Rattle.units.specs.Calls.{formVerdict, exponentAnswer};
@@ -44,18 +51,19 @@ ghost use Rattle.groups.specs.Groups.{pair};
 ghost use Rattle.pairs.specs.Calls.{pairVerdict, rootAnswer, factorAnswer};
 ghost use Rattle.pairs.specs.Calls as tables;
 ghost use Rattle.kinds.specs.Kinds.{childrenMax};
-ghost use Rattle.types.specs.Calls.{makeAnswer, makePage, listTo};
+ghost use Rattle.types.specs.Types.{Held};
+ghost use Rattle.types.specs.Calls.{makeAnswer, makePage};
 ghost use Rattle.types.specs.Calls as store;
 ghost use Rattle.bindings.specs.Bindings.{bindingsMax};
 ghost use Rattle.checked.specs.Calls.{matchesAnswer, genericAnswer, intoConst, intoConstPage, substituteAnswer, substitutePage};
 ghost use Rattle.pages.specs.Pad.{pad};
-ghost use Rattle.values.specs.Value.{noneCount, unitMax};
+ghost use Rattle.values.specs.Value.{noneCount, unitMax, readable, unitIn, valueIn};
 ghost use Rattle.sums.specs.Calls.{orEmpty};
-ghost use Rattle.calls.specs.Types.{madeCode, typeBytes, bytesOfType, checkedOf, bindingBytes, boundIn, bindingsIn, bytesOfBindings, numberIn, constCode, bindingsAfter, unifyIn, unifyArgIn};
-ghost use Rattle.calls.specs.Codes.{packed, addedCode, foundCode, powerCode, answerCode, brokenUnit, unitOrBroken, unitlessIn, productIn, textIn, bytesOfUnit, rootCode, factorCode, outAfterFactor, groupSumsIn, bytesOfSums, maybeOrBroken, convertibleIn};
-ghost use Rattle.calls.specs.Answers.{operandOf, answeredCode, errorBytes, bytesOfErrors, bytesOfMaybe, answerBytes, bytesOfAnswer, outAfterAnswer, binaryIn, unaryIn, unaryPageIn, indexIn, indexPageIn};
+ghost use Rattle.calls.specs.Types.{madeCode, typeBytes, bytesOfType, checkedOf, bindingBytes, bindingsIn, bytesOfBindings, numberIn, constCode, bindingsAfter, unifyIn, unifyArgIn};
+ghost use Rattle.calls.specs.Codes.{packed, addedCode, foundCode, powerCode, answerCode, brokenUnit, unitOrBroken, unitlessIn, productIn, textVerdictIn, textIn, bytesOfUnit, rootCode, factorCode, outAfterFactor, unitsVerdictIn, groupSumsIn, bytesOfSums, convertibleIn, unitsIn};
+ghost use Rattle.calls.specs.Answers.{answeredCode, bytesOfErrors, bytesOfMaybe, answerBytes, bytesOfAnswer, outAfterAnswer, operandUsedIn, operandsVerdictIn, binaryVerdictIn, binaryIn, unaryVerdictIn, unaryIn, unaryPageIn, indexIn, indexPageIn};
 
-// What a name or a factor that the table does not have is answered with, which is no name's number and no symbol.
+// What is answered for a name or a factor that the table does not have, and for Unknown: a number that is never in use.
 pub const ABSENT: usize = 65535;
 
 // A verdict and a value as one number.
@@ -64,6 +72,13 @@ fn packed_as(verdict: Verdict, value: usize) -> u32
 {
     let code = refusals::code(verdict) as u32;
     code * 65536 + (value % 65536) as u32
+}
+
+// A refusal as one number.
+fn refused_as(refusal: Refusal) -> u32
+    ensures { λ r. ⌜ r ≡ packed (Verdict.Refused refusal) 0 ⌝ }
+{
+    packed_as(Verdict::Refused(refusal), 0)
 }
 
 // Makes the page an empty table of names.
@@ -77,12 +92,12 @@ pub extern "C" fn riddlepoppy_empty_names(page: &mut [u8]) -> u32
 // The number of a name, which is added if it is new.
 #[no_mangle]
 pub extern "C" fn riddlepoppy_add_name(page: &mut [u8], name: &[u8]) -> u32
-    ensures { λ r. ⌜ (r ≡ addedCode (addAnswer (now (page .entry)) (now (name .entry)))) × (now (page .exit) ≡ pageAfter (now (page .entry)) (now (name .entry))) ⌝ }
+    ensures { λ r. ⌜ (r ≡ addedCode (addAnswer namesMax (now (page .entry)) (now (name .entry)))) × (now (page .exit) ≡ pageAfter namesMax (now (page .entry)) (now (name .entry))) ⌝ }
 {
     let added = names::add_name(page, name);
     match added {
         Added::At(n) => packed_as(Verdict::Passed, n),
-        Added::Refused(r) => packed_as(Verdict::Refused(r), 0),
+        Added::Refused(r) => refused_as(r),
     }
 }
 
@@ -95,7 +110,7 @@ pub extern "C" fn riddlepoppy_find_name(page: &[u8], name: &[u8]) -> u32
     match found {
         Found::At(n) => packed_as(Verdict::Passed, n),
         Found::Absent => packed_as(Verdict::Passed, ABSENT),
-        Found::Refused(r) => packed_as(Verdict::Refused(r), 0),
+        Found::Refused(r) => refused_as(r),
     }
 }
 
@@ -124,7 +139,7 @@ fn broken_unit() -> Unit
     }
 }
 
-// The unit that the bytes say; bytes that say none give one that breaks its form.
+// The unit that the bytes say, where no symbol is looked up; bytes that say none give one that breaks its form.
 fn unit_or_broken(bytes: &[u8]) -> Unit
     ensures { λ r. ⌜ r ≡ unitOrBroken (now (bytes .entry)) ⌝ }
 {
@@ -166,13 +181,13 @@ pub extern "C" fn riddlepoppy_product(
 
 // The exponent of a symbol, as its sixteen bits.
 #[no_mangle]
-pub extern "C" fn riddlepoppy_exponent(unit: &[u8], symbol: u8) -> u32
+pub extern "C" fn riddlepoppy_exponent(unit: &[u8], symbol: Symbol) -> u32
     ensures { λ r. ⌜ r ≡ powerCode (exponentAnswer (unitOrBroken (now (unit .entry))) symbol) ⌝ }
 {
     let power = units::exponent(unit_or_broken(unit), symbol);
     match power {
         Power::Of(e) => packed_as(Verdict::Passed, values::raw(e)),
-        Power::Refused(r) => packed_as(Verdict::Refused(r), 0),
+        Power::Refused(r) => refused_as(r),
     }
 }
 
@@ -183,7 +198,7 @@ fn answer_code(answer: Answer) -> u32
     match answer {
         Answer::Yes => packed_as(Verdict::Passed, 1),
         Answer::No => packed_as(Verdict::Passed, 0),
-        Answer::Refused(r) => packed_as(Verdict::Refused(r), 0),
+        Answer::Refused(r) => refused_as(r),
     }
 }
 
@@ -195,10 +210,36 @@ pub extern "C" fn riddlepoppy_is_dimensionless(bytes: &[u8]) -> u32
     let value = values::read_value(bytes);
     let verdict = value.verdict;
     if let Verdict::Refused(r) = verdict {
-        return packed_as(Verdict::Refused(r), 0);
+        return refused_as(r);
     }
     let unit = value.unit;
     answer_code(units::is_dimensionless(unit))
+}
+
+// Why a text is refused of bytes that say no unit.
+fn unread_text(page: &[u8], unit: &[u8]) -> Refusal
+    requires { ⌜ unitIn (now unit) .some ≡ false ⌝ }
+    ensures { λ r. ⌜ Verdict.Refused r ≡ textVerdictIn (now (page .entry)) (now (unit .entry)) ⌝ }
+{
+    if !names::is_formed(page) {
+        return Refusal::Broken;
+    }
+    if !values::are_used(unit, pages::count(page)) {
+        return Refusal::Unused;
+    }
+    Refusal::BadUnit
+}
+
+// The text of the unit that the bytes say.
+fn text_in(page: &[u8], unit: &[u8]) -> Text
+    ensures { λ r. ⌜ r ≡ textIn (now (page .entry)) (now (unit .entry)) ⌝ }
+{
+    let value = values::read_value(unit);
+    let m = value.unit;
+    if m.some {
+        return text::unit_text(page, m.unit);
+    }
+    text::no_text(unread_text(page, unit))
 }
 
 // The text of a unit, and its length.
@@ -206,7 +247,7 @@ pub extern "C" fn riddlepoppy_is_dimensionless(bytes: &[u8]) -> u32
 pub extern "C" fn riddlepoppy_unit_text(page: &[u8], unit: &[u8], out: &mut [u8; TEXT_BYTES]) -> u32
     ensures { λ r. ⌜ (r ≡ packed (textIn (now (page .entry)) (now (unit .entry)) .verdict) (textIn (now (page .entry)) (now (unit .entry)) .size)) × (now (out .exit) ≡ unlessRefused (textIn (now (page .entry)) (now (unit .entry)) .verdict) (textIn (now (page .entry)) (now (unit .entry)) .bytes) (now (out .entry))) ⌝ }
 {
-    let text = text::unit_text(page, unit_or_broken(unit));
+    let text = text_in(page, unit);
     let verdict = text.verdict;
     if refusals::is_refused(verdict) {
         return packed_as(verdict, text.size);
@@ -230,9 +271,9 @@ pub extern "C" fn riddlepoppy_insert_pair(
     page: &mut [u8],
     names: &[u8],
     lent: bool,
-    symbol: u8,
+    symbol: Symbol,
     factor: u64,
-    base: u8,
+    base: Symbol,
 ) -> u32
     ensures { λ r. ⌜ (r ≡ packed (pairVerdict (now (page .entry)) (now (names .entry)) lent (pair symbol base)) 0) × (now (page .exit) ≡ tables.pageAfter (now (page .entry)) (now (names .entry)) lent symbol factor base) ⌝ }
 {
@@ -244,13 +285,18 @@ pub extern "C" fn riddlepoppy_insert_pair(
 
 // The root of a symbol.
 #[no_mangle]
-pub extern "C" fn riddlepoppy_canonical(page: &[u8], names: &[u8], lent: bool, symbol: u8) -> u32
+pub extern "C" fn riddlepoppy_canonical(
+    page: &[u8],
+    names: &[u8],
+    lent: bool,
+    symbol: Symbol,
+) -> u32
     ensures { λ r. ⌜ r ≡ rootCode (rootAnswer (now (page .entry)) (now (names .entry)) lent symbol) ⌝ }
 {
     let root = pairs::canonical(page, names, lent, symbol);
     match root {
         Root::At(s) => packed_as(Verdict::Passed, symbol_index(s)),
-        Root::Refused(r) => packed_as(Verdict::Refused(r), 0),
+        Root::Refused(r) => refused_as(r),
     }
 }
 
@@ -260,7 +306,7 @@ pub extern "C" fn riddlepoppy_first_factor(
     page: &[u8],
     names: &[u8],
     lent: bool,
-    symbol: u8,
+    symbol: Symbol,
     out: &mut [u8; LONG_BYTES],
 ) -> u32
     ensures { λ r. ⌜ (r ≡ factorCode (factorAnswer (now (page .entry)) (now (names .entry)) lent symbol)) × (now (out .exit) ≡ outAfterFactor (factorAnswer (now (page .entry)) (now (names .entry)) lent symbol) (now (out .entry))) ⌝ }
@@ -272,7 +318,7 @@ pub extern "C" fn riddlepoppy_first_factor(
             packed_as(Verdict::Passed, symbol_index(base))
         }
         Factor::Absent => packed_as(Verdict::Passed, ABSENT),
-        Factor::Refused(r) => packed_as(Verdict::Refused(r), 0),
+        Factor::Refused(r) => refused_as(r),
     }
 }
 
@@ -291,6 +337,54 @@ fn sums_bytes(sums: Sums) -> UnitBytes
     })
 }
 
+// The units that two slices say, or none, and whether both can be read.
+struct Units {
+    readable: bool,
+    left: MaybeUnit,
+    right: MaybeUnit,
+}
+
+// Whether bytes say a unit, in form or not, or none.
+fn is_readable(value: Value) -> bool
+    ensures { λ r. ⌜ ((bytes : List ℕ) → value ≡ valueIn bytes → r ≡ readable bytes) ⌝ }
+{
+    let verdict = value.verdict;
+    !refusals::is_refused(verdict)
+}
+
+// The units that two slices say, or none.
+fn units_in(left: &[u8], right: &[u8]) -> Units
+    ensures { λ r. ⌜ r ≡ unitsIn (now (left .entry)) (now (right .entry)) ⌝ }
+{
+    let a = values::read_value(left);
+    let b = values::read_value(right);
+    let left = a.unit;
+    let right = b.unit;
+    Units {
+        readable: is_readable(a) & is_readable(b),
+        left,
+        right,
+    }
+}
+
+// Why two units are refused, over the pairs of a page, where one of them cannot be read.
+fn unread_units(page: &[u8], names: &[u8], lent: bool, left: &[u8], right: &[u8]) -> Refusal
+    requires { ⌜ (readable (now left) && readable (now right)) ≡ false ⌝ }
+    ensures { λ r. ⌜ Verdict.Refused r ≡ unitsVerdictIn (now (page .entry)) (now (names .entry)) lent (now (left .entry)) (now (right .entry)) ⌝ }
+{
+    if pairs::is_broken(page, names, lent) {
+        return Refusal::Broken;
+    }
+    let n = names::in_use(names, lent);
+    if !values::are_used(left, n) {
+        return Refusal::Unused;
+    }
+    if !values::are_used(right, n) {
+        return Refusal::Unused;
+    }
+    Refusal::BadUnit
+}
+
 // The group sums of a unit.
 #[no_mangle]
 pub extern "C" fn riddlepoppy_canonicalize(
@@ -302,7 +396,11 @@ pub extern "C" fn riddlepoppy_canonicalize(
 ) -> u32
     ensures { λ r. ⌜ (r ≡ packed (groupSumsIn (now (page .entry)) (now (names .entry)) lent (now (unit .entry)) .verdict) 0) × (now (out .exit) ≡ unlessRefused (groupSumsIn (now (page .entry)) (now (names .entry)) lent (now (unit .entry)) .verdict) (bytesOfSums (groupSumsIn (now (page .entry)) (now (names .entry)) lent (now (unit .entry)) .sums)) (now (out .entry))) ⌝ }
 {
-    let result = sums::canonicalize(page, names, lent, unit_or_broken(unit));
+    let units = units_in(unit, unit);
+    if !units.readable {
+        return refused_as(unread_units(page, names, lent, unit, unit));
+    }
+    let result = sums::canonicalize(page, names, lent, sums::or_empty(units.left));
     let verdict = result.verdict;
     if refusals::is_refused(verdict) {
         return packed_as(verdict, 0);
@@ -310,21 +408,6 @@ pub extern "C" fn riddlepoppy_canonicalize(
     let sums = result.sums;
     *out = sums_bytes(sums);
     packed_as(verdict, 0)
-}
-
-// The unit that the bytes say, or none; bytes that say neither give a unit that breaks its form.
-fn maybe_or_broken(bytes: &[u8]) -> MaybeUnit
-    ensures { λ r. ⌜ r ≡ maybeOrBroken (now (bytes .entry)) ⌝ }
-{
-    let value = values::read_value(bytes);
-    let verdict = value.verdict;
-    if refusals::is_refused(verdict) {
-        return MaybeUnit {
-            some: true,
-            unit: broken_unit(),
-        };
-    }
-    value.unit
 }
 
 // Whether two units, or none, are convertible: 1 for yes.
@@ -338,9 +421,11 @@ pub extern "C" fn riddlepoppy_is_convertible_to(
 ) -> u32
     ensures { λ r. ⌜ r ≡ answerCode (convertibleIn (now (page .entry)) (now (names .entry)) lent (now (left .entry)) (now (right .entry))) ⌝ }
 {
-    let a = maybe_or_broken(left);
-    let b = maybe_or_broken(right);
-    answer_code(sums::is_convertible_to(page, names, lent, a, b))
+    let units = units_in(left, right);
+    if !units.readable {
+        return refused_as(unread_units(page, names, lent, left, right));
+    }
+    answer_code(sums::is_convertible_to(page, names, lent, units.left, units.right))
 }
 
 // Makes the page a store of the fixed types alone.
@@ -357,7 +442,7 @@ fn made_code(made: Made) -> u32
 {
     match made {
         Made::At(t) => packed_as(Verdict::Passed, t),
-        Made::Refused(r) => packed_as(Verdict::Refused(r), 0),
+        Made::Refused(r) => refused_as(r),
     }
 }
 
@@ -369,7 +454,7 @@ pub extern "C" fn riddlepoppy_make_type(
     lent: bool,
     kind: Kind,
     children: &[u16],
-    name: u8,
+    name: Symbol,
 ) -> u32
     ensures { λ r. ⌜ (r ≡ madeCode (makeAnswer (now (page .entry)) (now (names .entry)) lent kind (now (children .entry)) name)) × (now (page .exit) ≡ makePage (now (page .entry)) (now (names .entry)) lent kind (now (children .entry)) name) ⌝ }
 {
@@ -429,7 +514,7 @@ pub extern "C" fn riddlepoppy_read_type(
 // From which number on a checked type is a Function, and from which one none is known.
 const FUNCTIONS: usize = 65536;
 
-const UNKNOWN: usize = 131072;
+const UNKNOWN: usize = 2 * FUNCTIONS;
 
 // The checked type that a number says.
 fn checked_of(c: u32) -> Checked
@@ -446,7 +531,7 @@ fn checked_of(c: u32) -> Checked
 }
 
 // How many bytes bindings take: their count, the names, and the types as two bytes each.
-pub const BINDING_BYTES: usize = 1 + 3 * BINDINGS;
+pub const BINDING_BYTES: usize = TYPES_AT + CHILD_BYTES * BINDINGS;
 
 // Where the types begin.
 const TYPES_AT: usize = 1 + BINDINGS;
@@ -454,7 +539,7 @@ const TYPES_AT: usize = 1 + BINDINGS;
 // The places of the bytes, of the names, and of the types.
 type BindingBytes = [u8; BINDING_BYTES];
 
-type BoundNames = [u8; BINDINGS];
+type BoundNames = [Symbol; BINDINGS];
 
 type BoundTypes = [u16; BINDINGS];
 
@@ -479,31 +564,18 @@ fn no_types() -> BoundTypes
     [0; BINDINGS]
 }
 
-// The types of the bindings that the bytes say.
-fn types_in(bytes: &[u8]) -> BoundTypes
-    requires { ⌜ length (now bytes) ≡ bindingBytes ⌝ }
-    ensures { λ r. ⌜ r ≡ listTo bindingsMax (boundIn (now (bytes .entry))) ⌝ }
-{
-    let mut types = no_types();
-    let mut i: usize = 0;
-    while i < BINDINGS {
-        let t = pages::word_at(bytes, TYPES_AT + CHILD_BYTES * i);
-        types::set_type(&mut types, i, t);
-        i += 1;
-    }
-    types
-}
-
 // The bindings that the bytes say.
 fn bindings_in(bytes: BindingBytes) -> Bindings
     ensures { λ r. ⌜ (r ≡ bindingsIn bytes) × (r .count < 256) × (length (r .names) ≡ bindingsMax) × (length (r .types) ≡ bindingsMax) ⌝ }
 {
     let mut names = no_names();
-    pages::put_bytes(&mut names, 0, &bytes[1..TYPES_AT]);
+    pages::read_bytes(&bytes, 1, &mut names);
+    let mut types = no_types();
+    pages::read_words(&bytes, TYPES_AT, &mut types);
     Bindings {
         count: index(bytes[0]),
         names,
-        types: types_in(&bytes),
+        types,
     }
 }
 
@@ -517,8 +589,8 @@ fn binding_bytes(bindings: Bindings) -> BindingBytes
     let types = bindings.types;
     let mut bytes = no_binding_bytes();
     pages::put_bytes(&mut bytes, 0, &count);
-    pages::put_bytes(&mut bytes, 1, &names);
-    types::put_types(&mut bytes, TYPES_AT, &types);
+    pages::put_low_bytes(&mut bytes, 1, &names);
+    pages::put_words(&mut bytes, TYPES_AT, &types);
     bytes
 }
 
@@ -546,13 +618,16 @@ pub extern "C" fn riddlepoppy_has_generic(page: &[u8], names: &[u8], lent: bool,
     answer_code(checked::has_generic(page, names, lent, t as usize))
 }
 
-// The number of a checked type's type, or 65,535 where none is known.
+// From which number on an answered checked type is a Function.
+const ANSWERED_FUNCTIONS: usize = 32768;
+
+// A checked type as it is answered: its number, of a Function that much higher, or 65,535 where none is known.
 fn number_of(c: Checked) -> usize
     ensures { λ r. ⌜ r ≡ numberIn c ⌝ }
 {
     match c {
         Checked::Known(t) => t,
-        Checked::Function(t) => t,
+        Checked::Function(t) => ANSWERED_FUNCTIONS + t % ANSWERED_FUNCTIONS,
         Checked::Unknown => ABSENT,
     }
 }
@@ -586,7 +661,7 @@ fn written_back(result: Unified, bytes: &mut [u8; BINDING_BYTES]) -> u32
             *bytes = binding_bytes(result.bindings);
             packed_as(Verdict::Passed, 0)
         }
-        Answer::Refused(r) => packed_as(Verdict::Refused(r), 0),
+        Answer::Refused(r) => refused_as(r),
     }
 }
 
@@ -643,14 +718,53 @@ pub extern "C" fn riddlepoppy_substitute(
     made_code(checked::substitute(page, names, lent, bound, t as usize))
 }
 
-// An operand: the checked type that a number says, and the unit that the bytes say, or none.
-fn operand_of(c: u32, unit: &[u8]) -> CheckedExpr
-    ensures { λ r. ⌜ r ≡ operandOf c (now (unit .entry)) ⌝ }
+// An operand: the checked type that a number says, and a unit or none.
+fn operand_of(c: u32, unit: MaybeUnit) -> CheckedExpr
+    ensures { λ r. ⌜ r ≡ record { checked = checkedOf c; unit = unit } ⌝ }
 {
     CheckedExpr {
         checked: checked_of(c),
-        unit: maybe_or_broken(unit),
+        unit,
     }
+}
+
+// Why two operands are refused, over a store, where the unit of one of them cannot be read.
+fn unread_operands(
+    page: &[u8],
+    names: &[u8],
+    lent: bool,
+    left: u32,
+    unit: &[u8],
+    right: u32,
+    other: &[u8],
+) -> Refusal
+    requires { ⌜ (readable (now unit) && readable (now other)) ≡ false ⌝ }
+    ensures { λ r. ⌜ Verdict.Refused r ≡ operandsVerdictIn (now (page .entry)) (now (names .entry)) lent left (now (unit .entry)) right (now (other .entry)) ⌝ }
+{
+    let mut offsets = types::no_offsets();
+    let mut depths = types::no_depths();
+    if !types::opened(page, names, lent, &mut offsets, &mut depths) {
+        return Refusal::Broken;
+    }
+    let n = names::in_use(names, lent);
+    if !is_operand_used(page, &offsets, n, left, unit) {
+        return Refusal::Unused;
+    }
+    if !is_operand_used(page, &offsets, n, right, other) {
+        return Refusal::Unused;
+    }
+    Refusal::BadUnit
+}
+
+// Whether an operand's type, and the symbols that stand in its unit's bytes, of n numbers, are in use.
+fn is_operand_used(page: &[u8], offsets: &[usize], n: usize, c: u32, unit: &[u8]) -> bool
+    requires { ⌜ Held (now page) (now offsets) ⌝ }
+    ensures { λ r. ⌜ r ≡ operandUsedIn (now (page .entry)) n c (now (unit .entry)) ⌝ }
+{
+    if !checked::is_used(page, offsets, checked_of(c)) {
+        return false;
+    }
+    values::are_used(unit, n)
 }
 
 // How many bytes errors take: their number, two reasons, how many members fail in four bytes, and the first two in two each.
@@ -739,6 +853,48 @@ fn written_down(answer: Answered, out: &mut [u8; ANSWER_BYTES]) -> u32
     packed_as(verdict, number_of(checked))
 }
 
+// Why a binary operator's operands are refused where the unit of one of them cannot be read.
+fn unread_binary(
+    page: &[u8],
+    names: &[u8],
+    lent: bool,
+    table: &[u8],
+    op: usize,
+    left: u32,
+    unit: &[u8],
+    right: u32,
+    other: &[u8],
+) -> Refusal
+    requires { ⌜ (readable (now unit) && readable (now other)) ≡ false ⌝ }
+    ensures { λ r. ⌜ Verdict.Refused r ≡ binaryVerdictIn (now (page .entry)) (now (names .entry)) lent (now (table .entry)) op left (now (unit .entry)) right (now (other .entry)) ⌝ }
+{
+    if !operators::is_operator(op) {
+        return Refusal::Undefined;
+    }
+    if pairs::is_broken(table, names, lent) {
+        return Refusal::Broken;
+    }
+    unread_operands(page, names, lent, left, unit, right, other)
+}
+
+// Why an operator's one operand is refused where its unit cannot be read.
+fn unread_unary(
+    page: &[u8],
+    names: &[u8],
+    lent: bool,
+    op: usize,
+    operand: u32,
+    unit: &[u8],
+) -> Refusal
+    requires { ⌜ (readable (now unit) && readable (now unit)) ≡ false ⌝ }
+    ensures { λ r. ⌜ Verdict.Refused r ≡ unaryVerdictIn (now (page .entry)) (now (names .entry)) lent op operand (now (unit .entry)) ⌝ }
+{
+    if !operators::is_operator(op) {
+        return Refusal::Undefined;
+    }
+    unread_operands(page, names, lent, operand, unit, operand, unit)
+}
+
 // What a binary operator answers for two operands: the number of a type, errors, and a unit or none.
 #[no_mangle]
 pub extern "C" fn riddlepoppy_check_binary_operator(
@@ -755,8 +911,22 @@ pub extern "C" fn riddlepoppy_check_binary_operator(
 ) -> u32
     ensures { λ r. ⌜ (r ≡ answeredCode (binaryIn (now (page .entry)) (now (names .entry)) lent (now (table .entry)) op left (now (unit .entry)) right (now (other .entry)))) × (now (out .exit) ≡ outAfterAnswer (binaryIn (now (page .entry)) (now (names .entry)) lent (now (table .entry)) op left (now (unit .entry)) right (now (other .entry))) (now (out .entry))) ⌝ }
 {
-    let a = operand_of(left, unit);
-    let b = operand_of(right, other);
+    let units = units_in(unit, other);
+    if !units.readable {
+        return refused_as(unread_binary(
+            page,
+            names,
+            lent,
+            table,
+            op as usize,
+            left,
+            unit,
+            right,
+            other,
+        ));
+    }
+    let a = operand_of(left, units.left);
+    let b = operand_of(right, units.right);
     let answer = answers::check_binary_operator(page, names, lent, table, op as usize, a, b);
     written_down(answer, out)
 }
@@ -775,7 +945,11 @@ pub extern "C" fn riddlepoppy_check_unary_operator(
     ensures { λ r. ⌜ (r ≡ answeredCode (unaryIn (now (page .entry)) (now (names .entry)) lent op operand (now (unit .entry)))) × (now (out .exit) ≡ outAfterAnswer (unaryIn (now (page .entry)) (now (names .entry)) lent op operand (now (unit .entry))) (now (out .entry))) ⌝ }
     ensures { λ _. ⌜ now (page .exit) ≡ unaryPageIn (now (page .entry)) (now (names .entry)) lent op operand (now (unit .entry)) ⌝ }
 {
-    let x = operand_of(operand, unit);
+    let units = units_in(unit, unit);
+    if !units.readable {
+        return refused_as(unread_unary(page, names, lent, op as usize, operand, unit));
+    }
+    let x = operand_of(operand, units.left);
     let answer = answers::check_unary_operator(page, names, lent, op as usize, x);
     written_down(answer, out)
 }
@@ -794,7 +968,12 @@ pub extern "C" fn riddlepoppy_check_index(
     ensures { λ r. ⌜ (r ≡ answeredCode (indexIn (now (page .entry)) (now (names .entry)) lent target (now (unit .entry)) key)) × (now (out .exit) ≡ outAfterAnswer (indexIn (now (page .entry)) (now (names .entry)) lent target (now (unit .entry)) key) (now (out .entry))) ⌝ }
     ensures { λ _. ⌜ now (page .exit) ≡ indexPageIn (now (page .entry)) (now (names .entry)) lent target (now (unit .entry)) key ⌝ }
 {
-    let x = operand_of(target, unit);
+    let none = [NONE_COUNT as u8];
+    let units = units_in(unit, &none);
+    if !units.readable {
+        return refused_as(unread_operands(page, names, lent, target, unit, key, &none));
+    }
+    let x = operand_of(target, units.left);
     let answer = answers::check_index(page, names, lent, x, checked_of(key));
     written_down(answer, out)
 }

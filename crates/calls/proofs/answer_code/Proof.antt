@@ -20,8 +20,8 @@ packed-as-requires-2 c κs = search needs
 enum-known-answer : tie.Need-enum-known-answer
 enum-known-answer c = search needs
 
-packed-as-requires-3 : tie.Need-packed-as-requires-3
-packed-as-requires-3 c κs = search needs
+refused-as-requires : tie.Need-refused-as-requires
+refused-as-requires c κs = search needs
 
 returns : tie.Need-returns
 returns c = search needs
@@ -30,7 +30,7 @@ returns-2 : tie.Need-returns-2
 returns-2 c = search needs
 
 returns-3 : tie.Need-returns-3
-returns-3 c = c .packed-as3 .ensures ∙ ap answerCode (sym (c .before .before .answer .given .1))
+returns-3 c = c .refused-as .ensures ∙ ap answerCode (sym (c .before .before .answer .given .1))
 
 pub answer-code-spec : {M : Type 1} → statement M
 answer-code-spec =
@@ -41,7 +41,7 @@ answer-code-spec =
     enum-told-2
     packed-as-requires-2
     enum-known-answer
-    packed-as-requires-3
+    refused-as-requires
     returns
     returns-2
     returns-3)

@@ -23,58 +23,34 @@ slice-aggregate-put-bytes-2 c = search needs
 put-bytes-requires : tie.Need-put-bytes-requires
 put-bytes-requires c κs = search needs
 
-slice-aggregate-put-bytes-3 : tie.Need-slice-aggregate-put-bytes-3
-slice-aggregate-put-bytes-3 c = search needs
+slice-aggregate-put-low-bytes : tie.Need-slice-aggregate-put-low-bytes
+slice-aggregate-put-low-bytes c = search needs
 
-slice-aggregate-put-bytes-4 : tie.Need-slice-aggregate-put-bytes-4
-slice-aggregate-put-bytes-4 c = search needs
+slice-aggregate-put-low-bytes-2 : tie.Need-slice-aggregate-put-low-bytes-2
+slice-aggregate-put-low-bytes-2 c = search needs
 
-put-bytes-requires-2 : tie.Need-put-bytes-requires-2
-put-bytes-requires-2 c κs =
-    let start = c .before .before .before .before .before .before .before .before .before .before in
-    let put-bytes = c .before .before .before .put-bytes in
-    let n : length (start .args .bindings .names) ≡ bindingsMax = search needs in
-    omega (arith, n, put-bytes .kept .0)
+put-low-bytes-requires : tie.Need-put-low-bytes-requires
+put-low-bytes-requires c κs =
+    let n : length (c .before .before .before .before .before .before .before .before .before .before .args .bindings .names) ≡ bindingsMax = search needs in
+    omega (arith, n, c .before .before .before .put-bytes .kept .0)
 
-slice-aggregate-put-types : tie.Need-slice-aggregate-put-types
-slice-aggregate-put-types c = search needs
+slice-aggregate-put-words : tie.Need-slice-aggregate-put-words
+slice-aggregate-put-words c = search needs
 
-slice-aggregate-put-types-2 : tie.Need-slice-aggregate-put-types-2
-slice-aggregate-put-types-2 c = search needs
+slice-aggregate-put-words-2 : tie.Need-slice-aggregate-put-words-2
+slice-aggregate-put-words-2 c = search needs
 
-put-types-requires : tie.Need-put-types-requires
-put-types-requires c κs =
-    let start = c .before .before .before .before .before .before .before .before .before .before .before .before .before .before in
-    let put-bytes = c .before .before .before .before .before .before .before .put-bytes in
-    let put-bytes2 = c .before .before .before .put-bytes2 in
-    let t : length (start .args .bindings .types) ≡ bindingsMax = search needs in
-    omega (arith, t, put-bytes2 .kept .0 ∙ put-bytes .kept .0)
+put-words-requires : tie.Need-put-words-requires
+put-words-requires c κs =
+    let t : length (c .before .before .before .before .before .before .before .before .before .before .before .before .before .before .args .bindings .types) ≡ bindingsMax = search needs in
+    omega (arith, t, c .before .before .before .put-low-bytes .kept .0 ∙ c .before .before .before .before .before .before .before .put-bytes .kept .0)
 
 returns : tie.Need-returns
 returns c =
-    let start = c .before .before .before .before .before .before .before .before .before .before .before .before .before .before .before .before in
-    let no-binding-bytes = c .before .before .before .before .before .before .before .before .before .before .before .before .no-binding-bytes in
-    let put-bytes = c .before .before .before .before .before .before .before .before .before .put-bytes in
-    let put-bytes2 = c .before .before .before .before .before .put-bytes2 in
-    let put-types = c .before .put-types in
-    let b = start .args .bindings in
+    let b = c .before .before .before .before .before .before .before .before .before .before .before .before .before .before .before .before .args .bindings in
     let n : length (b .names) ≡ bindingsMax = search needs in
     let t : length (b .types) ≡ bindingsMax = search needs in
-    put-types .ensures ∙ rw (put-bytes2 .ensures, put-bytes .ensures, no-binding-bytes .ensures) (bindings-made b n t)
+    c .before .put-words .ensures ∙ rw (c .before .before .before .before .before .put-low-bytes .ensures, c .before .before .before .before .before .before .before .before .before .put-bytes .ensures, c .before .before .before .before .before .before .before .before .before .before .before .before .no-binding-bytes .ensures) (bindings-made b n t)
 
 pub binding-bytes-spec : {M : Type 1} → statement M
-binding-bytes-spec =
-    tie.close
-    (tie.spec
-    cast-t6
-    no-binding-bytes-requires
-    slice-aggregate-put-bytes
-    slice-aggregate-put-bytes-2
-    put-bytes-requires
-    slice-aggregate-put-bytes-3
-    slice-aggregate-put-bytes-4
-    put-bytes-requires-2
-    slice-aggregate-put-types
-    slice-aggregate-put-types-2
-    put-types-requires
-    returns)
+binding-bytes-spec = tie.close (tie.spec cast-t6 no-binding-bytes-requires slice-aggregate-put-bytes slice-aggregate-put-bytes-2 put-bytes-requires slice-aggregate-put-low-bytes slice-aggregate-put-low-bytes-2 put-low-bytes-requires slice-aggregate-put-words slice-aggregate-put-words-2 put-words-requires returns)

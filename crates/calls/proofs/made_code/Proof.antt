@@ -14,14 +14,14 @@ packed-as-requires c κs = search needs
 enum-known-made-2 : tie.Need-enum-known-made-2
 enum-known-made-2 c = search needs
 
-packed-as-requires-2 : tie.Need-packed-as-requires-2
-packed-as-requires-2 c κs = search needs
+refused-as-requires : tie.Need-refused-as-requires
+refused-as-requires c κs = search needs
 
 returns : tie.Need-returns
 returns c = c .packed-as .ensures ∙ ap madeCode (sym (c .before .before .made .given .1))
 
 returns-2 : tie.Need-returns-2
-returns-2 c = c .packed-as2 .ensures ∙ ap madeCode (sym (c .before .before .made2 .given .1))
+returns-2 c = c .refused-as .ensures ∙ ap madeCode (sym (c .before .before .made2 .given .1))
 
 pub made-code-spec : {M : Type 1} → statement M
 made-code-spec =
@@ -30,6 +30,6 @@ made-code-spec =
     enum-known-made
     packed-as-requires
     enum-known-made-2
-    packed-as-requires-2
+    refused-as-requires
     returns
     returns-2)

@@ -6,11 +6,8 @@ use Rattle.calls.proofs.operand_of.Tie as tie
 checked-of-requires : tie.Need-checked-of-requires
 checked-of-requires c κs = search needs
 
-maybe-or-broken-requires : tie.Need-maybe-or-broken-requires
-maybe-or-broken-requires c κs = search needs
-
 returns : tie.Need-returns
-returns c = rw (c .before .checked-of .ensures, c .maybe-or-broken .ensures)
+returns c = rw (c .checked-of .ensures)
 
 pub operand-of-spec : {M : Type 1} → statement M
-operand-of-spec = tie.close (tie.spec checked-of-requires maybe-or-broken-requires returns)
+operand-of-spec = tie.close (tie.spec checked-of-requires returns)

@@ -17,8 +17,8 @@ packed-as-requires c κs = search needs
 enum-known-added-2 : tie.Need-enum-known-added-2
 enum-known-added-2 c = search needs
 
-packed-as-requires-2 : tie.Need-packed-as-requires-2
-packed-as-requires-2 c κs = search needs
+refused-as-requires : tie.Need-refused-as-requires
+refused-as-requires c κs = search needs
 
 same-length : tie.Need-same-length
 same-length c = search needs
@@ -36,7 +36,7 @@ returns-2 : tie.Need-returns-2
 returns-2 c =
     let add-name = c .before .before .before .before .before .before .add-name in
     let added2 = c .before .before .added2 in
-    (c .packed-as2 .ensures ∙ ap addedCode (sym (added2 .given .1) ∙ add-name .ensures .0), add-name .ensures .1)
+    (c .refused-as .ensures ∙ ap addedCode (sym (added2 .given .1) ∙ add-name .ensures .0), add-name .ensures .1)
 
 pub riddlepoppy-add-name-spec : {M : Type 1} → statement M
 riddlepoppy-add-name-spec =
@@ -46,7 +46,7 @@ riddlepoppy-add-name-spec =
     enum-known-added
     packed-as-requires
     enum-known-added-2
-    packed-as-requires-2
+    refused-as-requires
     same-length
     returns
     same-length-2

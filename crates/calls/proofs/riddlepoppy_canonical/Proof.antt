@@ -21,8 +21,8 @@ packed-as-requires c κs = search needs
 enum-known-root-2 : tie.Need-enum-known-root-2
 enum-known-root-2 c = search needs
 
-packed-as-requires-2 : tie.Need-packed-as-requires-2
-packed-as-requires-2 c κs = search needs
+refused-as-requires : tie.Need-refused-as-requires
+refused-as-requires c κs = search needs
 
 returns : tie.Need-returns
 returns c =
@@ -30,7 +30,7 @@ returns c =
     c .packed-as .ensures ∙ ap (packed Passed) (c .before .symbol-index .ensures .0) ∙ code
 
 returns-2 : tie.Need-returns-2
-returns-2 c = c .packed-as2 .ensures ∙ ap rootCode (sym (c .before .before .root2 .given .1) ∙ c .before .before .before .before .canonical .ensures)
+returns-2 c = c .refused-as .ensures ∙ ap rootCode (sym (c .before .before .root2 .given .1) ∙ c .before .before .before .before .canonical .ensures)
 
 pub riddlepoppy-canonical-spec : {M : Type 1} → statement M
 riddlepoppy-canonical-spec =
@@ -41,6 +41,6 @@ riddlepoppy-canonical-spec =
     symbol-index-requires
     packed-as-requires
     enum-known-root-2
-    packed-as-requires-2
+    refused-as-requires
     returns
     returns-2)

@@ -27,8 +27,8 @@ packed-as-requires c κs = search needs
 enum-known-power-2 : tie.Need-enum-known-power-2
 enum-known-power-2 c = search needs
 
-packed-as-requires-2 : tie.Need-packed-as-requires-2
-packed-as-requires-2 c κs = search needs
+refused-as-requires : tie.Need-refused-as-requires
+refused-as-requires c κs = search needs
 
 returns : tie.Need-returns
 returns c =
@@ -48,7 +48,7 @@ returns-2 c =
     let exponent = c .before .before .before .before .exponent in
     let power2 = c .before .before .power2 in
     let u = ap (λ v. exponentAnswer v (start .args .symbol)) (unit-or-broken .ensures) in
-    c .packed-as2 .ensures ∙ ap powerCode (sym (power2 .given .1) ∙ exponent .ensures ∙ u)
+    c .refused-as .ensures ∙ ap powerCode (sym (power2 .given .1) ∙ exponent .ensures ∙ u)
 
 pub riddlepoppy-exponent-spec : {M : Type 1} → statement M
 riddlepoppy-exponent-spec =
@@ -60,6 +60,6 @@ riddlepoppy-exponent-spec =
     raw-requires
     packed-as-requires
     enum-known-power-2
-    packed-as-requires-2
+    refused-as-requires
     returns
     returns-2)

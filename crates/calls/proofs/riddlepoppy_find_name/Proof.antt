@@ -23,8 +23,8 @@ packed-as-requires-2 c κs = search needs
 enum-known-found-2 : tie.Need-enum-known-found-2
 enum-known-found-2 c = search needs
 
-packed-as-requires-3 : tie.Need-packed-as-requires-3
-packed-as-requires-3 c κs = search needs
+refused-as-requires : tie.Need-refused-as-requires
+refused-as-requires c κs = search needs
 
 returns : tie.Need-returns
 returns c =
@@ -41,7 +41,7 @@ returns-3 : tie.Need-returns-3
 returns-3 c =
     let find-name = c .before .before .before .before .find-name in
     let found2 = c .before .before .found2 in
-    c .packed-as3 .ensures ∙ ap foundCode (sym (found2 .given .1) ∙ find-name .ensures)
+    c .refused-as .ensures ∙ ap foundCode (sym (found2 .given .1) ∙ find-name .ensures)
 
 pub riddlepoppy-find-name-spec : {M : Type 1} → statement M
 riddlepoppy-find-name-spec =
@@ -53,7 +53,7 @@ riddlepoppy-find-name-spec =
     enum-told
     packed-as-requires-2
     enum-known-found-2
-    packed-as-requires-3
+    refused-as-requires
     returns
     returns-2
     returns-3)

@@ -31,8 +31,8 @@ packed-as-requires-2 c κs = search needs
 enum-known-first-2 : tie.Need-enum-known-first-2
 enum-known-first-2 c = search needs
 
-packed-as-requires-3 : tie.Need-packed-as-requires-3
-packed-as-requires-3 c κs = search needs
+refused-as-requires : tie.Need-refused-as-requires
+refused-as-requires c κs = search needs
 
 returns : tie.Need-returns
 returns c =
@@ -49,7 +49,7 @@ returns-2 c =
 returns-3 : tie.Need-returns-3
 returns-3 c =
     let e = sym (c .before .before .first2 .given .1) ∙ c .before .before .before .before .first-factor .ensures in
-    (c .packed-as3 .ensures ∙ ap factorCode e, ap (λ f. outAfterFactor f (now (c .before .before .before .before .before .before .before .args .out))) e)
+    (c .refused-as .ensures ∙ ap factorCode e, ap (λ f. outAfterFactor f (now (c .before .before .before .before .before .before .before .args .out))) e)
 
 pub riddlepoppy-first-factor-spec : {M : Type 1} → statement M
 riddlepoppy-first-factor-spec =
@@ -63,7 +63,7 @@ riddlepoppy-first-factor-spec =
     enum-told
     packed-as-requires-2
     enum-known-first-2
-    packed-as-requires-3
+    refused-as-requires
     returns
     returns-2
     returns-3)

@@ -14,8 +14,8 @@ read-value-requires c κs = search needs
 enum-known-verdict : tie.Need-enum-known-verdict
 enum-known-verdict c = search needs
 
-packed-as-requires : tie.Need-packed-as-requires
-packed-as-requires c κs = search needs
+refused-as-requires : tie.Need-refused-as-requires
+refused-as-requires c κs = search needs
 
 returns : tie.Need-returns
 unfolding unitlessIn
@@ -24,7 +24,7 @@ returns c =
     let read-value = c .before .before .before .before .read-value in
     let verdict = c .before .before .verdict in
     let v : read-value .result .verdict ≡ valueVerdict (now (start .args .bytes)) = ap (λ (v : Value). v .verdict) (read-value .ensures) in
-    c .packed-as .ensures ∙ rw (← v, verdict .given .1)
+    c .refused-as .ensures ∙ rw (← v, verdict .given .1)
 
 enum-told : tie.Need-enum-told
 enum-told c = search needs
@@ -49,4 +49,4 @@ returns-2 c =
 pub riddlepoppy-is-dimensionless-spec : {M : Type 1} → statement M
 riddlepoppy-is-dimensionless-spec =
     tie.close
-    (tie.spec read-value-requires enum-known-verdict packed-as-requires returns enum-told is-dimensionless-requires answer-code-requires returns-2)
+    (tie.spec read-value-requires enum-known-verdict refused-as-requires returns enum-told is-dimensionless-requires answer-code-requires returns-2)

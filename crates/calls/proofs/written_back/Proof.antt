@@ -29,8 +29,8 @@ packed-as-requires-2 c κs = search needs
 enum-known-answer : tie.Need-enum-known-answer
 enum-known-answer c = search needs
 
-packed-as-requires-3 : tie.Need-packed-as-requires-3
-packed-as-requires-3 c κs = search needs
+refused-as-requires : tie.Need-refused-as-requires
+refused-as-requires c κs = search needs
 
 returns : tie.Need-returns
 returns c =
@@ -48,7 +48,7 @@ returns-3 : tie.Need-returns-3
 returns-3 c =
     let a = c .before .before .before .before .args in
     let e = sym (c .before .before .answer .given .1) in
-    (c .packed-as3 .ensures ∙ ap answerCode e, ap (λ (r : Answer). bindingsAfter r (a .result .bindings) (now (a .bytes))) e)
+    (c .refused-as .ensures ∙ ap answerCode e, ap (λ (r : Answer). bindingsAfter r (a .result .bindings) (now (a .bytes))) e)
 
 pub written-back-spec : {M : Type 1} → statement M
 written-back-spec =
@@ -61,7 +61,7 @@ written-back-spec =
     binding-bytes-requires-2
     packed-as-requires-2
     enum-known-answer
-    packed-as-requires-3
+    refused-as-requires
     returns
     returns-2
     returns-3)
