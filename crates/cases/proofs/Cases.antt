@@ -16,7 +16,7 @@ use Rattle.types.specs.Recur.{below, run, cov}
 use Rattle.matching.specs.Matching.{smaller, nullOr, arrayElision, nullArrayElision, mapElision, nullMapElision, recordMatches, enumMatches, setMatches, handleMatches, flatMatches, wild, plainMatches, anyRule, knownMatches, matches, inUse as typeInUse}
 use Rattle.bindings.specs.Bindings.{isBound, withBinding}
 use Rattle.unification.specs.Unification.{andThen, pairsTo, allPairs, genericUnify, isAdopted, unifyRule, unify}
-use Rattle.names.specs.Calls.{lentBroken, usedOf}
+use Rattle.names.specs.Calls.{lentBroken, usedOf, isUsed}
 use Rattle.types.specs.Calls.{storeBroken}
 use Rattle.pairs.specs.Table.{pairsIn, formed as tableFormed}
 use Rattle.pairs.specs.Page.{tableIn, holds, formed as pageFormed}
@@ -40,10 +40,10 @@ unfolding cases productVerdict productOf formed rootOf parentsOf enterAll enter 
     tableBroken pageFormed holds tableIn tableFormed pairsIn typeInUse symbolsInUse emptyVerdict emptyPage
     binaryChecked withUnit passes clashes unitless binaryUnit checkBinary binaryKnown binaryBy binaryRule
     plainBinary misfit notBools fits suits looks takes gives familyOf classOf unitRule resultRule
-    unaryAnswer unaryPage unaryUnit checkUnary unaryErrors failing foldTo errorsOf membersOf gather
+    unaryAnswer unaryPage unaryUnit checkUnary unaryErrors failing foldTo errorsOf membersOf gather isUsed
 every-case-holds = ((refl, refl), (refl, (refl, (refl, (refl, (refl, (refl, (refl, (refl, (refl, (refl, (refl, (refl, (refl, (refl, (refl, (refl, (refl, ((refl, refl), tt)))))))))))))))))))
 
 -- the types of the rows stand in a store in form, with one name in use
 pub store-formed : storeFormed store 1 ≡ true
-unfolding storeFormed store goodAt partsAt fewest most offset sizeAt nameBytes depths deepest depthIn eqs zeros allTo anyTo firstTo
+unfolding storeFormed store goodAt partsAt fewest most offset sizeAt nameBytes depths deepest depthIn eqs zeros allTo anyTo firstTo isUsed
 store-formed = refl

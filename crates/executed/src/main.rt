@@ -1,6 +1,6 @@
 // Document 01's cases that are executed and not proved as rows of `cases`: "Array Byte takes Array Int; Byte refuses Int", "Unequal
-// lengths bind nothing" ("Types"), "m^1000/m passes; m^1000 times m is refusal 8" ("Units and pairs"), and those of operators and
-// indexing ("Answers").
+// lengths bind nothing" ("Types"), "m^1000/m passes; m^1000 times m is refusal 8" ("Units and pairs"), those of operators and
+// indexing ("Answers"), and refusals 3 and 5 of symbols that no byte holds.
 use answers::Answered;
 use answers::CheckedExpr;
 use bindings::BINDINGS;
@@ -16,22 +16,28 @@ use units::MaybeUnit;
 use units::PLACES;
 use units::Unit;
 ghost use mathlib.Core.Path.{_≡_};
-ghost use mathlib.Core.Bool.{true};
+ghost use mathlib.Core.Bool.{true, false};
 ghost use mathlib.Core.List.{[], _∷_};
 ghost use Prim.Native.Nat.{_<_};
 ghost use Rattle.refusals.specs.declared.Verdict.the-variants.{Passed};
-ghost use Rattle.units.specs.Unit.{term};
-ghost use Rattle.units.specs.Calls.{unitOf};
+ghost use Rattle.names.specs.Table.{namesMax};
+ghost use Rattle.units.specs.Unit.{placesMax, term};
+ghost use Rattle.units.specs.Unit as units;
+ghost use Rattle.units.specs.Calls.{termsOf, unitOf};
+ghost use Rattle.groups.specs.Groups.{pair};
+ghost use Rattle.pairs.specs.Table.{bothUsed};
 ghost use Rattle.types.specs.Store.{formed};
 ghost use Rattle.types.specs.Types.{typesIn};
 ghost use Rattle.unification.specs.Unification.{said, unify};
-ghost use Rattle.executed.specs.Rows.{unbound, isPlain, tagOf, numberIn, noPairs, expected, BinaryRow, UnaryRow, IndexRow};
+ghost use Rattle.executed.specs.Rows.{unbound, isPlain, tagOf, numberIn, refusalIn, inchTable, inUseSaid, expected, BinaryRow, UnaryRow, IndexRow, ConvertRow};
 
 const NULL: usize = 0;
 
 const INT: usize = 1;
 
 const UINT: usize = 3;
+
+const FLOAT: usize = 5;
 
 const BYTE: usize = 11;
 
@@ -49,14 +55,37 @@ const TUPLE_A: usize = 20;
 
 const TUPLE_INT_INT: usize = 21;
 
-// A store of Any(Int, Float), Any(Int) and Tuple(Int).
-const UNIONS: [u8; 16] = [0, 3, 2, 29, 0, 1, 0, 5, 1, 29, 0, 1, 1, 27, 0, 1];
+// A store of Any(Int, Float), Any(Int), Tuple(Int) and Array Float.
+const UNIONS: [u8; 20] = [
+    0, // a count of 4
+    4,
+    2, // Any(Int, Float)
+    29,
+    0,
+    1,
+    0,
+    5,
+    1, // Any(Int)
+    29,
+    0,
+    1,
+    1, // Tuple(Int)
+    27,
+    0,
+    1,
+    1, // Array Float
+    19,
+    0,
+    5,
+];
 
 const ANY_INT_FLOAT: usize = 19;
 
 const ANY_INT: usize = 20;
 
 const TUPLE_INT: usize = 21;
+
+const ARRAY_FLOAT: usize = 22;
 
 // How many names there are.
 const NAMES: usize = 1;
@@ -67,13 +96,18 @@ const SECOND: Symbol = 1;
 
 const MILLIMETRE: Symbol = 2;
 
-// A table of their names, m, s and mm.
-const SYMBOLS: [u8; 9] = [0, 3, 1, 109, 1, 115, 2, 109, 109];
+const INCH: Symbol = 3;
 
-// How many bytes a table without pairs takes.
-const TABLE_BYTES: usize = 258;
+// A table of their names, m, s, mm and in.
+const SYMBOLS: [u8; 12] = [0, 4, 1, 109, 1, 115, 2, 109, 109, 2, 105, 110];
 
-// Units: none, m, m^1000, s, mm.
+// 25.4, the factor of the pair (in, mm), as the bits of an f64.
+const FACTOR: u64 = 0x4039666666666666;
+
+// How many bytes a table of one pair takes.
+const TABLE_BYTES: usize = 268;
+
+// Units: none, m, m^1000, s, mm, in.
 const NO_UNIT: MaybeUnit = MaybeUnit {
     some: false,
     unit: Unit {
@@ -119,6 +153,56 @@ const MM: MaybeUnit = MaybeUnit {
     },
 };
 
+const IN: MaybeUnit = MaybeUnit {
+    some: true,
+    unit: Unit {
+        count: 1,
+        symbols: [INCH, 0, 0, 0, 0, 0, 0, 0],
+        exponents: [1, 0, 0, 0, 0, 0, 0, 0],
+    },
+};
+
+// Units of one symbol that no byte holds.
+const WIDE_256: MaybeUnit = MaybeUnit {
+    some: true,
+    unit: Unit {
+        count: 1,
+        symbols: [256, 0, 0, 0, 0, 0, 0, 0],
+        exponents: [1, 0, 0, 0, 0, 0, 0, 0],
+    },
+};
+
+const WIDE_300: MaybeUnit = MaybeUnit {
+    some: true,
+    unit: Unit {
+        count: 1,
+        symbols: [300, 0, 0, 0, 0, 0, 0, 0],
+        exponents: [1, 0, 0, 0, 0, 0, 0, 0],
+    },
+};
+
+// Units that say nine symbols, of which eight stand in their places: the eighth is one that a name can have, or one that no byte holds.
+const NINE: MaybeUnit = MaybeUnit {
+    some: true,
+    unit: Unit {
+        count: 9,
+        symbols: [0, 1, 2, 3, 4, 5, 6, 7],
+        exponents: [1; PLACES],
+    },
+};
+
+const NINE_WIDE: MaybeUnit = MaybeUnit {
+    some: true,
+    unit: Unit {
+        count: 9,
+        symbols: [0, 1, 2, 3, 4, 5, 6, 300],
+        exponents: [1; PLACES],
+    },
+};
+
+// How many names are said to be in use: more than there can be.
+const IN_USE: usize = 300;
+
 // Operands: a type with a unit or none.
 const UINT_PLAIN: CheckedExpr = CheckedExpr {
     checked: Checked::Known(UINT),
@@ -133,6 +217,11 @@ const UINT_MM: CheckedExpr = CheckedExpr {
 const UINT_S: CheckedExpr = CheckedExpr {
     checked: Checked::Known(UINT),
     unit: S,
+};
+
+const UINT_IN: CheckedExpr = CheckedExpr {
+    checked: Checked::Known(UINT),
+    unit: IN,
 };
 
 const INT_M: CheckedExpr = CheckedExpr {
@@ -168,6 +257,11 @@ const NULL_PLAIN: CheckedExpr = CheckedExpr {
 const TUPLE_PLAIN: CheckedExpr = CheckedExpr {
     checked: Checked::Known(TUPLE_INT),
     unit: NO_UNIT,
+};
+
+const ARRAY_FLOAT_MM: CheckedExpr = CheckedExpr {
+    checked: Checked::Known(ARRAY_FLOAT),
+    unit: MM,
 };
 
 // Operators: + and ×.
@@ -348,16 +442,17 @@ fn expect_answer(a: Answered, verdict: Verdict, c: Checked, unit: MaybeUnit, err
     expect_errors(a.errors, errors);
 }
 
-// A table without pairs.
-fn no_pairs() -> [u8; TABLE_BYTES]
-    ensures { λ r. ⌜ r ≡ noPairs ⌝ }
+// A table of the pair (in, mm).
+fn inch_table() -> [u8; TABLE_BYTES]
+    ensures { λ r. ⌜ r ≡ inchTable ⌝ }
 {
     let mut table = [0u8; TABLE_BYTES];
     pairs::empty_pairs(&mut table);
+    pairs::insert_pair(&mut table, &SYMBOLS, true, INCH, FACTOR, MILLIMETRE);
     table
 }
 
-// Expects what a binary operator answers, over the store of unions and a table without pairs.
+// Expects what a binary operator answers, over the store of unions and the table of the pair (in, mm).
 fn expect_binary(
     op: usize,
     left: CheckedExpr,
@@ -369,7 +464,7 @@ fn expect_binary(
 )
     requires { ⌜ BinaryRow op left right (expected verdict c unit errors) ⌝ }
 {
-    let table = no_pairs();
+    let table = inch_table();
     let a = answers::check_binary_operator(&UNIONS, &SYMBOLS, true, &table, op, left, right);
     expect_answer(a, verdict, c, unit, errors);
 }
@@ -395,37 +490,18 @@ fn expect_index(target: CheckedExpr, c: Checked, unit: MaybeUnit, errors: Errors
 }
 
 // The cases of sums: "Sums with one unitless side adopt the other's unit. A sum or difference of two units that are not convertible,
-// neither side unitless, never answers a number without an error, UInt included".
+// neither side unitless, never answers a number without an error, UInt included; a number answered from two convertible ones has
+// the left's".
 fn expect_sums() {
     let uint = Checked::Known(UINT);
-    expect_binary(PLUS, UINT_MM, UINT_MM, Verdict::Passed, uint, MM, NO_ERROR);
-    expect_binary(
-        PLUS,
-        UINT_PLAIN,
-        UINT_MM,
-        Verdict::Passed,
-        uint,
-        MM,
-        NO_ERROR,
-    );
-    expect_binary(
-        PLUS,
-        UINT_MM,
-        UINT_S,
-        Verdict::Passed,
-        uint,
-        NO_UNIT,
-        BAD_UNITS,
-    );
-    expect_binary(
-        MINUS,
-        UINT_MM,
-        UINT_S,
-        Verdict::Passed,
-        uint,
-        NO_UNIT,
-        BAD_UNITS,
-    );
+    let passed = Verdict::Passed;
+    expect_binary(PLUS, UINT_MM, UINT_MM, passed, uint, MM, NO_ERROR);
+    expect_binary(PLUS, UINT_PLAIN, UINT_MM, passed, uint, MM, NO_ERROR);
+    expect_binary(PLUS, UINT_MM, UINT_PLAIN, passed, uint, MM, NO_ERROR);
+    expect_binary(PLUS, UINT_IN, UINT_MM, passed, uint, IN, NO_ERROR);
+    expect_binary(PLUS, UINT_MM, UINT_IN, passed, uint, MM, NO_ERROR);
+    expect_binary(PLUS, UINT_MM, UINT_S, passed, uint, NO_UNIT, BAD_UNITS);
+    expect_binary(MINUS, UINT_MM, UINT_S, passed, uint, NO_UNIT, BAD_UNITS);
 }
 
 // The cases of unions: no member's trial meets a unit's limits, the final result does; "Unary − on Any(Int, Float) with mm: that
@@ -463,7 +539,65 @@ fn expect_unions() {
 fn expect_indexing() {
     expect_index(NULL_PLAIN, Checked::Unknown, NO_UNIT, NO_ERROR);
     expect_index(TUPLE_PLAIN, Checked::Unknown, NO_UNIT, NO_ERROR);
+    expect_index(ARRAY_FLOAT_MM, Checked::Known(FLOAT), MM, NO_ERROR);
     expect_index(INT_MM, Checked::Unknown, MM, NOT_INDEXABLE);
+}
+
+// The number of the refusal that an answer is, 0 where it is none.
+fn refusal_in(answer: Answer) -> u8
+    ensures { λ r. ⌜ r ≡ refusalIn answer ⌝ }
+{
+    match answer {
+        Answer::Yes => 0,
+        Answer::No => 0,
+        Answer::Refused(r) => refusals::number(r),
+    }
+}
+
+// Expects that asking whether two units convert is refused, over the table of the pair (in, mm), without names lent.
+fn expect_unconverted(left: MaybeUnit, right: MaybeUnit, refusal: u8)
+    requires { ⌜ ConvertRow left right refusal ⌝ }
+{
+    let table = inch_table();
+    let answer = sums::is_convertible_to(&table, &SYMBOLS, false, left, right);
+    check::expect(refusal_in(answer) == refusal);
+}
+
+// Expects that a unit is refused for its form (5): by itself, on the left of a product, and on the right of a quotient.
+fn expect_unformed(u: Unit)
+    requires { ⌜ units.formed placesMax namesMax (termsOf u) ≡ false ⌝ }
+{
+    let metre = power(METRE, 1);
+    let form = units::unit_form(u);
+    check::expect(refusals::code(form) == 5);
+    let product = units::product(u, metre, false);
+    let left = product.verdict;
+    check::expect(refusals::code(left) == 5);
+    let quotient = units::product(metre, u, true);
+    let right = quotient.verdict;
+    check::expect(refusals::code(right) == 5);
+}
+
+// Expects that a pair is refused by value for a symbol not in use (3), where more names are said to be in use than there can be.
+fn expect_unused(symbol: Symbol, base: Symbol)
+    requires { ⌜ bothUsed inUseSaid (pair symbol base) ≡ false ⌝ }
+{
+    let out = pairs::inserted(pairs::fresh_table(), IN_USE, symbol, FACTOR, base);
+    let verdict = out.verdict;
+    check::expect(refusals::code(verdict) == 3);
+}
+
+// The cases of symbols that no byte holds: a number not in use (3) wherever symbols are looked up, by value those in the eight
+// places; where none is looked up, a unit that breaks its form (5).
+fn expect_wide() {
+    expect_unconverted(WIDE_256, NO_UNIT, 3);
+    expect_unconverted(MM, WIDE_300, 3);
+    expect_unconverted(NINE_WIDE, NO_UNIT, 3);
+    expect_unconverted(NINE, NO_UNIT, 5);
+    expect_unformed(power(256, 1));
+    expect_unformed(power(300, 1));
+    expect_unused(280, 1);
+    expect_unused(1, 280);
 }
 
 fn main() {
@@ -472,4 +606,5 @@ fn main() {
     expect_sums();
     expect_unions();
     expect_indexing();
+    expect_wide();
 }

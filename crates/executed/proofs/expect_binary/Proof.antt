@@ -10,8 +10,8 @@ use borrow.Author.Needs.{needs}
 use Rattle.executed.proofs.expect_binary.Statement.{statement}
 use Rattle.executed.proofs.expect_binary.Tie as tie
 
-no-pairs-requires : tie.Need-no-pairs-requires
-no-pairs-requires c κs = search needs
+inch-table-requires : tie.Need-inch-table-requires
+inch-table-requires c κs = search needs
 
 slice-aggregate-check-binary-operator : tie.Need-slice-aggregate-check-binary-operator
 slice-aggregate-check-binary-operator c = search needs
@@ -28,10 +28,10 @@ check-binary-operator-requires c κs = search needs
 expect-answer-requires : tie.Need-expect-answer-requires
 expect-answer-requires c κs =
     let start = c .before .before .before .before .before in
-    let no-pairs = c .before .before .before .before .no-pairs in
+    let inch-table = c .before .before .before .before .inch-table in
     let x = start .args in
     let on : List ℕ → Answered = λ t. binaryAnswer unions symbols true t (x .op) (x .left) (x .right) in
-    c .check-binary-operator .ensures ∙ ap on (no-pairs .ensures) ∙ start .pre
+    c .check-binary-operator .ensures ∙ ap on (inch-table .ensures) ∙ start .pre
 
 returns : tie.Need-returns
 returns c = search needs
@@ -40,7 +40,7 @@ pub expect-binary-spec : {M : Type 1} → statement M
 expect-binary-spec =
     tie.close
     (tie.spec
-    no-pairs-requires
+    inch-table-requires
     slice-aggregate-check-binary-operator
     slice-aggregate-check-binary-operator-2
     slice-aggregate-check-binary-operator-3

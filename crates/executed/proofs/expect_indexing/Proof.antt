@@ -15,7 +15,11 @@ expect-index-requires-2 c κs = rows .tuple
 
 expect-index-requires-3 : tie.Need-expect-index-requires-3
 unfolding pad
-expect-index-requires-3 c κs = rows .kept
+expect-index-requires-3 c κs = rows .element
+
+expect-index-requires-4 : tie.Need-expect-index-requires-4
+unfolding pad
+expect-index-requires-4 c κs = rows .kept
 
 returns : tie.Need-returns
 returns c = search needs
@@ -23,4 +27,9 @@ returns c = search needs
 pub expect-indexing-spec : {M : Type 1} → statement M
 expect-indexing-spec =
     tie.close
-    (tie.spec expect-index-requires expect-index-requires-2 expect-index-requires-3 returns)
+    (tie.spec
+    expect-index-requires
+    expect-index-requires-2
+    expect-index-requires-3
+    expect-index-requires-4
+    returns)

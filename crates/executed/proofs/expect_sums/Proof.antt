@@ -15,11 +15,23 @@ expect-binary-requires-2 c κs = rows .adopted
 
 expect-binary-requires-3 : tie.Need-expect-binary-requires-3
 unfolding pad
-expect-binary-requires-3 c κs = rows .sum
+expect-binary-requires-3 c κs = rows .kept-left
 
 expect-binary-requires-4 : tie.Need-expect-binary-requires-4
 unfolding pad
-expect-binary-requires-4 c κs = rows .difference
+expect-binary-requires-4 c κs = rows .in-mm
+
+expect-binary-requires-5 : tie.Need-expect-binary-requires-5
+unfolding pad
+expect-binary-requires-5 c κs = rows .mm-in
+
+expect-binary-requires-6 : tie.Need-expect-binary-requires-6
+unfolding pad
+expect-binary-requires-6 c κs = rows .sum
+
+expect-binary-requires-7 : tie.Need-expect-binary-requires-7
+unfolding pad
+expect-binary-requires-7 c κs = rows .difference
 
 returns : tie.Need-returns
 returns c = search needs
@@ -32,4 +44,7 @@ expect-sums-spec =
     expect-binary-requires-2
     expect-binary-requires-3
     expect-binary-requires-4
+    expect-binary-requires-5
+    expect-binary-requires-6
+    expect-binary-requires-7
     returns)

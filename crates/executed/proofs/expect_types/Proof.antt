@@ -3,6 +3,7 @@ use mathlib.Core.Path.{refl}
 use native.Mathlib.Omega.{arith}
 use Rattle.pages.specs.Quant.{allTo, anyTo, firstTo}
 use Rattle.pages.specs.Bytes.{eqs, zeros}
+use Rattle.names.specs.Calls.{isUsed}
 use Rattle.kinds.specs.Kinds.{fewest, most, constMatches}
 use Rattle.types.specs.Store.{nameBytes, sizeAt, offset, deepest, depths, depthIn, partsAt, goodAt, formed}
 use Rattle.types.specs.Types.{kindOf, arity, childOf}
@@ -36,7 +37,7 @@ slice-aggregate-expect-unified-3 c = search needs
 
 expect-unified-requires-3 : tie.Need-expect-unified-requires-3
 unfolding formed goodAt partsAt fewest most offset sizeAt nameBytes depths deepest depthIn eqs zeros allTo anyTo firstTo
-    unify unifyRule allPairs cov run kindOf arity
+    unify unifyRule allPairs cov run kindOf arity isUsed
 expect-unified-requires-3 c κs = (refl, ((omega arith, omega arith), refl))
 
 returns : tie.Need-returns

@@ -28,8 +28,14 @@ expect-requires-2 c κs = eq-eqb _ _ (ap (λ (m : MaybeUnit). m .unit .count) (c
 loop-holds : tie.Need-loop-holds Inv-loop μ-loop
 loop-holds c = search needs
 
+mul-expect : tie.Need-mul-expect Inv-loop μ-loop
+mul-expect c = search needs
+
 element-copy-out-expect : tie.Need-element-copy-out-expect Inv-loop μ-loop
 element-copy-out-expect c = search needs
+
+mul-expect-2 : tie.Need-mul-expect-2 Inv-loop μ-loop
+mul-expect-2 c = search needs
 
 element-copy-out-expect-2 : tie.Need-element-copy-out-expect-2 Inv-loop μ-loop
 element-copy-out-expect-2 c = search needs
@@ -39,14 +45,14 @@ expect-requires-3 c κs =
     let start = c .before .before .before .before .before .before .before .before .before .before in
     eq-eqb _ _ (ap (λ (m : MaybeUnit). getD (m .unit .symbols) (c .before .before .before .loop .i) 0) (start .pre))
 
-mul-expect : tie.Need-mul-expect Inv-loop μ-loop
-mul-expect c = search needs
+mul-expect-3 : tie.Need-mul-expect-3 Inv-loop μ-loop
+mul-expect-3 c = search needs
 
 element-copy-out-expect-3 : tie.Need-element-copy-out-expect-3 Inv-loop μ-loop
 element-copy-out-expect-3 c = search needs
 
-mul-expect-2 : tie.Need-mul-expect-2 Inv-loop μ-loop
-mul-expect-2 c = search needs
+mul-expect-4 : tie.Need-mul-expect-4 Inv-loop μ-loop
+mul-expect-4 c = search needs
 
 element-copy-out-expect-4 : tie.Need-element-copy-out-expect-4 Inv-loop μ-loop
 element-copy-out-expect-4 c = search needs
@@ -78,12 +84,14 @@ expect-unit-spec =
     expect-requires
     expect-requires-2
     loop-holds
+    mul-expect
     element-copy-out-expect
+    mul-expect-2
     element-copy-out-expect-2
     expect-requires-3
-    mul-expect
+    mul-expect-3
     element-copy-out-expect-3
-    mul-expect-2
+    mul-expect-4
     element-copy-out-expect-4
     expect-requires-4
     add-i
