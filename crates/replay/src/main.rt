@@ -3,6 +3,8 @@
 use calls::ANSWER_BYTES;
 use calls::BINDING_BYTES;
 use calls::TYPE_BYTES;
+use kinds::Kind;
+use names::Symbol;
 use pages::LONG_BYTES;
 use pages::index;
 use pages::same;
@@ -10,10 +12,13 @@ use pages::word_at;
 use types::CHILD_BYTES;
 ghost use mathlib.Core.Path.{_≡_};
 ghost use Prim.Native.Nat.{_+_, _*_, _≤_, _<_};
-ghost use lib.ListN.{length};
+ghost use lib.ListN.{length, replicate};
 
 // How many bytes the sample has at most.
 const SAMPLE_BYTES: usize = 655360;
+
+// The sample, with zeros after it.
+type Sample = [u8; SAMPLE_BYTES];
 
 // How many bytes a page has at most that a call writes.
 const PAGE_BYTES: usize = 8192;
@@ -64,9 +69,14 @@ fn field(s: &[u8], at: usize) -> Span
     }
 }
 
-// The symbol or the kind that an argument's low byte says.
-fn symbol_in(argument: usize) -> u8 {
+// The kind that an argument's low byte says.
+fn kind_in(argument: usize) -> Kind {
     (argument % 256) as u8
+}
+
+// The symbol that it says.
+fn symbol_in(argument: usize) -> Symbol {
+    (argument % 256) as Symbol
 }
 
 // Whether names are lent, which an argument's high byte says.
@@ -79,7 +89,7 @@ fn insertion(page: &mut [u8], argument: usize, pair: &[u8], names: &[u8]) -> u32
     if pair.len() != BASE_BYTES + LONG_BYTES {
         return NO_ANSWER;
     }
-    let base = pair[0];
+    let base = index(pair[0]) as Symbol;
     let factor = pages::long(pair, BASE_BYTES);
     let lent = is_lent(argument);
     calls::riddlepoppy_insert_pair(page, names, lent, symbol_in(argument), factor, base)
@@ -116,8 +126,9 @@ fn making(page: &mut [u8], argument: usize, body: &[u8], names: &[u8]) -> u32 {
     let mut children = [0u16; CHILDREN];
     put_children(&mut children, n, body);
     let lent = is_lent(argument);
-    let kind = symbol_in(argument);
-    calls::riddlepoppy_make_type(page, names, lent, kind, &children[..n], body[0])
+    let kind = kind_in(argument);
+    let name = index(body[0]) as Symbol;
+    calls::riddlepoppy_make_type(page, names, lent, kind, &children[..n], name)
 }
 
 // What into_const answers, with the number in a field; no answer where the field has another length.
@@ -562,6 +573,48 @@ fn is_answered(
     )
 }
 
+// The same where the names and the pairs that are lent, and the answer, are still to be read.
+fn is_lent_same(
+    call: u8,
+    argument: usize,
+    page: &[u8],
+    first: &[u8],
+    second: &[u8],
+    rest: &[u8],
+) -> bool
+    requires { ⌜ argument < 65536 ⌝ }
+{
+    let names = field(rest, 0);
+    let a = names.start;
+    let b = names.end;
+    let table = field(rest, b);
+    let c = table.start;
+    let d = table.end;
+    is_answered(
+        call,
+        argument,
+        page,
+        first,
+        second,
+        &rest[a..b],
+        &rest[c..d],
+        &rest[d..],
+    )
+}
+
+// The same where the two inputs beside the page are still to be read, too.
+fn is_given_same(call: u8, argument: usize, page: &[u8], rest: &[u8]) -> bool
+    requires { ⌜ argument < 65536 ⌝ }
+{
+    let first = field(rest, 0);
+    let a = first.start;
+    let b = first.end;
+    let second = field(rest, b);
+    let c = second.start;
+    let d = second.end;
+    is_lent_same(call, argument, page, &rest[a..b], &rest[c..d], &rest[d..])
+}
+
 // Whether a row's call answers what the row says: the call, its argument, a page and four more inputs, and the answer.
 fn is_same(row: &[u8]) -> bool {
     if row.len() < 3 {
@@ -570,30 +623,9 @@ fn is_same(row: &[u8]) -> bool {
     let call = row[0];
     let argument = word_at(row, 1);
     let page = field(row, 3);
-    let p = page.start;
-    let q = page.end;
-    let first = field(row, q);
-    let a = first.start;
-    let b = first.end;
-    let second = field(row, b);
-    let c = second.start;
-    let d = second.end;
-    let names = field(row, d);
-    let e = names.start;
-    let f = names.end;
-    let table = field(row, f);
-    let g = table.start;
-    let h = table.end;
-    is_answered(
-        call,
-        argument,
-        &row[p..q],
-        &row[a..b],
-        &row[c..d],
-        &row[e..f],
-        &row[g..h],
-        &row[h..],
-    )
+    let start = page.start;
+    let end = page.end;
+    is_given_same(call, argument, &row[start..end], &row[end..])
 }
 
 // Replays every row.
@@ -614,12 +646,23 @@ fn replayed(sample: &[u8]) -> Tally {
     Tally { rows, differ }
 }
 
-fn main() {
-    let mut sample = [0u8; SAMPLE_BYTES];
-    let n = io::read_full(libc::STDIN_FILENO, &mut sample);
-    let tally = replayed(&sample[..n]);
+// No byte of the sample yet.
+fn no_sample() -> Sample
+    ensures { λ r. ⌜ r ≡ replicate 655360 0 ⌝ }
+{
+    [0; SAMPLE_BYTES]
+}
+
+// Says how many rows there were, and how many were answered otherwise.
+fn say(tally: Tally) {
     io::print_decimal(libc::STDOUT_FILENO, tally.rows as u64);
     io::write_all(libc::STDOUT_FILENO, b" rows, ");
     io::print_decimal(libc::STDOUT_FILENO, tally.differ as u64);
     io::write_all(libc::STDOUT_FILENO, b" differ\n");
+}
+
+fn main() {
+    let mut sample = no_sample();
+    let n = io::read_full(libc::STDIN_FILENO, &mut sample);
+    say(replayed(&sample[..n]));
 }

@@ -8,7 +8,7 @@ use crate::call::{Call, Given, Operand, Outcome, Pages, Question};
 use crate::limits::{Refusal, ABSENT, BROKEN_TABLE, NO_UNIT, UNDEFINED_CODE};
 use crate::pairs::{lowest, Pairs};
 use crate::types::{are_within_reach, Tables};
-use crate::units::{oracle_unit, result_terms, terms_in_use, unit_bytes, Term};
+use crate::units::{oracle_unit, result_terms, terms_or_none, unit_bytes, Term};
 use oracle::reasons::Reason;
 use oracle::structs::{CheckType, CheckedExpr, TypeChecker};
 use oracle::units::{ConversionTable, Unit};
@@ -51,10 +51,7 @@ struct Side {
 
 impl Side {
     fn read(tables: &Tables, Operand { checked, unit }: Operand) -> Result<Self, Refusal> {
-        let terms = match unit == NO_UNIT {
-            true => Ok(None),
-            false => terms_in_use(unit, tables.names.len()).map(Some),
-        };
+        let terms = terms_or_none(unit, tables.names.len());
         let (ty, terms) = lowest(tables.checked(checked), terms)?;
         let unit = terms.as_ref().map(|terms| oracle_unit(terms, |symbol| name(tables, symbol)));
         let expression = CheckedExpr::new(ty, unit);
@@ -399,17 +396,26 @@ mod tests {
     fn the_lowest_refusal_comes_first() {
         let (store, [array]) = stored([&over(ARRAY, &[INT])], 0);
         let besides = besides();
+        let mut nine = several(0, MAX_SYMBOLS + 1);
+        nine[MAX_SYMBOLS].0 = 99;
+        let nine = unit_bytes(&nine);
         let ask = |op: u32, pairs: &[u8], left: Operand, right: Operand| {
             let pages = Pages { pairs, ..besides[0].with(&store) };
             expected(&Question::check_binary_operator(pages, op, left, right)).refusal
         };
         let (good, unused) = (operand(INT, &[0]), operand(array + 1, &[0]));
         let (broken, symbol) = (operand(INT, &[9]), operand(INT, &[1, 99, 0, 0]));
+        let (ninth, cut) = (operand(INT, &nine), operand(INT, &[3, 0, 0, 1, 99]));
         let pairs = &besides[0].pairs;
         assert_eq!(ask(14, b"", unused, broken), UNDEFINED_CODE);
         assert_eq!(ask(PLUS, b"", unused, broken), BROKEN_TABLE);
         assert_eq!(ask(PLUS, pairs, broken, unused), NOT_IN_USE);
-        assert_eq!(ask(PLUS, pairs, broken, symbol), NOT_IN_USE);
+        for unused in [symbol, ninth, cut] {
+            assert_eq!(ask(14, pairs, unused, broken), UNDEFINED_CODE);
+            assert_eq!(ask(PLUS, b"", broken, unused), BROKEN_TABLE);
+            assert_eq!(ask(PLUS, pairs, broken, unused), NOT_IN_USE);
+            assert_eq!(ask(PLUS, pairs, unused, broken), NOT_IN_USE);
+        }
         assert_eq!(ask(PLUS, pairs, broken, good), BROKEN_UNIT);
         let beside = besides[0].with(&store);
         let asked = expected(&Question::check_index(beside, broken, 99));

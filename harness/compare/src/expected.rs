@@ -18,13 +18,19 @@ pub fn expected(question: &Question) -> Answer {
         Call::IsDimensionless => units::is_dimensionless(first),
         Call::UnitText => units::unit_text(page, first),
         Call::EmptyPairs => pairs::empty_pairs(page),
-        Call::InsertPair => pairs::insert_pair(page, names, lent, question.pair()),
+        Call::InsertPair => {
+            let (symbol_and_base, factor) = question.insertion();
+            pairs::insert_pair(page, names, lent, symbol_and_base, factor)
+        }
         Call::Canonical => pairs::canonical(page, names, lent, symbol),
         Call::Factor => pairs::factor(page, names, lent, symbol),
         Call::Canonicalize => pairs::canonicalize(page, names, lent, first),
         Call::IsConvertibleTo => pairs::is_convertible_to(page, names, lent, first, second),
         Call::EmptyTypes => types::empty_types(page),
-        Call::MakeType => types::make_type(page, names, lent, question.entry()),
+        Call::MakeType => {
+            let (entry, name) = question.entry();
+            types::make_type(page, names, lent, entry, name)
+        }
         Call::ReadType => types::read_type(page, names, lent, question.number()),
         Call::Matches => types::matches(page, names, lent, question.two_numbers()),
         Call::HasGeneric => types::has_generic(page, names, lent, question.number()),

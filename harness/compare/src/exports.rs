@@ -16,7 +16,7 @@ extern "C" {
         quotient: bool,
         out: *mut u8,
     ) -> u32;
-    pub fn riddlepoppy_exponent(unit: *const u8, n: usize, symbol: u8) -> u32;
+    pub fn riddlepoppy_exponent(unit: *const u8, n: usize, symbol: u16) -> u32;
     pub fn riddlepoppy_is_dimensionless(unit: *const u8, n: usize) -> u32;
     pub fn riddlepoppy_unit_text(
         names: *const u8,
@@ -32,9 +32,9 @@ extern "C" {
         names: *const u8,
         m: usize,
         lent: bool,
-        symbol: u8,
+        symbol: u16,
         factor: u64,
-        base: u8,
+        base: u16,
     ) -> u32;
     pub fn riddlepoppy_canonical(
         page: *const u8,
@@ -42,7 +42,7 @@ extern "C" {
         names: *const u8,
         m: usize,
         lent: bool,
-        symbol: u8,
+        symbol: u16,
     ) -> u32;
     pub fn riddlepoppy_first_factor(
         page: *const u8,
@@ -50,7 +50,7 @@ extern "C" {
         names: *const u8,
         m: usize,
         lent: bool,
-        symbol: u8,
+        symbol: u16,
         out: *mut u8,
     ) -> u32;
     pub fn riddlepoppy_canonicalize(
@@ -84,7 +84,7 @@ extern "C" {
         kind: u8,
         children: *const u16,
         l: usize,
-        name: u8,
+        name: u16,
     ) -> u32;
     pub fn riddlepoppy_read_type(
         page: *const u8,

@@ -28,6 +28,10 @@ pub const FUNCTION: u32 = 65_536;
 /// From here on it is Unknown.
 pub const UNKNOWN: u32 = 2 * FUNCTION;
 
+/// A checked type that is answered has sixteen bits: Known is its type's number, a Function
+/// that number above this one, and Unknown is `ABSENT`.
+pub const ANSWERED_FUNCTION: u32 = 32_768;
+
 /// Count byte, then a symbol byte and two exponent bytes for each symbol.
 pub const UNIT_BYTES: usize = 1 + 3 * MAX_SYMBOLS;
 

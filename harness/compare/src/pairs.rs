@@ -8,10 +8,10 @@
 use crate::call::{Given, Outcome};
 use crate::limits::{
     Refusal, ABSENT, BROKEN_TABLE, EMPTY_PAIRS_BYTES, MAX_NAMES, MAX_PAIRS, NOT_IN_USE, NO_ROOM,
-    NO_UNIT, PAIR_BYTES,
+    PAIR_BYTES,
 };
 use crate::names::Names;
-use crate::units::{oracle_unit, stand_in_name, terms_in_use, unit_bytes, Term};
+use crate::units::{oracle_unit, stand_in_name, terms_or_none, unit_bytes, Term};
 use oracle::units::{ConversionTable, Unit};
 
 /// One symbol is so many of the base; the factor is the 64 bits of an f64.
@@ -128,18 +128,19 @@ impl Tables {
         Ok(Self { pairs, names })
     }
 
-    /// The same, where the symbol is in use.
-    fn with_symbol(page: &[u8], names: &[u8], lent: bool, symbol: u8) -> Result<Self, Refusal> {
+    /// The same, and the symbols as pages have them, where these are in use.
+    fn with_symbols<const N: usize>(
+        page: &[u8],
+        names: &[u8],
+        lent: bool,
+        symbols: [u16; N],
+    ) -> Result<(Self, [u8; N]), Refusal> {
         let tables = Self::read(page, names, lent)?;
-        if tables.in_use(symbol) {
-            Ok(tables)
-        } else {
-            Err(NOT_IN_USE)
+        if symbols.iter().any(|&symbol| usize::from(symbol) >= tables.names.len()) {
+            return Err(NOT_IN_USE);
         }
-    }
-
-    fn in_use(&self, symbol: u8) -> bool {
-        usize::from(symbol) < self.names.len()
+        // There are never more than 256 names.
+        Ok((tables, symbols.map(|symbol| symbol as u8)))
     }
 
     fn name(&self, symbol: u8) -> &str {
@@ -167,6 +168,12 @@ impl Tables {
         exponents.filter(|&(_, exponent)| exponent != 0).collect()
     }
 
+    /// The terms of the unit that the bytes say. No unit counts as empty; the oracle's `Unit`
+    /// has no such value.
+    fn terms_said(&self, unit: &[u8]) -> Result<Vec<Term>, Refusal> {
+        terms_or_none(unit, self.names.len()).map(Option::unwrap_or_default)
+    }
+
     /// The oracle's roots of the symbols, which the model's parents give as well.
     fn roots<const N: usize>(&self, symbols: [u8; N]) -> [u8; N] {
         let (oracle, parents) = (self.oracle(), self.pairs.parents());
@@ -181,30 +188,33 @@ pub fn empty_pairs(page: &[u8]) -> Outcome {
     Ok(Given { page, ..Given::default() })
 }
 
-pub fn insert_pair(page: &[u8], names: &[u8], lent: bool, pair: Pair) -> Outcome {
-    let mut tables = Tables::with_symbol(page, names, lent, pair.symbol)?;
-    if !tables.in_use(pair.base) {
-        return Err(NOT_IN_USE);
-    }
+pub fn insert_pair(
+    page: &[u8],
+    names: &[u8],
+    lent: bool,
+    symbol_and_base: [u16; 2],
+    factor: u64,
+) -> Outcome {
+    let (mut tables, [symbol, base]) = Tables::with_symbols(page, names, lent, symbol_and_base)?;
     if tables.pairs.0.len() == MAX_PAIRS {
         return Err(NO_ROOM);
     }
-    tables.pairs.0.push(pair);
+    tables.pairs.0.push(Pair { symbol, factor, base });
     let page = tables.pairs.write(page.len()).ok_or(NO_ROOM)?;
-    let [root, base_root] = tables.roots([pair.symbol, pair.base]);
+    let [root, base_root] = tables.roots([symbol, base]);
     assert_eq!(root, base_root, "a pair joins its symbols");
     Ok(Given { page, ..Given::default() })
 }
 
-pub fn canonical(page: &[u8], names: &[u8], lent: bool, symbol: u8) -> Outcome {
-    let tables = Tables::with_symbol(page, names, lent, symbol)?;
-    let [root] = tables.roots([symbol]);
+pub fn canonical(page: &[u8], names: &[u8], lent: bool, symbol: u16) -> Outcome {
+    let (tables, symbol) = Tables::with_symbols(page, names, lent, [symbol])?;
+    let [root] = tables.roots(symbol);
     Ok(Given { value: root.into(), ..Given::default() })
 }
 
 /// "The first factor of a symbol stays": that of the first pair that has it.
-pub fn factor(page: &[u8], names: &[u8], lent: bool, symbol: u8) -> Outcome {
-    let tables = Tables::with_symbol(page, names, lent, symbol)?;
+pub fn factor(page: &[u8], names: &[u8], lent: bool, symbol: u16) -> Outcome {
+    let (tables, [symbol]) = Tables::with_symbols(page, names, lent, [symbol])?;
     let given = match tables.pairs.0.iter().find(|pair| pair.symbol == symbol) {
         Some(pair) => Given {
             value: pair.base.into(),
@@ -218,7 +228,7 @@ pub fn factor(page: &[u8], names: &[u8], lent: bool, symbol: u8) -> Outcome {
 
 pub fn canonicalize(page: &[u8], names: &[u8], lent: bool, unit: &[u8]) -> Outcome {
     let tables = Tables::read(page, names, lent)?;
-    let unit = tables.oracle_unit(&terms_in_use(unit, tables.names.len())?);
+    let unit = tables.oracle_unit(&tables.terms_said(unit)?);
     let sums = unit.canonicalize(&tables.oracle());
     let terms = tables.terms(&sums);
     assert_eq!(tables.oracle_unit(&terms), sums, "the oracle's sums are read back whole");
@@ -233,12 +243,7 @@ pub fn is_convertible_to(
     right: &[u8],
 ) -> Outcome {
     let tables = Tables::read(page, names, lent)?;
-    // No unit counts as empty; the oracle's `Unit` has no such value.
-    let terms = |unit: &[u8]| match unit == NO_UNIT {
-        true => Ok(Vec::new()),
-        false => terms_in_use(unit, tables.names.len()),
-    };
-    let (left, right) = lowest(terms(left), terms(right))?;
+    let (left, right) = lowest(tables.terms_said(left), tables.terms_said(right))?;
     let (left, right) = (tables.oracle_unit(&left), tables.oracle_unit(&right));
     let yes = left.is_convertible_to(&right, &tables.oracle());
     Ok(Given { value: yes.into(), ..Given::default() })
@@ -260,7 +265,7 @@ pub fn lowest<A, B>(
 mod tests {
     use super::*;
     use crate::inputs::pairs::{page_of, pair};
-    use crate::limits::BROKEN_UNIT;
+    use crate::limits::{BROKEN_UNIT, NO_UNIT};
 
     const MM: u8 = 0;
     const IN: u8 = 1;
@@ -281,8 +286,8 @@ mod tests {
         assert_eq!(page[..12], *b"\x00\x01\x01\x00\x40\x39\x66\x66\x66\x66\x66\x66");
         assert_eq!(page[12..16], [IN, IN, 2, 3]);
         assert_eq!(page[266..], [254, 255, 0, 0]);
-        assert_eq!(canonical(&page, b"", false, MM).unwrap().value, IN.into());
-        assert_eq!(canonical(&page, b"", false, IN).unwrap().value, IN.into());
+        assert_eq!(canonical(&page, b"", false, MM.into()).unwrap().value, IN.into());
+        assert_eq!(canonical(&page, b"", false, IN.into()).unwrap().value, IN.into());
         assert_eq!(converts(&[(IN, 1)], &[(MM, 1)]), 1);
         assert_eq!(converts(&[(IN, 1)], &[(MM, 2)]), 0);
     }
@@ -325,17 +330,41 @@ mod tests {
     fn the_lowest_refusal_comes_first() {
         let (page, names) = (inches(0), b"\x00\x02\x02mm\x02in");
         let insert = |page: &[u8], names: &[u8], symbol, base| {
-            insert_pair(page, names, true, pair(symbol, base)).map(|given| given.page)
+            insert_pair(page, names, true, [symbol, base], 7).map(|given| given.page)
         };
         assert_eq!(insert(&page, b"\x00\x01\x02mm", 9, 0), Err(BROKEN_TABLE));
         assert_eq!(insert(&page, names, 0, 2), Err(NOT_IN_USE));
+        assert_eq!(insert(&page, names, 256, 0), Err(NOT_IN_USE));
+        assert_eq!(insert(&page, names, 0, 257), Err(NOT_IN_USE));
         assert_eq!(insert(&page, names, 0, 0), Err(NO_ROOM));
         let converts = |left: &[u8], right: &[u8]| {
             is_convertible_to(&page, names, true, left, right).map(|given| given.value)
         };
         assert_eq!(converts(&[9], &[1, 2, 0, 1]), Err(NOT_IN_USE));
         assert_eq!(converts(&[1, 2, 0, 1], &[9]), Err(NOT_IN_USE));
-        assert_eq!(converts(&NO_UNIT, &[9, 2, 0, 1]), Err(BROKEN_UNIT));
+        assert_eq!(converts(&NO_UNIT, &[9, 2, 0, 1]), Err(NOT_IN_USE));
+        assert_eq!(converts(&NO_UNIT, &[9, 1, 0, 1]), Err(BROKEN_UNIT));
         assert_eq!(converts(&NO_UNIT, &[0]), Ok(1));
+    }
+
+    #[test]
+    fn no_unit_has_no_group() {
+        let sums = |unit: &[u8]| canonicalize(&inches(0), b"", false, unit).map(|given| given.out);
+        assert_eq!(sums(&NO_UNIT), Ok(vec![0]));
+        assert_eq!(sums(&[0]), Ok(vec![0]));
+        assert_eq!(sums(&[255, 0]), Err(BROKEN_UNIT));
+    }
+
+    #[test]
+    fn a_wide_symbol_is_never_in_use() {
+        let page = inches(300);
+        for symbol in [256, 257, 511, 65_535] {
+            let refusal = |outcome: Outcome| outcome.unwrap_err();
+            assert_eq!(refusal(canonical(&page, b"", false, symbol)), NOT_IN_USE);
+            assert_eq!(refusal(factor(&page, b"", false, symbol)), NOT_IN_USE);
+            assert_eq!(refusal(insert_pair(&page, b"", false, [symbol, 0], 7)), NOT_IN_USE);
+            assert_eq!(refusal(insert_pair(&page, b"", false, [0, symbol], 7)), NOT_IN_USE);
+        }
+        assert_eq!(canonical(&page, b"", false, 255).unwrap().value, 255);
     }
 }

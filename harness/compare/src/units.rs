@@ -52,14 +52,29 @@ fn terms_of(unit: &[u8]) -> Result<Vec<Term>, Refusal> {
     shaped_terms(unit).filter(|terms| in_form(terms)).ok_or(BROKEN_UNIT)
 }
 
+/// The symbol bytes that are there: the first of each three after the count, as many as it
+/// says, however long the bytes are. A count of 255 says no unit, and so no symbol.
+fn symbol_bytes(unit: &[u8]) -> impl Iterator<Item = u8> + '_ {
+    let count = unit.first().filter(|&&count| count != NO_UNIT[0]);
+    let count = count.map_or(0, |&count| count.into());
+    unit.iter().skip(1).step_by(3).take(count).copied()
+}
+
 /// The terms of a unit in form where so many numbers are in use. A symbol not in
-/// use comes before any other fault of a term.
+/// use comes before any other fault of the bytes.
 pub fn terms_in_use(unit: &[u8], in_use: usize) -> Result<Vec<Term>, Refusal> {
-    let shaped = shaped_terms(unit).ok_or(BROKEN_UNIT)?;
-    if shaped.iter().any(|&(symbol, _)| usize::from(symbol) >= in_use) {
+    if symbol_bytes(unit).any(|symbol| usize::from(symbol) >= in_use) {
         return Err(NOT_IN_USE);
     }
     terms_of(unit)
+}
+
+/// The same of bytes that may say no unit, which has no terms.
+pub fn terms_or_none(unit: &[u8], in_use: usize) -> Result<Option<Vec<Term>>, Refusal> {
+    match unit == NO_UNIT {
+        true => Ok(None),
+        false => terms_in_use(unit, in_use).map(Some),
+    }
 }
 
 /// The oracle's unit of the terms, built by its own functions.
@@ -121,8 +136,10 @@ fn symbols_of(left: &[Term], right: &[Term]) -> Vec<u8> {
     symbols
 }
 
-pub fn exponent(unit: &[u8], symbol: u8) -> Outcome {
-    let exponent = oracle_unit(&terms_of(unit)?, stand_in_name).exponent(&stand_in_name(symbol));
+pub fn exponent(unit: &[u8], symbol: u16) -> Outcome {
+    let unit = oracle_unit(&terms_of(unit)?, stand_in_name);
+    // A number of 256 or more is no symbol of any unit.
+    let exponent = u8::try_from(symbol).map_or(0, |symbol| unit.exponent(&stand_in_name(symbol)));
     Ok(Given { value: u32::from(exponent as i16 as u16), ..Given::default() })
 }
 
@@ -185,5 +202,35 @@ mod tests {
         assert_eq!(unit_form(&NO_UNIT).unwrap_err(), BROKEN_UNIT);
         assert_eq!(exponent(&NO_UNIT, 0).unwrap_err(), BROKEN_UNIT);
         assert_eq!(is_dimensionless(&[255, 0]).unwrap_err(), BROKEN_UNIT);
+    }
+
+    #[test]
+    fn a_symbol_not_in_use_comes_before_any_other_fault() {
+        let refusal = |unit: &[u8]| terms_in_use(unit, 9).unwrap_err();
+        let nine: Vec<Term> = (0..9).map(|symbol| (symbol, 1)).collect();
+        let nine = unit_bytes(&nine);
+        assert_eq!(refusal(&nine), BROKEN_UNIT);
+        for (place, cut) in [(1, 28), (22, 28), (25, 28), (25, 27), (25, 26), (1, 2), (1, 3)] {
+            let mut unit = nine[..cut].to_vec();
+            unit[place] = 9;
+            assert_eq!(refusal(&unit), NOT_IN_USE, "{place} {cut}");
+        }
+        // Neither an exponent's bytes nor those past the count are symbols.
+        let others: [&[u8]; 6] =
+            [&[], &[9], &[1, 0, 9], &[1, 0, 0, 1, 9], &[0, 9], &[255, 9, 0, 1]];
+        for unit in others {
+            assert_eq!(refusal(unit), BROKEN_UNIT, "{unit:?}");
+        }
+        assert_eq!(refusal(&[254, 0, 0, 1, 0, 0, 1, 9]), NOT_IN_USE);
+        assert_eq!(terms_in_use(&[1, 255, 0], 256).unwrap_err(), BROKEN_UNIT);
+    }
+
+    #[test]
+    fn no_unit_has_a_wide_symbol() {
+        let unit = unit_bytes(&[(0, 7), (255, -7)]);
+        let value = |symbol: u16| exponent(&unit, symbol).unwrap().value;
+        assert_eq!((value(0), value(255)), (7, 65_529));
+        assert_eq!((value(256), value(511), value(65_535)), (0, 0, 0));
+        assert_eq!(exponent(&[9], 256).unwrap_err(), BROKEN_UNIT);
     }
 }

@@ -30,22 +30,28 @@ put-children-requires c κs = search needs
 is-lent-requires : tie.Need-is-lent-requires
 is-lent-requires c κs = search needs
 
-symbol-in-requires : tie.Need-symbol-in-requires
-symbol-in-requires c κs = search needs
+kind-in-requires : tie.Need-kind-in-requires
+kind-in-requires c κs = search needs
+
+shared-slice-read-index : tie.Need-shared-slice-read-index
+shared-slice-read-index c = search needs
+
+index-requires : tie.Need-index-requires
+index-requires c κs = search needs
+
+cast-name : tie.Need-cast-name
+cast-name c = search needs
 
 array-share-prefix-children : tie.Need-array-share-prefix-children
 array-share-prefix-children c = search needs
 
 slice-aggregate-riddlepoppy-make-type : tie.Need-slice-aggregate-riddlepoppy-make-type
 slice-aggregate-riddlepoppy-make-type c =
-    let start = c .before .before .before .before .before .before .before .before .before .before .before .before in
-    let if1 = c .before .before .before .before .before .before .before .before .if1 in
-    let put-children = c .before .before .before .before .before .put-children in
+    let start = c .before .before .before .before .before .before .before .before .before .before .before .before .before .before in
+    let if1 = c .before .before .before .before .before .before .before .before .before .before .if1 in
+    let put-children = c .before .before .before .before .before .before .before .put-children in
     let n = length (now (start .args .body)) / 2 in
     sym (length-take-le n (put-children .last .0) (omega (arith, put-children .kept .0, if1 .left)))
-
-shared-slice-read-riddlepoppy-make-type : tie.Need-shared-slice-read-riddlepoppy-make-type
-shared-slice-read-riddlepoppy-make-type c = search needs
 
 riddlepoppy-make-type-requires : tie.Need-riddlepoppy-make-type-requires
 riddlepoppy-make-type-requires c κs = search needs
@@ -57,20 +63,4 @@ returns-3 : tie.Need-returns-3
 returns-3 c = search needs
 
 pub making-spec : {M : Type 1} → statement M
-making-spec =
-    tie.close
-    (tie.spec
-    returns
-    mul-if2
-    add-if2
-    returns-2
-    slice-aggregate-put-children
-    put-children-requires
-    is-lent-requires
-    symbol-in-requires
-    array-share-prefix-children
-    slice-aggregate-riddlepoppy-make-type
-    shared-slice-read-riddlepoppy-make-type
-    riddlepoppy-make-type-requires
-    same-length
-    returns-3)
+making-spec = tie.close (tie.spec returns mul-if2 add-if2 returns-2 slice-aggregate-put-children put-children-requires is-lent-requires kind-in-requires shared-slice-read-index index-requires cast-name array-share-prefix-children slice-aggregate-riddlepoppy-make-type riddlepoppy-make-type-requires same-length returns-3)

@@ -29,7 +29,9 @@ pub struct Question {
     pub call: Call,
     /// `read_name`: the number; `product`: 1 for a quotient; `exponent`: the symbol. Of the calls
     /// about pairs and types, and of the last three, the low byte is the symbol or the kind of
-    /// `make_type`, and the next one is 1 where names are lent.
+    /// `make_type`, and the next one is 1 where names are lent; the upper half is 0 but for
+    /// symbols of 256 or more: its low byte is the symbol's upper one, and the next one that of
+    /// the base or of the name in `first`.
     pub argument: u32,
     /// A names page, a pair table's or a store's, as the call has it.
     pub page: Vec<u8>,
@@ -88,7 +90,7 @@ impl Question {
         }
     }
 
-    pub fn exponent(unit: &[u8], symbol: u8) -> Self {
+    pub fn exponent(unit: &[u8], symbol: u16) -> Self {
         Self { argument: symbol.into(), first: unit.to_vec(), ..Self::new(Call::Exponent) }
     }
 
@@ -105,17 +107,30 @@ impl Question {
     }
 
     pub fn insert_pair(page: &[u8], names: &[u8], lent: bool, pair: Pair) -> Self {
-        let base_and_factor = [&[pair.base][..], &pair.factor.to_be_bytes()].concat();
-        let beside = Self::beside(Call::InsertPair, page, names, lent, pair.symbol);
-        Self { first: base_and_factor, ..beside }
+        let symbol_and_base = [pair.symbol, pair.base].map(u16::from);
+        Self::insert_symbols(page, names, lent, symbol_and_base, pair.factor)
     }
 
-    pub fn canonical(page: &[u8], names: &[u8], lent: bool, symbol: u8) -> Self {
-        Self::beside(Call::Canonical, page, names, lent, symbol)
+    /// The same of any symbols, those that no page has room for among them.
+    pub fn insert_symbols(
+        page: &[u8],
+        names: &[u8],
+        lent: bool,
+        [symbol, base]: [u16; 2],
+        factor: u64,
+    ) -> Self {
+        let [upper, lower] = base.to_be_bytes();
+        let base_and_factor = [&[lower][..], &factor.to_be_bytes()].concat();
+        let beside = Self::with_symbol(Call::InsertPair, page, names, lent, symbol);
+        Self { first: base_and_factor, ..beside }.with_upper_byte(upper)
     }
 
-    pub fn factor(page: &[u8], names: &[u8], lent: bool, symbol: u8) -> Self {
-        Self::beside(Call::Factor, page, names, lent, symbol)
+    pub fn canonical(page: &[u8], names: &[u8], lent: bool, symbol: u16) -> Self {
+        Self::with_symbol(Call::Canonical, page, names, lent, symbol)
+    }
+
+    pub fn factor(page: &[u8], names: &[u8], lent: bool, symbol: u16) -> Self {
+        Self::with_symbol(Call::Factor, page, names, lent, symbol)
     }
 
     pub fn canonicalize(page: &[u8], names: &[u8], lent: bool, unit: &[u8]) -> Self {
@@ -141,9 +156,16 @@ impl Question {
     }
 
     pub fn make_type(page: &[u8], names: &[u8], lent: bool, entry: &Entry) -> Self {
-        let mut first = vec![entry.name];
+        Self::make_named(page, names, lent, entry, entry.name.into())
+    }
+
+    /// The same with any name in place of the entry's, one that no page has room for among them.
+    pub fn make_named(page: &[u8], names: &[u8], lent: bool, entry: &Entry, name: u16) -> Self {
+        let [upper, lower] = name.to_be_bytes();
+        let mut first = vec![lower];
         first.extend(entry.children.iter().flat_map(|child| child.to_be_bytes()));
-        Self { first, ..Self::beside(Call::MakeType, page, names, lent, entry.kind) }
+        let beside = Self::beside(Call::MakeType, page, names, lent, entry.kind);
+        Self { first, ..beside }.with_upper_byte(upper)
     }
 
     pub fn read_type(page: &[u8], names: &[u8], lent: bool, number: u32) -> Self {
@@ -233,26 +255,53 @@ impl Question {
         }
     }
 
-    pub fn symbol(&self) -> u8 {
-        self.argument as u8
+    /// A call with a names page beside a pair table, and a symbol.
+    fn with_symbol(call: Call, page: &[u8], names: &[u8], lent: bool, symbol: u16) -> Self {
+        let [upper, lower] = symbol.to_be_bytes();
+        let mut beside = Self::beside(call, page, names, lent, lower);
+        beside.argument |= u32::from(upper) << 16;
+        beside
+    }
+
+    /// With that upper byte of the base or the name that `first` begins with.
+    fn with_upper_byte(mut self, upper: u8) -> Self {
+        self.argument |= u32::from(upper) << 24;
+        self
+    }
+
+    /// The symbol of `exponent` or of a call about pairs.
+    pub fn symbol(&self) -> u16 {
+        let [_, upper, middle, lower] = self.argument.to_be_bytes();
+        match self.call {
+            Call::Exponent => u16::from_be_bytes([middle, lower]),
+            _ => u16::from_be_bytes([upper, lower]),
+        }
     }
 
     pub fn lent(&self) -> bool {
-        self.argument >> 8 == 1
+        self.argument >> 8 & 1 == 1
     }
 
-    /// The pair of `insert_pair`.
-    pub fn pair(&self) -> Pair {
-        let (base, factor) = self.first.split_first().expect("a base");
+    /// The base or the name that `first` begins with, and the bytes after it.
+    fn number_first(&self) -> (u16, &[u8]) {
+        let (&lower, rest) = self.first.split_first().expect("a base or a name");
+        (u16::from_be_bytes([self.argument.to_be_bytes()[0], lower]), rest)
+    }
+
+    /// The symbol and the base of `insert_pair`, and its factor.
+    pub fn insertion(&self) -> ([u16; 2], u64) {
+        let (base, factor) = self.number_first();
         let factor = factor.try_into().expect("the eight bytes of a factor");
-        Pair { symbol: self.symbol(), factor: u64::from_be_bytes(factor), base: *base }
+        ([self.symbol(), base], u64::from_be_bytes(factor))
     }
 
-    /// The type of `make_type`, whatever its kind takes.
-    pub fn entry(&self) -> Entry {
-        let (name, children) = self.first.split_first().expect("a name");
-        let children = children.chunks(2).map(|pair| u16::from_be_bytes([pair[0], pair[1]]));
-        Entry { kind: self.argument as u8, children: children.collect(), name: *name }
+    /// The type of `make_type`, whatever its kind takes, and its name, which may be one that
+    /// the type itself has no room for.
+    pub fn entry(&self) -> (Entry, u16) {
+        let (name, children) = self.number_first();
+        let children: Vec<u16> =
+            children.chunks(2).map(|pair| u16::from_be_bytes([pair[0], pair[1]])).collect();
+        (Entry::of(self.argument as u8, &children), name)
     }
 
     /// The numbers of a call that is given some.

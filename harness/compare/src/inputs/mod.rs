@@ -6,6 +6,7 @@ pub mod names;
 pub mod pairs;
 pub mod types;
 pub mod units;
+pub mod unused;
 
 use crate::call::{Answer, Question};
 use crate::random::Random;

@@ -1,9 +1,10 @@
 //! Questions about units.
 
-use super::names::{different_names, name_of, table, table_on};
+use super::names::{different_names, name_of, shortest_names, table, table_on};
+use super::unused::{any_unit, few_units, units as unused_units, wide, LOW, NAMES};
 use super::{damaged_everywhere, damaged_somewhere, short_strings, Sink};
 use crate::call::Question;
-use crate::limits::{MAX_EXPONENT, MAX_NAMES, MAX_NAME_BYTES, MAX_SYMBOLS};
+use crate::limits::{MAX_EXPONENT, MAX_NAMES, MAX_NAME_BYTES, MAX_SYMBOLS, NO_UNIT};
 use crate::random::Random;
 use crate::units::{unit_bytes, Term};
 
@@ -16,6 +17,8 @@ pub fn questions(random: &mut Random, rounds: usize, ask: Sink) {
     every_count(ask);
     damaged_units(random, ask);
     longest_texts(random, ask);
+    unused_symbols(ask);
+    wide_symbols(ask);
     for _ in 0..rounds {
         ask(unit_form(random));
         ask(product(random));
@@ -23,6 +26,7 @@ pub fn questions(random: &mut Random, rounds: usize, ask: Sink) {
         ask(exponent(random));
         ask(is_dimensionless(random));
         ask(unit_text(random));
+        ask(unit_text_of_any(random));
     }
 }
 
@@ -121,7 +125,7 @@ pub fn exponent(random: &mut Random) -> Question {
     } else {
         unit[1 + random.below(unit.len() - 1) / 3 * 3]
     };
-    Question::exponent(&unit, symbol)
+    Question::exponent(&unit, symbol.into())
 }
 
 pub fn product(random: &mut Random) -> Question {
@@ -229,6 +233,11 @@ pub fn unit_text(random: &mut Random) -> Question {
     };
     let page = if random.once_in(12) { damaged_somewhere(&page, random) } else { page };
     Question::unit_text(&page, &unit)
+}
+
+fn unit_text_of_any(random: &mut Random) -> Question {
+    let count = 1 + random.below(12);
+    Question::unit_text(&table(&shortest_names(count)), &any_unit(random, count))
 }
 
 // ---- Exhaustive and damaged questions ----
@@ -340,5 +349,34 @@ fn longest_texts(random: &mut Random, ask: Sink) {
         }
         let damaged = damaged_somewhere(&page, random);
         ask(Question::unit_text(&damaged, &[1, 0, 0, 1]));
+    }
+}
+
+/// Units of any length with symbols in use and not, beside no name, some, all, and a table
+/// that is not in form; and the calls that look no symbol up.
+fn unused_symbols(ask: Sink) {
+    let mut pages: Vec<Vec<u8>> =
+        [0, 1, NAMES, MAX_NAMES].map(|count| table(&shortest_names(count))).to_vec();
+    pages.push(table_on(&["m", "m"], 0));
+    for unit in unused_units().iter().chain(&few_units()) {
+        for page in &pages {
+            ask(Question::unit_text(page, unit));
+        }
+        ask(Question::unit_form(unit));
+        ask(Question::is_dimensionless(unit));
+        ask(Question::exponent(unit, 0));
+        ask(Question::product(unit, &[1, 1, 0, 1], false));
+        ask(Question::product(&[1, 1, 0, 1], unit, true));
+    }
+}
+
+/// Numbers too large for a symbol, of units that have what their low bytes say.
+fn wide_symbols(ask: Sink) {
+    let low = LOW.map(|symbol| (symbol, LIMIT));
+    let eight: Vec<Term> = (0..MAX_SYMBOLS as u8).map(|symbol| (symbol, -1)).collect();
+    for unit in [&unit_bytes(&low), &unit_bytes(&eight), &[0][..], &NO_UNIT, &[9], &[1, 0, 0]] {
+        for symbol in wide() {
+            ask(Question::exponent(unit, symbol));
+        }
     }
 }

@@ -236,7 +236,7 @@ fn texts() -> Vec<Question> {
 fn text_refusals() -> Vec<Question> {
     let names = table_on(&["m", "s"], 8);
     let broken = table_on(&["m", "m"], 8);
-    vec![
+    let mut questions = vec![
         Question::unit_text(&broken, &unit_bytes(&[(0, 1)])),
         Question::unit_text(&broken, &unit_bytes(&[(9, 1)])),
         Question::unit_text(&broken, &[9]),
@@ -248,7 +248,7 @@ fn text_refusals() -> Vec<Question> {
         Question::unit_text(&names, &unit_bytes(&[(0, 0), (2, 1)])),
         Question::unit_text(&names, &unit_bytes(&[(2, 1), (0, 1)])),
         Question::unit_text(&names, &unit_bytes(&[(2, 0)])),
-        // Without a unit's shape no symbol is judged.
+        // And before a wrong length or count.
         Question::unit_text(&names, &[1, 2, 0]),
         Question::unit_text(&names, &[1, 2, 0, 1, 0]),
         Question::unit_text(&names, &[9, 2, 0, 1]),
@@ -258,5 +258,33 @@ fn text_refusals() -> Vec<Question> {
         Question::unit_text(&names, &unit_bytes(&[(1, 1), (0, 1)])),
         Question::unit_text(&names, &unit_bytes(&[(0, 1), (0, 1)])),
         Question::unit_text(&names, &unit_bytes(&[(0, 1001)])),
-    ]
+    ];
+    questions.extend(units_cut().iter().map(|unit| Question::unit_text(&names, unit)));
+    // Nine symbols: all in use, the ninth not, and that with half its exponent and with none.
+    let eight = table(&shortest_names(MAX_SYMBOLS));
+    let nine = unit_bytes(&several(0, MAX_SYMBOLS + 1, 1));
+    questions.push(Question::unit_text(&table(&shortest_names(MAX_SYMBOLS + 1)), &nine));
+    for cut in 0..3 {
+        questions.push(Question::unit_text(&eight, &nine[..nine.len() - cut]));
+    }
+    questions
+}
+
+/// Bytes of a wrong length or count, where two names are in use: a symbol not in use among
+/// those that are there, or only among bytes that are none.
+pub fn units_cut() -> Vec<Vec<u8>> {
+    let units: [&[u8]; 11] = [
+        &[1, 2],
+        &[2, 0, 0, 1, 2],
+        &[2, 0, 0, 1, 1, 0],
+        &[1, 1, 2],
+        &[1, 1, 0, 1, 2],
+        &[0, 2],
+        &[9, 1, 0, 1],
+        &[10, 0, 0, 1, 2, 0],
+        &[254, 0, 0, 1, 0, 0, 1, 255],
+        &[254, 0, 2, 2, 1, 2, 2],
+        &[255, 2, 0, 1],
+    ];
+    units.map(<[u8]>::to_vec).to_vec()
 }

@@ -16,8 +16,8 @@ mod walk;
 
 use crate::call::{Call, Given, Outcome, Question};
 use crate::limits::{
-    Refusal, ABSENT, BINDINGS_BYTES, BROKEN_TABLE, FUNCTION, NOT_IN_USE, UNDEFINED_CODE, UNKNOWN,
-    WRONG_CHILD_COUNT,
+    Refusal, ABSENT, ANSWERED_FUNCTION, BINDINGS_BYTES, BROKEN_TABLE, FUNCTION, NOT_IN_USE,
+    UNDEFINED_CODE, UNKNOWN, WRONG_CHILD_COUNT,
 };
 use crate::names::Names;
 use crate::units::stand_in_name;
@@ -139,7 +139,8 @@ pub fn empty_types(page: &[u8]) -> Outcome {
     Ok(Given { page: vec![0; page.len()], ..Given::default() })
 }
 
-pub fn make_type(page: &[u8], names: &[u8], lent: bool, entry: Entry) -> Outcome {
+/// The entry's own name is not looked at: there are names that it has no room for.
+pub fn make_type(page: &[u8], names: &[u8], lent: bool, entry: Entry, name: u16) -> Outcome {
     if entry.kind > LAST_KIND {
         return Err(UNDEFINED_CODE);
     }
@@ -147,13 +148,13 @@ pub fn make_type(page: &[u8], names: &[u8], lent: bool, entry: Entry) -> Outcome
     for &child in &entry.children {
         tables.in_use(child.into())?;
     }
-    if is_named(entry.kind) && usize::from(entry.name) >= tables.names.len() {
+    if is_named(entry.kind) && usize::from(name) >= tables.names.len() {
         return Err(NOT_IN_USE);
     }
     if !child_counts(entry.kind).contains(&entry.children.len()) {
         return Err(WRONG_CHILD_COUNT);
     }
-    let name = if is_named(entry.kind) { entry.name } else { 0 };
+    let name = if is_named(entry.kind) { name as u8 } else { 0 };
     let number = tables.store.make(Entry { name, ..entry }, tables.length)?;
     Ok(tables.made(number))
 }
@@ -185,7 +186,10 @@ pub fn into_const(page: &[u8], names: &[u8], lent: bool, checked: u32) -> Outcom
         CheckType::Known(tree) => tables.entered(&tree),
         after => {
             assert_eq!(before, after, "only a known type has a const form");
-            let value = if checked < UNKNOWN { checked - FUNCTION } else { ABSENT };
+            let value = match checked < UNKNOWN {
+                true => ANSWERED_FUNCTION + (checked - FUNCTION),
+                false => ABSENT,
+            };
             Ok(Given { value, page: page.to_vec(), ..Given::default() })
         }
     }
@@ -371,6 +375,17 @@ mod tests {
     }
 
     #[test]
+    fn each_case_of_a_checked_type_is_answered_as_a_number_of_its_own() {
+        let (page, [callback]) = stored([&over(CALLBACK, &[INT])], 0);
+        let callback = u32::from(callback);
+        let value = |checked: u32| into_const(&page, b"", false, checked).unwrap().value;
+        assert_eq!(value(callback), callback);
+        assert_eq!(value(FUNCTION + callback), 32_768 + callback);
+        assert_eq!(value(UNKNOWN), 65_535);
+        assert_eq!(value(INT.into()), CINT.into());
+    }
+
+    #[test]
     fn the_first_type_refused_decides() {
         let shape = of(TUPLE, &[array(generic(B)), of(SET, &[generic(A)])]);
         let (page, [number, deep]) = stored([&shape, &below(ARRAY, 31, &fixed(INT))], 0);
@@ -388,17 +403,19 @@ mod tests {
     #[test]
     fn the_lowest_refusal_comes_first() {
         let page = stored([&array(fixed(INT))], 0).0;
-        let ask = |kind: u8, children: &[u16], name: u8| {
-            let entry = Entry { kind, children: children.to_vec(), name };
-            make_type(&page, b"\x00\x01\x01a", true, entry).map(|given| given.value)
+        let ask = |kind: u8, children: &[u16], name: u16| {
+            let entry = Entry::of(kind, children);
+            make_type(&page, b"\x00\x01\x01a", true, entry, name).map(|given| given.value)
         };
         assert_eq!(ask(38, &[99], 9), Err(UNDEFINED_CODE));
         assert_eq!(ask(ARRAY, &[1, 20], 9), Err(NOT_IN_USE));
         assert_eq!(ask(32, &[1], 1), Err(NOT_IN_USE));
+        assert_eq!(ask(32, &[1], 256), Err(NOT_IN_USE));
         assert_eq!(ask(32, &[1], 0), Err(WRONG_CHILD_COUNT));
         assert_eq!(ask(INT, &[1], 0), Err(WRONG_CHILD_COUNT));
         assert_eq!(ask(SET, &[19], 9), Err(NO_ROOM));
         assert_eq!(ask(ARRAY, &[1], 9), Ok(19));
+        assert_eq!(ask(ARRAY, &[1], 256), Ok(19));
         assert_eq!(ask(INT, &[], 9), Ok(1));
     }
 }

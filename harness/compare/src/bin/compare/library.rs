@@ -92,8 +92,8 @@ fn call(
             Call::UnitText => riddlepoppy_unit_text(p, n, a, m, out),
             Call::EmptyPairs => riddlepoppy_empty_pairs(p, n),
             Call::InsertPair => {
-                let pair = question.pair();
-                riddlepoppy_insert_pair(p, n, t, k, lent, symbol, pair.factor, pair.base)
+                let ([symbol, base], factor) = question.insertion();
+                riddlepoppy_insert_pair(p, n, t, k, lent, symbol, factor, base)
             }
             Call::Canonical => riddlepoppy_canonical(p, n, t, k, lent, symbol),
             Call::Factor => riddlepoppy_first_factor(p, n, t, k, lent, symbol, out),
@@ -143,7 +143,7 @@ fn make_type(
     page: &mut Lent<u8>,
     names: &mut Lent<u8>,
 ) -> Result<u32, String> {
-    let Entry { kind, children, name } = question.entry();
+    let (Entry { kind, children, .. }, name) = question.entry();
     let mut lent_children = Lent::new(&children);
     let (p, n) = (page.start(), page.length);
     let (t, k) = (names.start(), names.length);

@@ -44,6 +44,7 @@ fn inserted(list: &[Pair], page: &mut [u8], names: &[u8], lent: bool) {
     unsafe {
         assert_eq!(riddlepoppy_empty_pairs(p, n), 0);
         for &Pair { symbol, factor, base } in list {
+            let [symbol, base] = [symbol, base].map(u16::from);
             let code = riddlepoppy_insert_pair(p, n, t, k, lent, symbol, factor, base);
             assert_eq!(code, 0, "a pair is refused");
         }

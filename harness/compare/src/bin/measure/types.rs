@@ -58,7 +58,7 @@ fn full_store() {
     let mut out = [0; TYPE_BYTES];
     // SAFETY: each pointer goes with its length, and `out` has the length that is written.
     let made = timed(FULL_CALLS, || unsafe {
-        let code = riddlepoppy_make_type(p, n, dangling(), 0, false, *kind, c, l, *name);
+        let code = riddlepoppy_make_type(p, n, dangling(), 0, false, *kind, c, l, (*name).into());
         assert_eq!(code, last, "the last type is found");
     });
     let read = timed(FULL_CALLS, || unsafe {

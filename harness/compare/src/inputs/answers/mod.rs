@@ -26,5 +26,6 @@ pub fn questions(random: &mut Random, rounds: usize, ask: Sink) {
         ask(check_binary_operator(random));
         ask(check_unary_operator(random));
         ask(check_index(random));
+        ask(some::check_of_any(random));
     }
 }

@@ -9,6 +9,7 @@ use crate::inputs::types::shapes::{
     array, named, over, stored, A, ANY, ARRAY, B, CALLBACK, CANY, HANDLE, INT, MAP, SET,
 };
 use crate::inputs::types::small_stores;
+use crate::inputs::unused::{few_units, lendings, units};
 use crate::inputs::{damaged_everywhere, Sink};
 use crate::limits::{FIXED_TYPES, FUNCTION, MAX_NAMES, MAX_PAIRS, MAX_SYMBOLS, NO_UNIT, UNKNOWN};
 use crate::pairs::Pair;
@@ -31,6 +32,8 @@ pub fn questions(random: &mut Random, ask: Sink) {
     numbers(ask);
     broken_units(random, ask);
     faults_at_once(ask);
+    unused_symbols(ask);
+    unused_at_once(ask);
 }
 
 /// Each call once on these pages, about the first type of the store, the second and Int.
@@ -235,5 +238,54 @@ fn faults_at_once(ask: Sink) {
         ask(Question::check_binary_operator(pages, op, unused, right));
         ask(Question::check_unary_operator(pages, op, left));
         ask(Question::check_index(pages, left, right.checked));
+    }
+}
+
+/// Units of any length with symbols in use and not, in every place.
+fn unused_symbols(ask: Sink) {
+    let pairs = pairs_page(&pairs(&[(IN, MM)]), 0);
+    let (store, [union, array]) = stored([&over(ANY, &[INT]), &over(ARRAY, &[INT])], 0);
+    for (names, lent) in lendings() {
+        let pages = Pages { store: &store, names: &names, lent, pairs: &pairs };
+        for unit in &units() {
+            ask_with(pages, operand(INT, unit), ask);
+        }
+        for unit in &few_units() {
+            ask_with(pages, operand(union, unit), ask);
+            ask_with(pages, operand(array, unit), ask);
+            ask_with(pages, operand(array + 1, unit), ask);
+            ask_with(pages, operand(UNKNOWN, unit), ask);
+        }
+    }
+}
+
+/// A few of these units with each other, beside an undefined operator, a store or a pair
+/// table that is not in form, and numbers that are not in use.
+fn unused_at_once(ask: Sink) {
+    let pairs = pairs_page(&pairs(&[(IN, MM)]), 0);
+    let (store, [array]) = stored([&over(ARRAY, &[INT])], 0);
+    let broken = [&store[..], &[1]].concat();
+    let few = few_units();
+    for (names, lent) in lendings() {
+        for faults in 0..1 << 5 {
+            let has = |fault: u32| faults >> fault & 1 == 1;
+            let pages = Pages {
+                store: if has(0) { &broken } else { &store },
+                names: &names,
+                lent,
+                pairs: if has(1) { &pairs[1..] } else { &pairs },
+            };
+            let op = if has(2) { 14 } else { PLUS };
+            let [left, right] = [3, 4].map(|fault| if has(fault) { array + 1 } else { INT.into() });
+            for left_unit in &few {
+                let left = operand(left, left_unit);
+                ask(Question::check_unary_operator(pages, op, left));
+                ask(Question::check_index(pages, left, right.into()));
+                for right_unit in &few {
+                    let right = operand(right, right_unit);
+                    ask(Question::check_binary_operator(pages, op, left, right));
+                }
+            }
+        }
     }
 }

@@ -12,6 +12,7 @@ use crate::inputs::types::shapes::{
 };
 use crate::inputs::types::{names_for, page_for, rubbish, some_shape};
 use crate::inputs::units;
+use crate::inputs::unused::any_unit;
 use crate::limits::{FUNCTION, MAX_CHILDREN, MAX_DEPTH, MAX_NAMES, NO_UNIT, UNKNOWN};
 use crate::pairs::Pair;
 use crate::random::Random;
@@ -238,5 +239,19 @@ pub fn check_index(random: &mut Random) -> Question {
         let [target, key] = setting.two.map(|number| setting.checked(random, number));
         let key = if random.once_in(3) { key } else { (*random.pick(&[INT, STRING])).into() };
         Question::check_index(setting.pages(), operand(target, &unit), key)
+    })
+}
+
+/// One of the calls with units of any bytes.
+pub fn check_of_any(random: &mut Random) -> Question {
+    within_reach(random, [some_leaf; 2], |random, setting| {
+        let [left_unit, right_unit] = [(); 2].map(|()| any_unit(random, setting.bound));
+        let [left, right] = setting.two.map(|number| setting.checked(random, number));
+        let (left, right) = (operand(left, &left_unit), operand(right, &right_unit));
+        match random.below(3) {
+            0 => Question::check_binary_operator(setting.pages(), some_code(random), left, right),
+            1 => Question::check_unary_operator(setting.pages(), some_code(random), left),
+            _ => Question::check_index(setting.pages(), left, right.checked),
+        }
     })
 }

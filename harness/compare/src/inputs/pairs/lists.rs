@@ -31,7 +31,7 @@ fn grown(list: &[Pair], length: usize, names: &[u8], lent: bool, ask: Sink) -> V
 }
 
 /// Asks a grown table for the root and the factor of each symbol up to `last`.
-fn symbols(page: &[u8], names: &[u8], lent: bool, last: u8, ask: Sink) {
+fn symbols(page: &[u8], names: &[u8], lent: bool, last: u16, ask: Sink) {
     for symbol in 0..=last {
         ask(Question::canonical(page, names, lent, symbol));
         ask(Question::factor(page, names, lent, symbol));

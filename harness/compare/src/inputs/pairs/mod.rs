@@ -11,6 +11,7 @@ mod pages;
 
 use super::names::{different_names, shortest_names, table};
 use super::units::broken_terms;
+use super::unused::any_unit;
 use super::{damaged_somewhere, Sink};
 use crate::call::Question;
 use crate::limits::{MAX_NAMES, MAX_PAIRS, PAIR_BYTES};
@@ -31,6 +32,7 @@ pub fn questions(random: &mut Random, rounds: usize, ask: Sink) {
         ask(factor(random));
         ask(canonicalize(random));
         ask(is_convertible_to(random));
+        ask(units_of_any(random));
     }
 }
 
@@ -237,12 +239,12 @@ pub fn insert_pair(random: &mut Random) -> Question {
 
 pub fn canonical(random: &mut Random) -> Question {
     let Setting { page, names, lent, bound, .. } = some_setting(random);
-    Question::canonical(&page, &names, lent, some_symbol(random, bound))
+    Question::canonical(&page, &names, lent, some_symbol(random, bound).into())
 }
 
 pub fn factor(random: &mut Random) -> Question {
     let Setting { page, names, lent, bound, .. } = some_setting(random);
-    Question::factor(&page, &names, lent, some_symbol(random, bound))
+    Question::factor(&page, &names, lent, some_symbol(random, bound).into())
 }
 
 pub fn canonicalize(random: &mut Random) -> Question {
@@ -255,4 +257,15 @@ pub fn is_convertible_to(random: &mut Random) -> Question {
     let setting = some_setting(random);
     let [left, right] = some_units(random, &setting);
     Question::is_convertible_to(&setting.page, &setting.names, setting.lent, &left, &right)
+}
+
+/// Group sums, or convertibility, of any bytes.
+fn units_of_any(random: &mut Random) -> Question {
+    let Setting { page, names, lent, bound, .. } = some_setting(random);
+    let [left, right] = [(); 2].map(|()| any_unit(random, bound));
+    match random.below(3) {
+        0 => Question::canonicalize(&page, &names, lent, &left),
+        1 => Question::is_convertible_to(&page, &names, lent, &left, &[0]),
+        _ => Question::is_convertible_to(&page, &names, lent, &left, &right),
+    }
 }

@@ -6,8 +6,9 @@ use super::{
 };
 use crate::call::Question;
 use crate::inputs::names::{shortest_names, table, table_on};
+use crate::inputs::unused::{few_units, lendings, units, wide, LOW, WIDE};
 use crate::inputs::{damaged_everywhere, Sink};
-use crate::limits::{EMPTY_PAIRS_BYTES, MAX_NAMES, MAX_PAIRS, PAIR_BYTES};
+use crate::limits::{EMPTY_PAIRS_BYTES, MAX_NAMES, MAX_PAIRS, NO_UNIT, PAIR_BYTES};
 use crate::pairs::{table_bytes, Pair, Pairs};
 use crate::random::Random;
 use crate::units::{unit_bytes, Term};
@@ -22,6 +23,8 @@ pub fn questions(random: &mut Random, ask: Sink) {
     broken_tables(ask);
     long_pages(random, ask);
     names_beside(ask);
+    unused_symbols(ask);
+    wide_symbols(ask);
 }
 
 /// Each call once on that page, with these names.
@@ -223,5 +226,60 @@ fn names_beside(ask: Sink) {
                 ask_each(&page, names, false, ask);
             }
         }
+    }
+}
+
+/// Units of any length with symbols in use and not, on either side; a few of them with each
+/// other, also where the pairs have a symbol that is not in use.
+fn unused_symbols(ask: Sink) {
+    let page = page_of(&pairs(&[(1, 0)]), 0);
+    let broken = page_of(&pairs(&[(1, 0), (1, 254)]), 0);
+    let few = few_units();
+    for (names, lent) in &lendings() {
+        for unit in &units() {
+            ask(Question::canonicalize(&page, names, *lent, unit));
+            ask(Question::is_convertible_to(&page, names, *lent, unit, &[0]));
+            ask(Question::is_convertible_to(&page, names, *lent, &NO_UNIT, unit));
+        }
+        for page in [&page, &broken] {
+            for left in &few {
+                ask(Question::canonicalize(page, names, *lent, left));
+                for right in &few {
+                    ask(Question::is_convertible_to(page, names, *lent, left, right));
+                }
+            }
+        }
+    }
+}
+
+/// Numbers too large for a symbol, of tables that have what their low bytes say, with room
+/// for one more pair and without, and of tables that are not in form.
+fn wide_symbols(ask: Sink) {
+    let [a, b, c, d] = LOW;
+    let lists = [pairs(&[]), pairs(&[(b, a)]), pairs(&[(b, a), (c, b), (d, c)])];
+    let mut lendings = lendings().to_vec();
+    lendings.extend([(table_on(&["m", "m"], 0), true), (Vec::new(), false)]);
+    for list in &lists {
+        let own = table_bytes(list.len());
+        let broken = with_parents_of(list, &pairs(&[(4, 5), (6, 7)]));
+        for page in [page_of(list, own + PAIR_BYTES), page_of(list, own), broken] {
+            for (names, lent) in &lendings {
+                for symbol in WIDE {
+                    ask_wide(&page, names, *lent, symbol, ask);
+                }
+            }
+        }
+    }
+    let page = page_of(&lists[2], table_bytes(lists[2].len() + 1));
+    wide().for_each(|symbol| ask_wide(&page, b"", false, symbol, ask));
+    let full = page_of(&vec![pair(b, a); MAX_PAIRS], 0);
+    WIDE.into_iter().for_each(|symbol| ask_wide(&full, b"", false, symbol, ask));
+}
+
+fn ask_wide(page: &[u8], names: &[u8], lent: bool, symbol: u16, ask: Sink) {
+    ask(Question::canonical(page, names, lent, symbol));
+    ask(Question::factor(page, names, lent, symbol));
+    for both in [[symbol, 0], [0, symbol], [symbol, symbol], [symbol, 255], [255, symbol]] {
+        ask(Question::insert_symbols(page, names, lent, both, 7));
     }
 }

@@ -7,6 +7,7 @@ use super::shapes::{
 };
 use crate::call::Question;
 use crate::inputs::names::{shortest_names, table, table_on};
+use crate::inputs::unused::{lendings, wide, LOW, WIDE};
 use crate::inputs::{damaged_everywhere, Sink};
 use crate::limits::{
     BINDINGS_BYTES, FIXED_TYPES, FUNCTION, MAX_BINDINGS, MAX_CHILDREN, MAX_DEPTH, MAX_ENTRIES,
@@ -35,6 +36,8 @@ pub fn questions(random: &mut Random, ask: Sink) {
     names_beside(ask);
     numbers(ask);
     broken_bindings(ask);
+    wide_names(ask);
+    functions(ask);
 }
 
 /// Each call once on that page, about the first type of its store and the second.
@@ -459,4 +462,69 @@ fn array_with(bytes: &[u8; BINDINGS_BYTES], place: usize, byte: u8) -> [u8; BIND
     let mut bytes = *bytes;
     bytes[place] = byte;
     bytes
+}
+
+/// Numbers too large for a name, beside every kind, with children that it takes and not, in
+/// stores that have the names of their low bytes, with room and without.
+fn wide_names(ask: Sink) {
+    let few = page_of(&[Entry::named(RECORD, A), Entry::named(GENERIC, B)], 0);
+    let low: Vec<Entry> =
+        (RECORD..=GENERIC).flat_map(|kind| LOW.map(|name| Entry::named(kind, name))).collect();
+    let mut lendings = lendings().to_vec();
+    lendings.extend([(table_on(&["a", "a"], 0), true), (vec![9], false)]);
+    for store in [few, page_of(&low, 0)] {
+        for room in [0, 40] {
+            let page = [&store[..], &vec![0; room]].concat();
+            for (names, lent) in &lendings {
+                for kind in (0..=40).chain([255]) {
+                    for children in [&[][..], &[1], &[1, 1], &[999]] {
+                        for name in WIDE {
+                            let entry = Entry::of(kind, children);
+                            ask(Question::make_named(&page, names, *lent, &entry, name));
+                        }
+                    }
+                }
+            }
+        }
+    }
+    let page = page_of(&low, 200);
+    for name in wide() {
+        for kind in [ARRAY - 1, TUPLE, RECORD, HANDLE, GENERIC] {
+            ask(Question::make_named(&page, b"", false, &Entry::of(kind, &[]), name));
+        }
+    }
+}
+
+/// Callbacks as Known and as Functions, whose const forms are told apart, and the same
+/// numbers as Unknown; in small stores and in a full one.
+fn functions(ask: Sink) {
+    let callbacks = [
+        over(CALLBACK, &[INT]),
+        over(CALLBACK, &[INT; MAX_CHILDREN]),
+        of(CALLBACK, &[generic(A), array(generic(B))]),
+        of(CALLBACK, &[over(CALLBACK, &[INT]), over(CALLBACK, &[NULL, INT])]),
+        array(over(CALLBACK, &[STRING])),
+    ];
+    let ask_all = &mut |page: &[u8], names: &[u8], lent: bool, last: u32| {
+        for number in FIRST..=last + 1 {
+            for checked in [number, FUNCTION + number, UNKNOWN + number] {
+                ask(Question::into_const(page, names, lent, checked));
+            }
+        }
+    };
+    for shape in &callbacks {
+        for room in [0, 4, 40] {
+            let (page, [last]) = stored([shape], room);
+            for (names, lent) in &lendings() {
+                ask_all(&page, names, *lent, last.into());
+            }
+            ask_all(&page, &table_on(&["a"], 0), true, last.into());
+        }
+    }
+    let mut entries = many(MAX_ENTRIES - 1);
+    entries.push(Entry::of(CALLBACK, &[1]));
+    let (page, last) = (page_of(&entries, 0), (FIXED_TYPES + MAX_ENTRIES - 1) as u32);
+    for checked in [last, FUNCTION + last, FUNCTION + last - 1, UNKNOWN + last] {
+        ask(Question::into_const(&page, b"", false, checked));
+    }
 }

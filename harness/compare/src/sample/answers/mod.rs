@@ -7,7 +7,7 @@
 mod indexes;
 mod operators;
 
-use super::units::units_out_of_form;
+use super::units::{units_cut, units_out_of_form};
 use crate::call::{Operand, Pages, Question};
 use crate::inputs::answers::operands::{operand, EQUAL, IN, MINUS, MM, PLUS, S};
 use crate::inputs::names::table_on;
@@ -215,5 +215,25 @@ fn refusals_at_once() -> Vec<Question> {
         questions.push(Question::check_index(pages, given, 99));
     }
     questions.push(Question::check_index(pages, good, 99));
+    questions.extend(units_cut_short());
+    questions
+}
+
+/// A symbol not in use comes before a wrong length or count.
+fn units_cut_short() -> Vec<Question> {
+    let names = table_on(&["a", "b"], 0);
+    let beside = Pages { store: FIXED_ALONE, names: &names, lent: true, pairs: b"" };
+    let mut questions = Vec::new();
+    for (place, unit) in units_cut().iter().enumerate() {
+        questions.push(each_without_pairs(beside, operand(INT, unit))[place % 2].clone());
+    }
+    let (cut, broken) = (operand(INT, &[9, 0, 0, 1, 2]), operand(INT, &[9]));
+    questions.push(Question::check_unary_operator(beside, 14, cut));
+    questions.push(Question::check_unary_operator(pages(FIXED_ALONE, b""), MINUS, cut));
+    let pairs = page_of(&[], 0);
+    let beside = Pages { pairs: &pairs, ..beside };
+    for (left, right) in [(cut, broken), (broken, cut)] {
+        questions.push(Question::check_binary_operator(beside, PLUS, left, right));
+    }
     questions
 }

@@ -2,7 +2,7 @@
 
 mod groups;
 
-use super::units::several;
+use super::units::{several, units_cut};
 use crate::call::Question;
 use crate::inputs::names::{shortest_names, table, table_on};
 use crate::inputs::pairs::{page_of, pair, pairs, reversed, turned, with_parents_of, Symbols};
@@ -275,7 +275,8 @@ fn refusals_at_once() -> Vec<Question> {
         questions.push(Question::canonicalize(page, names, true, &[1, 0, 0, 0]));
     }
 
-    // Not in use comes before another fault of either unit; what cannot be read has no symbols.
+    // Not in use comes before another fault of either unit. No unit has no symbols, whatever
+    // follows it.
     let units: [&[u8]; 9] = [
         &[1, 2, 0, 1],
         &[1, 2, 0, 0],
@@ -293,6 +294,15 @@ fn refusals_at_once() -> Vec<Question> {
             questions.push(Question::is_convertible_to(&full, &good, true, left, right));
         }
     }
+    for (place, unit) in units_cut().iter().enumerate() {
+        questions.push(match place % 3 {
+            0 => Question::is_convertible_to(&full, &good, true, unit, &NO_UNIT),
+            1 => Question::canonicalize(&full, &good, true, unit),
+            _ => Question::is_convertible_to(&full, &good, true, &[1, 0, 0, 0], unit),
+        });
+    }
+    questions.push(Question::canonicalize(&full, &good, false, &[9, 2, 0, 1]));
+    questions.push(Question::canonicalize(&full, &broken, true, &NO_UNIT));
     questions
 }
 

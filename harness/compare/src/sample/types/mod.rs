@@ -328,6 +328,12 @@ fn const_forms() -> Vec<Question> {
     for checked in [FUNCTION + u32::from(callback), FUNCTION, UNKNOWN, u32::MAX] {
         questions.push(Question::into_const(&page, NO_NAMES, false, checked));
     }
+    // Known and a Function of one number are told apart.
+    let (page, [_, callback]) = stored([&over(CALLBACK, &[INT]), &over(CALLBACK, &[1, 5])], 0);
+    let callback = u32::from(callback);
+    for checked in [callback, FUNCTION + callback, FUNCTION + callback - 1, UNKNOWN + callback] {
+        questions.push(Question::into_const(&page, NO_NAMES, false, checked));
+    }
     questions
 }
 
