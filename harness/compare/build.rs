@@ -1,4 +1,4 @@
-//! Tells the linker where `libriddlepoppy.a` lies, where a program that calls it is wanted.
+//! Tells the linker where `libcalls.a` lies, where a program that calls it is wanted.
 
 use std::env;
 
@@ -8,7 +8,7 @@ fn main() {
         return;
     }
     let folder = env::var("RIDDLEPOPPY_STATICLIB")
-        .expect("RIDDLEPOPPY_STATICLIB must name the folder that holds libriddlepoppy.a");
+        .expect("RIDDLEPOPPY_STATICLIB must name the folder that holds libcalls.a");
     println!("cargo:rustc-link-search=native={folder}");
-    println!("cargo:rerun-if-changed={folder}/libriddlepoppy.a");
+    println!("cargo:rerun-if-changed={folder}/libcalls.a");
 }

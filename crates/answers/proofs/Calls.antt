@@ -10,140 +10,140 @@ use Rattle.refusals.specs.Lowest.{◌when◌, lowest}
 use Rattle.refusals.specs.declared.Refusal.{Refusal}
 use Rattle.refusals.specs.declared.Refusal.TheVariants.{Undefined, Broken, Unused, BadUnit}
 use Rattle.refusals.specs.declared.Verdict.TheVariants.{Passed, Refused}
-use Rattle.refusals.proofs.Lowest.{first-holds, passed-parts}
-use Rattle.pages.proofs.Quant.{and-true}
-use Rattle.names.specs.Calls.{usedOf}
+use Rattle.refusals.proofs.Lowest.{first_holds, passed_parts}
+use Rattle.pages.proofs.Quant.{and_true}
+use Rattle.names.specs.Calls.{used_of}
 use Rattle.types.specs.Store.{Formed}
-use Rattle.types.specs.Types.{typesIn}
+use Rattle.types.specs.Types.{types_in}
 use Rattle.types.specs.Making.{Grows}
-use Rattle.types.specs.Calls.{storeBroken}
+use Rattle.types.specs.Calls.{store_broken}
 use Rattle.matching.specs.Matching as matching
 use Rattle.matching.specs.declared.Checked.{Checked}
-use Rattle.units.specs.Unit.{inUse}
+use Rattle.units.specs.Unit.{in_use}
 use Rattle.units.specs.Calls.{present}
 use Rattle.units.specs.declared.MaybeUnit.{MaybeUnit}
-use Rattle.pairs.specs.Calls.{tableBroken}
-use Rattle.sums.specs.Calls.{rootsIn, orEmpty}
-use Rattle.operators.specs.Operators.{isOperator}
-use Rattle.operators.specs.Outcome.{numberOf}
-use Rattle.operators.proofs.Table.{operator-range}
+use Rattle.pairs.specs.Calls.{table_broken}
+use Rattle.sums.specs.Calls.{roots_in, or_empty}
+use Rattle.operators.specs.Operators.{is_operator}
+use Rattle.operators.specs.Outcome.{number_of}
+use Rattle.operators.proofs.Table.{operator_range}
 use Rattle.operators.specs.declared.Outcome.{Outcome}
 use Rattle.members.specs.Members.{Concluded, concluded}
 use Rattle.members.specs.declared.Conclusion.{Conclusion}
 use Rattle.members.specs.Leaves.{Leaves}
-use Rattle.members.proofs.Leaves.{leaves-grown}
-use Rattle.members.proofs.Kept.{Kept, number-used}
-use Rattle.unary.specs.Unary.{checkUnary}
-use Rattle.unary.proofs.Kept.{unary-kept}
-use Rattle.indexing.specs.Indexing.{checkIndex}
-use Rattle.answers.specs.Calls.{operandUsed, operandFormed, operandConditions, refused, answered, binaryVerdict, binaryChecked, binaryAnswer, concludedBy, storeAfter, unaryVerdict, unaryUnit, unaryChecked, unaryAnswer, unaryPage, keyed, indexVerdict, indexAnswer, indexPage}
+use Rattle.members.proofs.Leaves.{leaves_grown}
+use Rattle.members.proofs.Kept.{Kept, number_used}
+use Rattle.unary.specs.Unary.{check_unary}
+use Rattle.unary.proofs.Kept.{unary_kept}
+use Rattle.indexing.specs.Indexing.{check_index}
+use Rattle.answers.specs.Calls.{operand_used, operand_formed, operand_conditions, refused, answered, binary_verdict, binary_checked, binary_answer, concluded_by, store_after, unary_verdict, unary_unit, unary_checked, unary_answer, unary_page, keyed, index_verdict, index_answer, index_page}
 use Rattle.answers.specs.declared.CheckedExpr.{CheckedExpr}
 use Rattle.answers.specs.declared.Answered.{Answered}
 
 -- ---- two operands
 
 module _ (page : List ℕ) (n : ℕ) (left right : CheckedExpr) where
-  unused : (operandUsed page n left && operandUsed page n right) ≡ false → Refused Unused ≡ lowest (operandConditions page n left right)
-  unused u = sym (rw u (first-holds Unused ((BadUnit when not (operandFormed left && operandFormed right)) ∷ []) refl))
+  unused : (operand_used page n left && operand_used page n right) ≡ false → Refused Unused ≡ lowest (operand_conditions page n left right)
+  unused u = sym (rw u (first_holds Unused ((BadUnit when not (operand_formed left && operand_formed right)) ∷ []) refl))
 
-  pub left-unused : operandUsed page n left ≡ false → Refused Unused ≡ lowest (operandConditions page n left right)
-  left-unused u = unused (rw u)
+  pub left_unused : operand_used page n left ≡ false → Refused Unused ≡ lowest (operand_conditions page n left right)
+  left_unused u = unused (rw u)
 
-  module _ (l : operandUsed page n left ≡ true) where
-    pub right-unused : operandUsed page n right ≡ false → Refused Unused ≡ lowest (operandConditions page n left right)
-    right-unused u = unused (rw (l, u))
+  module _ (l : operand_used page n left ≡ true) where
+    pub right_unused : operand_used page n right ≡ false → Refused Unused ≡ lowest (operand_conditions page n left right)
+    right_unused u = unused (rw (l, u))
 
-    module _ (r : operandUsed page n right ≡ true) where
-      pub left-bad : operandFormed left ≡ false → Refused BadUnit ≡ lowest (operandConditions page n left right)
-      left-bad f = rw (l, r, f)
+    module _ (r : operand_used page n right ≡ true) where
+      pub left_bad : operand_formed left ≡ false → Refused BadUnit ≡ lowest (operand_conditions page n left right)
+      left_bad f = rw (l, r, f)
 
-      module _ (f : operandFormed left ≡ true) where
-        pub right-bad : operandFormed right ≡ false → Refused BadUnit ≡ lowest (operandConditions page n left right)
-        right-bad g = rw (l, r, f, g)
+      module _ (f : operand_formed left ≡ true) where
+        pub right_bad : operand_formed right ≡ false → Refused BadUnit ≡ lowest (operand_conditions page n left right)
+        right_bad g = rw (l, r, f, g)
 
-        pub both-pass : operandFormed right ≡ true → Passed ≡ lowest (operandConditions page n left right)
-        both-pass g = rw (l, r, f, g)
+        pub both_pass : operand_formed right ≡ true → Passed ≡ lowest (operand_conditions page n left right)
+        both_pass g = rw (l, r, f, g)
 
   -- what two operands have that are not refused
-  module _ (v : lowest (operandConditions page n left right) ≡ Passed) where
-    parts : (not (operandUsed page n left && operandUsed page n right) ≡ false) × (lowest ((BadUnit when not (operandFormed left && operandFormed right)) ∷ []) ≡ Passed)
-    parts = passed-parts Unused (not (operandUsed page n left && operandUsed page n right)) ((BadUnit when not (operandFormed left && operandFormed right)) ∷ []) v
+  module _ (v : lowest (operand_conditions page n left right) ≡ Passed) where
+    parts : (not (operand_used page n left && operand_used page n right) ≡ false) × (lowest ((BadUnit when not (operand_formed left && operand_formed right)) ∷ []) ≡ Passed)
+    parts = passed_parts Unused (not (operand_used page n left && operand_used page n right)) ((BadUnit when not (operand_formed left && operand_formed right)) ∷ []) v
 
-    pub passed-formed : (operandFormed left ≡ true) × (operandFormed right ≡ true)
-    passed-formed =
-        and-true (operandFormed left) (operandFormed right)
-        (not-false (operandFormed left && operandFormed right) (passed-parts BadUnit (not (operandFormed left && operandFormed right)) [] parts.1).0)
+    pub passed_formed : (operand_formed left ≡ true) × (operand_formed right ≡ true)
+    passed_formed =
+        and_true (operand_formed left) (operand_formed right)
+        (not-false (operand_formed left && operand_formed right) (passed_parts BadUnit (not (operand_formed left && operand_formed right)) [] parts.1).0)
 
-    pub passed-used : (matching.inUse page left.checked ≡ true) × (matching.inUse page right.checked ≡ true)
-    passed-used =
-        let both = and-true (operandUsed page n left) (operandUsed page n right) (not-false (operandUsed page n left && operandUsed page n right) parts.0) in (
-          (and-true (matching.inUse page left.checked) (inUse n (present (orEmpty left.unit))) both.0).0,
-          (and-true (matching.inUse page right.checked) (inUse n (present (orEmpty right.unit))) both.1).0,
+    pub passed_used : (matching.in_use page left.checked ≡ true) × (matching.in_use page right.checked ≡ true)
+    passed_used =
+        let both = and_true (operand_used page n left) (operand_used page n right) (not-false (operand_used page n left && operand_used page n right) parts.0) in (
+          (and_true (matching.in_use page left.checked) (in_use n (present (or_empty left.unit))) both.0).0,
+          (and_true (matching.in_use page right.checked) (in_use n (present (or_empty right.unit))) both.1).0,
         )
 
 -- ---- binary operators
 
 module _ (page names : List ℕ) (lent : Bool) (pairs : List ℕ) (op : ℕ) (left right : CheckedExpr) where
-  binary-refused : (r : Refusal) → binaryVerdict page names lent pairs op left right ≡ Refused r → refused r ≡ binaryAnswer page names lent pairs op left right
-  unfolding binaryAnswer
-  binary-refused r v = rw v
+  binary_refused : (r : Refusal) → binary_verdict page names lent pairs op left right ≡ Refused r → refused r ≡ binary_answer page names lent pairs op left right
+  unfolding binary_answer
+  binary_refused r v = rw v
 
-  pub binary-undefined : isOperator op ≡ false → refused Undefined ≡ binaryAnswer page names lent pairs op left right
-  binary-undefined d =
-      binary-refused Undefined
+  pub binary_undefined : is_operator op ≡ false → refused Undefined ≡ binary_answer page names lent pairs op left right
+  binary_undefined d =
+      binary_refused Undefined
       (rw d
-      (first-holds Undefined
-      ((Broken when (storeBroken page names lent || tableBroken pairs names lent)) ∷ operandConditions page (usedOf names lent) left right) refl))
+      (first_holds Undefined
+      ((Broken when (store_broken page names lent || table_broken pairs names lent)) ∷ operand_conditions page (used_of names lent) left right) refl))
 
-  module _ (d : isOperator op ≡ true) where
-    pub binary-broken : (storeBroken page names lent || tableBroken pairs names lent) ≡ true → refused Broken ≡ binaryAnswer page names lent pairs op left right
-    binary-broken b = binary-refused Broken (rw (d, b) (first-holds Broken (operandConditions page (usedOf names lent) left right) refl))
+  module _ (d : is_operator op ≡ true) where
+    pub binary_broken : (store_broken page names lent || table_broken pairs names lent) ≡ true → refused Broken ≡ binary_answer page names lent pairs op left right
+    binary_broken b = binary_refused Broken (rw (d, b) (first_holds Broken (operand_conditions page (used_of names lent) left right) refl))
 
-    module _ (b : storeBroken page names lent ≡ false) (t : tableBroken pairs names lent ≡ false) where
-      pub binary-unfit : (r : Refusal) → Refused r ≡ lowest (operandConditions page (usedOf names lent) left right)
-          → refused r ≡ binaryAnswer page names lent pairs op left right
-      binary-unfit r v = binary-refused r (rw (d, b, t) (sym v))
+    module _ (b : store_broken page names lent ≡ false) (t : table_broken pairs names lent ≡ false) where
+      pub binary_unfit : (r : Refusal) → Refused r ≡ lowest (operand_conditions page (used_of names lent) left right)
+          → refused r ≡ binary_answer page names lent pairs op left right
+      binary_unfit r v = binary_refused r (rw (d, b, t) (sym v))
 
-      pub binary-passed : Passed ≡ lowest (operandConditions page (usedOf names lent) left right)
-          → (root : ℕ → ℕ) → ((s : ℕ) → root s ≡ rootsIn pairs s)
-          → binaryChecked page root op left right ≡ binaryAnswer page names lent pairs op left right
-      unfolding binaryAnswer
-      binary-passed v root same = rw (d, b, t, ← v) (ap (λ (by : ℕ → ℕ). binaryChecked page by op left right) (fun_ext same))
+      pub binary_passed : Passed ≡ lowest (operand_conditions page (used_of names lent) left right)
+          → (root : ℕ → ℕ) → ((s : ℕ) → root s ≡ roots_in pairs s)
+          → binary_checked page root op left right ≡ binary_answer page names lent pairs op left right
+      unfolding binary_answer
+      binary_passed v root same = rw (d, b, t, ← v) (ap (λ (by : ℕ → ℕ). binary_checked page by op left right) (fun_ext same))
 
 -- ---- a conclusion and the store that it leaves
 
 -- the check of an operator with one operand
-module _ (page : List ℕ) (f : Formed page) (op : ℕ) (d : isOperator op ≡ true) (x : Checked) (u : matching.inUse page x ≡ true)
-    (r : Conclusion) (after : List ℕ) (e : concluded r after ≡ checkUnary page op x) where
+module _ (page : List ℕ) (f : Formed page) (op : ℕ) (d : is_operator op ≡ true) (x : Checked) (u : matching.in_use page x ≡ true)
+    (r : Conclusion) (after : List ℕ) (e : concluded r after ≡ check_unary page op x) where
   kept : Kept page (concluded r after)
-  kept = rw e (unary-kept page f op (operator-range op d).0 x u)
+  kept = rw e (unary_kept page f op (operator_range op d).0 x u)
 
-  pub unary-used : (o : Outcome) → r ≡ Conclusion.Is o → numberOf o.checked < typesIn after
-  unary-used o h = number-used after o.checked (kept.used o h)
+  pub unary_used : (o : Outcome) → r ≡ Conclusion.Is o → number_of o.checked < types_in after
+  unary_used o h = number_used after o.checked (kept.used o h)
 
-  pub unary-grown : Grows page after
-  unary-grown = kept.grown
+  pub unary_grown : Grows page after
+  unary_grown = kept.grown
 
   -- a table of leaves has those of the types that there were
-  pub unary-leaves : (leaves : List ℕ) (n : ℕ) → n ≡ typesIn page → Leaves true page leaves (typesIn page)
-      → (n ≤ typesIn after) × Leaves true after leaves n
-  unary-leaves leaves n is l =
-      (omega (arith, is, kept.grown.more), rw is (leaves-grown true page after f kept.form kept.grown leaves (typesIn page) (le_refl (typesIn page)) l))
+  pub unary_leaves : (leaves : List ℕ) (n : ℕ) → n ≡ types_in page → Leaves true page leaves (types_in page)
+      → (n ≤ types_in after) × Leaves true after leaves n
+  unary_leaves leaves n is l =
+      (omega (arith, is, kept.grown.more), rw is (leaves_grown true page after f kept.form kept.grown leaves (types_in page) (le_refl (types_in page)) l))
 
 module _ (page : List ℕ) (z : Concluded) (r : Conclusion) (after : List ℕ) (e : concluded r after ≡ z) where
-  pub unary-is : (op : ℕ) (u : MaybeUnit) (o : Outcome) → r ≡ Conclusion.Is o
-      → (answered o (unaryUnit after op o u) ≡ unaryChecked z op u) × (after ≡ storeAfter z page)
-  unary-is op u o h = (rw (← e, h) refl, rw (← e, h) refl)
+  pub unary_is : (op : ℕ) (u : MaybeUnit) (o : Outcome) → r ≡ Conclusion.Is o
+      → (answered o (unary_unit after op o u) ≡ unary_checked z op u) × (after ≡ store_after z page)
+  unary_is op u o h = (rw (← e, h) refl, rw (← e, h) refl)
 
-  pub unary-stopped : (op : ℕ) (u : MaybeUnit) (q : Refusal) → r ≡ Conclusion.Refused q → (refused q ≡ unaryChecked z op u) × (page ≡ storeAfter z page)
-  unary-stopped op u q h = (rw (← e, h) refl, rw (← e, h) refl)
+  pub unary_stopped : (op : ℕ) (u : MaybeUnit) (q : Refusal) → r ≡ Conclusion.Refused q → (refused q ≡ unary_checked z op u) × (page ≡ store_after z page)
+  unary_stopped op u q h = (rw (← e, h) refl, rw (← e, h) refl)
 
-  pub index-is : (u : MaybeUnit) (o : Outcome) → r ≡ Conclusion.Is o → (answered o u ≡ concludedBy z.conclusion u) × (after ≡ storeAfter z page)
-  index-is u o h = (rw (← e, h) refl, rw (← e, h) refl)
+  pub index_is : (u : MaybeUnit) (o : Outcome) → r ≡ Conclusion.Is o → (answered o u ≡ concluded_by z.conclusion u) × (after ≡ store_after z page)
+  index_is u o h = (rw (← e, h) refl, rw (← e, h) refl)
 
-  pub index-stopped : (u : MaybeUnit) (q : Refusal) → r ≡ Conclusion.Refused q → z.store ≡ page
-      → (refused q ≡ concludedBy z.conclusion u) × (after ≡ storeAfter z page)
-  index-stopped u q h same =
+  pub index_stopped : (u : MaybeUnit) (q : Refusal) → r ≡ Conclusion.Refused q → z.store ≡ page
+      → (refused q ≡ concluded_by z.conclusion u) × (after ≡ store_after z page)
+  index_stopped u q h same =
       let left : after ≡ page = ap (λ (y : Concluded). y.store) e ∙ same in
       (rw (← e, h) refl, left ∙ rw (← e, h) refl)
 
@@ -152,50 +152,50 @@ module _ (page : List ℕ) (z : Concluded) (r : Conclusion) (after : List ℕ) (
 module _ (page names : List ℕ) (lent : Bool) (op : ℕ) (x : CheckedExpr) where
   -- an answer and a page are those of the call
   abbrev Unary : Answered → List ℕ → Type 0
-  Unary a after = (a ≡ unaryAnswer page names lent op x) × (after ≡ unaryPage page names lent op x)
+  Unary a after = (a ≡ unary_answer page names lent op x) × (after ≡ unary_page page names lent op x)
 
-  unary-refused : (r : Refusal) → unaryVerdict page names lent op x ≡ Refused r → Unary (refused r) page
-  unfolding unaryAnswer unaryPage
-  unary-refused r v = (rw v refl, rw v refl)
+  unary_refused : (r : Refusal) → unary_verdict page names lent op x ≡ Refused r → Unary (refused r) page
+  unfolding unary_answer unary_page
+  unary_refused r v = (rw v refl, rw v refl)
 
-  pub unary-undefined : isOperator op ≡ false → Unary (refused Undefined) page
-  unary-undefined d =
-      unary-refused Undefined
-      (rw d (first-holds Undefined ((Broken when storeBroken page names lent) ∷ operandConditions page (usedOf names lent) x x) refl))
+  pub unary_undefined : is_operator op ≡ false → Unary (refused Undefined) page
+  unary_undefined d =
+      unary_refused Undefined
+      (rw d (first_holds Undefined ((Broken when store_broken page names lent) ∷ operand_conditions page (used_of names lent) x x) refl))
 
-  module _ (d : isOperator op ≡ true) where
-    pub unary-broken : storeBroken page names lent ≡ true → Unary (refused Broken) page
-    unary-broken b = unary-refused Broken (rw (d, b) (first-holds Broken (operandConditions page (usedOf names lent) x x) refl))
+  module _ (d : is_operator op ≡ true) where
+    pub unary_broken : store_broken page names lent ≡ true → Unary (refused Broken) page
+    unary_broken b = unary_refused Broken (rw (d, b) (first_holds Broken (operand_conditions page (used_of names lent) x x) refl))
 
-    module _ (b : storeBroken page names lent ≡ false) where
-      pub unary-unfit : (r : Refusal) → Refused r ≡ lowest (operandConditions page (usedOf names lent) x x) → Unary (refused r) page
-      unary-unfit r v = unary-refused r (rw (d, b) (sym v))
+    module _ (b : store_broken page names lent ≡ false) where
+      pub unary_unfit : (r : Refusal) → Refused r ≡ lowest (operand_conditions page (used_of names lent) x x) → Unary (refused r) page
+      unary_unfit r v = unary_refused r (rw (d, b) (sym v))
 
-      pub unary-passed : Passed ≡ lowest (operandConditions page (usedOf names lent) x x) → {a : Answered} {after : List ℕ}
-          → a ≡ unaryChecked (checkUnary page op x.checked) op x.unit → after ≡ storeAfter (checkUnary page op x.checked) page → Unary a after
-      unfolding unaryAnswer unaryPage
-      unary-passed v p q = (rw (d, b, ← v) p, rw (d, b, ← v) q)
+      pub unary_passed : Passed ≡ lowest (operand_conditions page (used_of names lent) x x) → {a : Answered} {after : List ℕ}
+          → a ≡ unary_checked (check_unary page op x.checked) op x.unit → after ≡ store_after (check_unary page op x.checked) page → Unary a after
+      unfolding unary_answer unary_page
+      unary_passed v p q = (rw (d, b, ← v) p, rw (d, b, ← v) q)
 
 -- ---- indexing
 
 module _ (page names : List ℕ) (lent : Bool) (target : CheckedExpr) (key : Checked) where
   -- an answer and a page are those of the call
   abbrev Indexed : Answered → List ℕ → Type 0
-  Indexed a after = (a ≡ indexAnswer page names lent target key) × (after ≡ indexPage page names lent target key)
+  Indexed a after = (a ≡ index_answer page names lent target key) × (after ≡ index_page page names lent target key)
 
-  index-refused : (r : Refusal) → indexVerdict page names lent target key ≡ Refused r → Indexed (refused r) page
-  unfolding indexAnswer indexPage
-  index-refused r v = (rw v refl, rw v refl)
+  index_refused : (r : Refusal) → index_verdict page names lent target key ≡ Refused r → Indexed (refused r) page
+  unfolding index_answer index_page
+  index_refused r v = (rw v refl, rw v refl)
 
-  pub index-broken : storeBroken page names lent ≡ true → Indexed (refused Broken) page
-  index-broken b = index-refused Broken (rw b (first-holds Broken (operandConditions page (usedOf names lent) target (keyed key)) refl))
+  pub index_broken : store_broken page names lent ≡ true → Indexed (refused Broken) page
+  index_broken b = index_refused Broken (rw b (first_holds Broken (operand_conditions page (used_of names lent) target (keyed key)) refl))
 
-  module _ (b : storeBroken page names lent ≡ false) where
-    pub index-unfit : (r : Refusal) → Refused r ≡ lowest (operandConditions page (usedOf names lent) target (keyed key)) → Indexed (refused r) page
-    index-unfit r v = index-refused r (rw b (sym v))
+  module _ (b : store_broken page names lent ≡ false) where
+    pub index_unfit : (r : Refusal) → Refused r ≡ lowest (operand_conditions page (used_of names lent) target (keyed key)) → Indexed (refused r) page
+    index_unfit r v = index_refused r (rw b (sym v))
 
-    pub index-passed : Passed ≡ lowest (operandConditions page (usedOf names lent) target (keyed key)) → {a : Answered} {after : List ℕ}
-        → a ≡ concludedBy (checkIndex page key target.checked).conclusion target.unit
-        → after ≡ storeAfter (checkIndex page key target.checked) page → Indexed a after
-    unfolding indexAnswer indexPage
-    index-passed v p q = (rw (b, ← v) p, rw (b, ← v) q)
+    pub index_passed : Passed ≡ lowest (operand_conditions page (used_of names lent) target (keyed key)) → {a : Answered} {after : List ℕ}
+        → a ≡ concluded_by (check_index page key target.checked).conclusion target.unit
+        → after ≡ store_after (check_index page key target.checked) page → Indexed a after
+    unfolding index_answer index_page
+    index_passed v p q = (rw (b, ← v) p, rw (b, ← v) q)

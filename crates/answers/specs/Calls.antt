@@ -1,33 +1,33 @@
 -- What the calls for operators and indexing answer, and leave in the store's page (document 01, "Answers" and the table of refusals).
 -- Names are lent where `lent` is true.
 use Rattle.std.specs.Prelude.{Bool, ◌&&◌, ◌||◌, not, cond, List, [], ◌∷◌, ℕ, eqb}
-use Rattle.refusals.specs.Lowest.{Condition, ◌when◌, lowest, unlessRefused}
+use Rattle.refusals.specs.Lowest.{Condition, ◌when◌, lowest, unless_refused}
 use Rattle.refusals.specs.declared.Refusal.TheVariants.{Undefined, Broken, Unused, BadUnit}
 use Rattle.refusals.specs.declared.Refusal.{Refusal}
 use Rattle.refusals.specs.declared.Verdict.{Verdict}
 use Rattle.refusals.specs.declared.Verdict.TheVariants.{Passed, Refused}
-use Rattle.names.specs.Table.{namesMax}
-use Rattle.names.specs.Calls.{usedOf}
-use Rattle.kinds.specs.Kinds.{isUnion}
-use Rattle.types.specs.Types.{kindOf}
-use Rattle.types.specs.Calls.{storeBroken}
+use Rattle.names.specs.Table.{names_max}
+use Rattle.names.specs.Calls.{used_of}
+use Rattle.kinds.specs.Kinds.{is_union}
+use Rattle.types.specs.Types.{kind_of}
+use Rattle.types.specs.Calls.{store_broken}
 use Rattle.matching.specs.Matching as matching
 use Rattle.matching.specs.declared.Checked.{Checked}
 use Rattle.matching.specs.declared.Checked.TheVariants.{Unknown}
-use Rattle.units.specs.Unit.{placesMax, inUse, formed}
-use Rattle.units.specs.Calls.{termsOf, present}
+use Rattle.units.specs.Unit.{places_max, in_use, formed}
+use Rattle.units.specs.Calls.{terms_of, present}
 use Rattle.units.specs.declared.MaybeUnit.{MaybeUnit}
-use Rattle.pairs.specs.Calls.{tableBroken}
-use Rattle.sums.specs.Calls.{rootsIn, orEmpty}
-use Rattle.operators.specs.Operators.{isOperator, minus}
-use Rattle.operators.specs.Outcome.{noError, numberOf, passes}
+use Rattle.pairs.specs.Calls.{table_broken}
+use Rattle.sums.specs.Calls.{roots_in, or_empty}
+use Rattle.operators.specs.Operators.{is_operator, minus}
+use Rattle.operators.specs.Outcome.{no_error, number_of, passes}
 use Rattle.operators.specs.declared.Outcome.{Outcome}
 use Rattle.members.specs.Members.{Concluded}
 use Rattle.members.specs.declared.Conclusion.{Conclusion}
-use Rattle.binary.specs.Binary.{checkBinary}
-use Rattle.unary.specs.Unary.{checkUnary}
-use Rattle.indexing.specs.Indexing.{checkIndex}
-use Rattle.answers.specs.Units.{noUnit, clashes, binaryUnit, negationUnit}
+use Rattle.binary.specs.Binary.{check_binary}
+use Rattle.unary.specs.Unary.{check_unary}
+use Rattle.indexing.specs.Indexing.{check_index}
+use Rattle.answers.specs.Units.{no_unit, clashes, binary_unit, negation_unit}
 use Rattle.answers.specs.declared.CheckedExpr.{CheckedExpr}
 use Rattle.answers.specs.declared.MaybeResult.{MaybeResult}
 use Rattle.answers.specs.declared.Answered.{Answered}
@@ -35,25 +35,25 @@ use Rattle.answers.specs.declared.Answered.{Answered}
 -- ---- refusals of what a call is given
 
 -- are an operand's type and, of n numbers, its unit's symbols in use; where it has no unit, what stands there is not looked at
-abbrev pub operandUsed : List ℕ → ℕ → CheckedExpr → Bool
-operandUsed page n x = matching.inUse page x.checked && inUse n (present (orEmpty x.unit))
+abbrev pub operand_used : List ℕ → ℕ → CheckedExpr → Bool
+operand_used page n x = matching.in_use page x.checked && in_use n (present (or_empty x.unit))
 
 -- is its unit in form
-abbrev pub operandFormed : CheckedExpr → Bool
-operandFormed x = formed placesMax namesMax (termsOf (orEmpty x.unit))
+abbrev pub operand_formed : CheckedExpr → Bool
+operand_formed x = formed places_max names_max (terms_of (or_empty x.unit))
 
 -- 3 a number, 5 a unit: tested of both operands together
-abbrev pub operandConditions : List ℕ → ℕ → CheckedExpr → CheckedExpr → List Condition
-operandConditions page n left right =
-    (Unused when not (operandUsed page n left && operandUsed page n right))
-    ∷ (BadUnit when not (operandFormed left && operandFormed right))
+abbrev pub operand_conditions : List ℕ → ℕ → CheckedExpr → CheckedExpr → List Condition
+operand_conditions page n left right =
+    (Unused when not (operand_used page n left && operand_used page n right))
+    ∷ (BadUnit when not (operand_formed left && operand_formed right))
     ∷ []
 
 -- ---- answers
 
 -- nothing beside a refusal
 abbrev pub refused : Refusal → Answered
-refused r = record { verdict = Refused r; checked = Unknown; unit = noUnit; errors = noError }
+refused r = record { verdict = Refused r; checked = Unknown; unit = no_unit; errors = no_error }
 
 -- "a checked type, a unit or none, and errors in order"
 abbrev pub answered : Outcome → MaybeUnit → Answered
@@ -67,88 +67,88 @@ unless (Refused r) a = refused r
 -- ---- `check_binary_operator`
 
 -- 1 the operator; 2 the names, the store or the pairs
-abbrev pub binaryVerdict : List ℕ → List ℕ → Bool → List ℕ → ℕ → CheckedExpr → CheckedExpr → Verdict
-binaryVerdict page names lent pairs op left right =
+abbrev pub binary_verdict : List ℕ → List ℕ → Bool → List ℕ → ℕ → CheckedExpr → CheckedExpr → Verdict
+binary_verdict page names lent pairs op left right =
     lowest
-    ((Undefined when not (isOperator op))
-    ∷ (Broken when (storeBroken page names lent || tableBroken pairs names lent))
-    ∷ operandConditions page (usedOf names lent) left right)
+    ((Undefined when not (is_operator op))
+    ∷ (Broken when (store_broken page names lent || table_broken pairs names lent))
+    ∷ operand_conditions page (used_of names lent) left right)
 
 -- a check that passes has the unit of its operator's rule, refused by 8 and 9; with an error there is none
-unfoldable pub withUnit : Outcome → MaybeResult → Answered
-withUnit o u = cond (passes o) (unless u.verdict (answered o u.unit)) (answered o noUnit)
+unfoldable pub with_unit : Outcome → MaybeResult → Answered
+with_unit o u = cond (passes o) (unless u.verdict (answered o u.unit)) (answered o no_unit)
 
 -- the operands' units enter the check by one test, whether they clash by the roots of the groups
-unfoldable pub binaryChecked : List ℕ → (ℕ → ℕ) → ℕ → CheckedExpr → CheckedExpr → Answered
-binaryChecked page root op left right =
-    withUnit (checkBinary page op (clashes root left.unit right.unit) left.checked right.checked)
-    (binaryUnit op left.unit right.unit)
+unfoldable pub binary_checked : List ℕ → (ℕ → ℕ) → ℕ → CheckedExpr → CheckedExpr → Answered
+binary_checked page root op left right =
+    with_unit (check_binary page op (clashes root left.unit right.unit) left.checked right.checked)
+    (binary_unit op left.unit right.unit)
 
-unfoldable pub binaryAnswer : List ℕ → List ℕ → Bool → List ℕ → ℕ → CheckedExpr → CheckedExpr → Answered
-binaryAnswer page names lent pairs op left right =
-    unless (binaryVerdict page names lent pairs op left right) (binaryChecked page (rootsIn pairs) op left right)
+unfoldable pub binary_answer : List ℕ → List ℕ → Bool → List ℕ → ℕ → CheckedExpr → CheckedExpr → Answered
+binary_answer page names lent pairs op left right =
+    unless (binary_verdict page names lent pairs op left right) (binary_checked page (roots_in pairs) op left right)
 
 -- ---- calls whose answer may enter a union into the store
 
 -- what a conclusion answers with a unit beside it: 6 and 10 for a union that cannot be entered
-abbrev pub concludedBy : Conclusion → MaybeUnit → Answered
-concludedBy (Conclusion.Is o) u = answered o u
-concludedBy (Conclusion.Refused r) u = refused r
+abbrev pub concluded_by : Conclusion → MaybeUnit → Answered
+concluded_by (Conclusion.Is o) u = answered o u
+concluded_by (Conclusion.Refused r) u = refused r
 
 -- of two stores, the one that a conclusion leaves: with a refusal the old one
-abbrev pub leftBy : Conclusion → List ℕ → List ℕ → List ℕ
-leftBy (Conclusion.Is o) new old = new
-leftBy (Conclusion.Refused r) new old = old
+abbrev pub left_by : Conclusion → List ℕ → List ℕ → List ℕ
+left_by (Conclusion.Is o) new old = new
+left_by (Conclusion.Refused r) new old = old
 
-abbrev pub storeAfter : Concluded → List ℕ → List ℕ
-storeAfter q page = leftBy q.conclusion q.store page
+abbrev pub store_after : Concluded → List ℕ → List ℕ
+store_after q page = left_by q.conclusion q.store page
 
 -- ---- `check_unary_operator`
 
 -- the operand is judged as if it were given twice
-abbrev pub unaryVerdict : List ℕ → List ℕ → Bool → ℕ → CheckedExpr → Verdict
-unaryVerdict page names lent op x =
+abbrev pub unary_verdict : List ℕ → List ℕ → Bool → ℕ → CheckedExpr → Verdict
+unary_verdict page names lent op x =
     lowest
-    ((Undefined when not (isOperator op))
-    ∷ (Broken when storeBroken page names lent)
-    ∷ operandConditions page (usedOf names lent) x x)
+    ((Undefined when not (is_operator op))
+    ∷ (Broken when store_broken page names lent)
+    ∷ operand_conditions page (used_of names lent) x x)
 
 -- − keeps its operand's unit where it passes, ! has none
-unfoldable pub unaryUnit : List ℕ → ℕ → Outcome → MaybeUnit → MaybeUnit
-unaryUnit store op o u =
-    cond (eqb op minus && passes o) (negationUnit (isUnion (kindOf store (numberOf o.checked))) u) noUnit
+unfoldable pub unary_unit : List ℕ → ℕ → Outcome → MaybeUnit → MaybeUnit
+unary_unit store op o u =
+    cond (eqb op minus && passes o) (negation_unit (is_union (kind_of store (number_of o.checked))) u) no_unit
 
 -- a conclusion, and its unit by the store that it leaves
-abbrev pub unaryConcluded : Conclusion → List ℕ → ℕ → MaybeUnit → Answered
-unaryConcluded (Conclusion.Is o) store op u = answered o (unaryUnit store op o u)
-unaryConcluded (Conclusion.Refused r) store op u = refused r
+abbrev pub unary_concluded : Conclusion → List ℕ → ℕ → MaybeUnit → Answered
+unary_concluded (Conclusion.Is o) store op u = answered o (unary_unit store op o u)
+unary_concluded (Conclusion.Refused r) store op u = refused r
 
-abbrev pub unaryChecked : Concluded → ℕ → MaybeUnit → Answered
-unaryChecked q op u = unaryConcluded q.conclusion q.store op u
+abbrev pub unary_checked : Concluded → ℕ → MaybeUnit → Answered
+unary_checked q op u = unary_concluded q.conclusion q.store op u
 
-unfoldable pub unaryAnswer : List ℕ → List ℕ → Bool → ℕ → CheckedExpr → Answered
-unaryAnswer page names lent op x =
-    unless (unaryVerdict page names lent op x) (unaryChecked (checkUnary page op x.checked) op x.unit)
+unfoldable pub unary_answer : List ℕ → List ℕ → Bool → ℕ → CheckedExpr → Answered
+unary_answer page names lent op x =
+    unless (unary_verdict page names lent op x) (unary_checked (check_unary page op x.checked) op x.unit)
 
-unfoldable pub unaryPage : List ℕ → List ℕ → Bool → ℕ → CheckedExpr → List ℕ
-unaryPage page names lent op x =
-    unlessRefused (unaryVerdict page names lent op x) (storeAfter (checkUnary page op x.checked) page) page
+unfoldable pub unary_page : List ℕ → List ℕ → Bool → ℕ → CheckedExpr → List ℕ
+unary_page page names lent op x =
+    unless_refused (unary_verdict page names lent op x) (store_after (check_unary page op x.checked) page) page
 
 -- ---- `check_index_target` and `check_index_any`
 
 -- a key has no unit
 abbrev pub keyed : Checked → CheckedExpr
-keyed key = record { checked = key; unit = noUnit }
+keyed key = record { checked = key; unit = no_unit }
 
-abbrev pub indexVerdict : List ℕ → List ℕ → Bool → CheckedExpr → Checked → Verdict
-indexVerdict page names lent target key =
-    lowest ((Broken when storeBroken page names lent) ∷ operandConditions page (usedOf names lent) target (keyed key))
+abbrev pub index_verdict : List ℕ → List ℕ → Bool → CheckedExpr → Checked → Verdict
+index_verdict page names lent target key =
+    lowest ((Broken when store_broken page names lent) ∷ operand_conditions page (used_of names lent) target (keyed key))
 
 -- "An index keeps its target's unit"
-unfoldable pub indexAnswer : List ℕ → List ℕ → Bool → CheckedExpr → Checked → Answered
-indexAnswer page names lent target key =
-    unless (indexVerdict page names lent target key) (concludedBy (checkIndex page key target.checked).conclusion target.unit)
+unfoldable pub index_answer : List ℕ → List ℕ → Bool → CheckedExpr → Checked → Answered
+index_answer page names lent target key =
+    unless (index_verdict page names lent target key) (concluded_by (check_index page key target.checked).conclusion target.unit)
 
-unfoldable pub indexPage : List ℕ → List ℕ → Bool → CheckedExpr → Checked → List ℕ
-indexPage page names lent target key =
-    unlessRefused (indexVerdict page names lent target key) (storeAfter (checkIndex page key target.checked) page) page
+unfoldable pub index_page : List ℕ → List ℕ → Bool → CheckedExpr → Checked → List ℕ
+index_page page names lent target key =
+    unless_refused (index_verdict page names lent target key) (store_after (check_index page key target.checked) page) page

@@ -1,24 +1,24 @@
 -- Units in answers (document 01, "Answers" and "Units and pairs"; `add_unit_mismatch` and `combine_units` of the source's binary.rs).
 use Rattle.std.specs.Prelude.{Bool, true, false, ◌&&◌, not, cond, [], ℕ, eqb}
 use Rattle.refusals.specs.declared.Verdict.TheVariants.{Passed}
-use Rattle.names.specs.Table.{namesMax}
-use Rattle.units.specs.Calls.{termsOf, unitOf, productAnswer, unitless}
+use Rattle.names.specs.Table.{names_max}
+use Rattle.units.specs.Calls.{terms_of, unit_of, product_answer, unitless}
 use Rattle.units.specs.declared.Unit.{Unit}
 use Rattle.units.specs.declared.MaybeUnit.{MaybeUnit}
 use Rattle.units.specs.declared.UnitResult.{UnitResult}
 use Rattle.sums.specs.Sums.{convertible}
-use Rattle.sums.specs.Calls.{orEmpty}
-use Rattle.operators.specs.Operators.{adopted, multiplied, divided, unitRule}
+use Rattle.sums.specs.Calls.{or_empty}
+use Rattle.operators.specs.Operators.{adopted, multiplied, divided, unit_rule}
 use Rattle.answers.specs.declared.MaybeResult.{MaybeResult}
 
 -- no unit
-abbrev pub noUnit : MaybeUnit
-noUnit = record { some = false; unit = unitOf [] }
+abbrev pub no_unit : MaybeUnit
+no_unit = record { some = false; unit = unit_of [] }
 
 -- the units of two operands clash: neither is unitless, and by the roots of the groups they are not convertible
 unfoldable pub clashes : (ℕ → ℕ) → MaybeUnit → MaybeUnit → Bool
 clashes root left right =
-    not (unitless left) && (not (unitless right) && not (convertible namesMax root (termsOf left.unit) (termsOf right.unit)))
+    not (unitless left) && (not (unitless right) && not (convertible names_max root (terms_of left.unit) (terms_of right.unit)))
 
 -- ---- the unit of a binary operator's answer, where its check passes
 
@@ -27,28 +27,28 @@ abbrev pub passed : MaybeUnit → MaybeResult
 passed m = record { verdict = Passed; unit = m }
 
 -- "Sums with one unitless side adopt the other's unit"; two unitless sides have none
-unfoldable pub adoptedBy : MaybeUnit → MaybeUnit → MaybeUnit
-adoptedBy left right = cond (unitless left) (cond (unitless right) noUnit right) left
+unfoldable pub adopted_by : MaybeUnit → MaybeUnit → MaybeUnit
+adopted_by left right = cond (unitless left) (cond (unitless right) no_unit right) left
 
 -- a product that has a symbol; one that cancels is no unit
-abbrev pub orNone : Unit → MaybeUnit
-orNone u = cond (eqb u.count 0) noUnit (record { some = true; unit = u })
+abbrev pub or_none : Unit → MaybeUnit
+or_none u = cond (eqb u.count 0) no_unit (record { some = true; unit = u })
 
 -- a product or quotient, no unit counting as empty, or its refusal: 8 and 9
-abbrev pub ofProduct : UnitResult → MaybeResult
-ofProduct u = record { verdict = u.verdict; unit = orNone u.unit }
+abbrev pub of_product : UnitResult → MaybeResult
+of_product u = record { verdict = u.verdict; unit = or_none u.unit }
 
 unfoldable pub combined : Bool → MaybeUnit → MaybeUnit → MaybeResult
-combined quotient left right = ofProduct (productAnswer quotient (orEmpty left) (orEmpty right))
+combined quotient left right = of_product (product_answer quotient (or_empty left) (or_empty right))
 
 -- by the operator's unit rule; a comparison has no unit
-unfoldable pub binaryUnit : ℕ → MaybeUnit → MaybeUnit → MaybeResult
-binaryUnit op left right =
-    cond (eqb (unitRule op) adopted) (passed (adoptedBy left right))
-    (cond (eqb (unitRule op) multiplied) (combined false left right)
-    (cond (eqb (unitRule op) divided) (combined true left right) (passed noUnit)))
+unfoldable pub binary_unit : ℕ → MaybeUnit → MaybeUnit → MaybeResult
+binary_unit op left right =
+    cond (eqb (unit_rule op) adopted) (passed (adopted_by left right))
+    (cond (eqb (unit_rule op) multiplied) (combined false left right)
+    (cond (eqb (unit_rule op) divided) (combined true left right) (passed no_unit)))
 
 -- ---- the unit of a negation's answer: "Unary − on Any(Int, Float) with mm: that union, no unit"; any other type keeps its operand's
 
-unfoldable pub negationUnit : Bool → MaybeUnit → MaybeUnit
-negationUnit union unit = cond union noUnit unit
+unfoldable pub negation_unit : Bool → MaybeUnit → MaybeUnit
+negation_unit union unit = cond union no_unit unit

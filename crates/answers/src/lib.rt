@@ -4,21 +4,21 @@
 
 ghost use Rattle.std.specs.Prelude.{◌≡◌, true, false, ◌≤◌, ◌<◌, length};
 ghost use Rattle.refusals.specs.Lowest.{lowest};
-ghost use Rattle.pages.specs.Bytes.{countBytes};
-ghost use Rattle.types.specs.Types.{typesIn, Held, Measured};
-ghost use Rattle.types.specs.Making.{takenBack};
-ghost use Rattle.matching.specs.Matching.{inUse};
+ghost use Rattle.pages.specs.Bytes.{count_bytes};
+ghost use Rattle.types.specs.Types.{types_in, Held, Measured};
+ghost use Rattle.types.specs.Making.{taken_back};
+ghost use Rattle.matching.specs.Matching.{in_use};
 ghost use Rattle.marks.specs.Marks.{Noted};
 ghost use Rattle.matching.specs.Memo.{Found};
 ghost use Rattle.units.specs.Calls.{unitless};
 ghost use Rattle.groups.specs.Groups.{walk};
-ghost use Rattle.operators.specs.Operators.{isOperator};
-ghost use Rattle.operators.specs.Outcome.{numberOf};
+ghost use Rattle.operators.specs.Operators.{is_operator};
+ghost use Rattle.operators.specs.Outcome.{number_of};
 ghost use Rattle.members.specs.Leaves.{Leaves};
-ghost use Rattle.unary.specs.Unary.{checkUnary};
-ghost use Rattle.indexing.specs.Indexing.{checkIndex};
-ghost use Rattle.answers.specs.Units.{noUnit, clashes, adoptedBy, orNone, combined, binaryUnit};
-ghost use Rattle.answers.specs.Calls.{operandUsed, operandFormed, operandConditions, refused, answered, withUnit, concludedBy, storeAfter, unaryUnit, unaryChecked, binaryChecked, binaryAnswer, unaryAnswer, unaryPage, indexAnswer, indexPage};
+ghost use Rattle.unary.specs.Unary.{check_unary};
+ghost use Rattle.indexing.specs.Indexing.{check_index};
+ghost use Rattle.answers.specs.Units.{no_unit, clashes, adopted_by, or_none, combined, binary_unit};
+ghost use Rattle.answers.specs.Calls.{operand_used, operand_formed, operand_conditions, refused, answered, with_unit, concluded_by, store_after, unary_unit, unary_checked, binary_checked, binary_answer, unary_answer, unary_page, index_answer, index_page};
 
 use marks::SMALL;
 use matching::Checked;
@@ -55,7 +55,7 @@ pub struct Answered {
 
 // No unit.
 fn no_unit() -> MaybeUnit
-    ensures { result ≡ noUnit }
+    ensures { result ≡ no_unit }
 {
     MaybeUnit {
         some: false,
@@ -107,7 +107,7 @@ fn add_unit_mismatch(
     left: CheckedExpr,
     right: CheckedExpr,
 ) -> bool
-    requires { (operandFormed left ≡ true) × (operandFormed right ≡ true) }
+    requires { (operand_formed left ≡ true) × (operand_formed right ≡ true) }
     ensures { result ≡ clashes (walk steps parents.now) left.unit right.unit }
 {
     if is_dimensionless(left.unit) {
@@ -123,7 +123,7 @@ fn add_unit_mismatch(
 
 // The unit of a sum: a unitless side adopts the other's.
 fn adopt(left: MaybeUnit, right: MaybeUnit) -> MaybeUnit
-    ensures { result ≡ adoptedBy left right }
+    ensures { result ≡ adopted_by left right }
 {
     if !is_dimensionless(left) {
         return left;
@@ -136,7 +136,7 @@ fn adopt(left: MaybeUnit, right: MaybeUnit) -> MaybeUnit
 
 // A unit that has a symbol, else none.
 fn or_none(u: Unit) -> MaybeUnit
-    ensures { result ≡ orNone u }
+    ensures { result ≡ or_none u }
 {
     if u.count == 0 {
         return no_unit();
@@ -162,8 +162,8 @@ fn combine_units(quotient: bool, left: MaybeUnit, right: MaybeUnit) -> MaybeResu
 
 // The unit of a binary operator's answer, where its check passes.
 fn binary_unit(op: usize, left: MaybeUnit, right: MaybeUnit) -> MaybeResult
-    requires { isOperator op ≡ true }
-    ensures { result ≡ binaryUnit op left right }
+    requires { is_operator op ≡ true }
+    ensures { result ≡ binary_unit op left right }
 {
     let row = operators::row_of(op);
     if row.unit == MULTIPLIED {
@@ -184,7 +184,7 @@ fn binary_unit(op: usize, left: MaybeUnit, right: MaybeUnit) -> MaybeResult
 
 // What a binary operator answers.
 fn with_unit(o: Outcome, u: MaybeResult) -> Answered
-    ensures { result ≡ withUnit o u }
+    ensures { result ≡ with_unit o u }
 {
     if !operators::does_pass(o) {
         return answer(o, no_unit());
@@ -199,7 +199,7 @@ fn with_unit(o: Outcome, u: MaybeResult) -> Answered
 // Whether an operand's type and its unit's symbols, of n numbers, are in use.
 fn is_used(page: &[u8], offsets: &[usize], n: usize, x: CheckedExpr) -> bool
     requires { Held page.now offsets.now }
-    ensures { result ≡ operandUsed page.now n x }
+    ensures { result ≡ operand_used page.now n x }
 {
     let c = x.checked;
     if !checked::is_used(page, offsets, c) {
@@ -210,7 +210,7 @@ fn is_used(page: &[u8], offsets: &[usize], n: usize, x: CheckedExpr) -> bool
 
 // Whether an operand's unit is in form.
 fn is_formed(x: CheckedExpr) -> bool
-    ensures { result ≡ operandFormed x }
+    ensures { result ≡ operand_formed x }
 {
     units::is_formed(sums::or_empty(x.unit))
 }
@@ -224,7 +224,7 @@ fn operands_verdict(
     right: CheckedExpr,
 ) -> Verdict
     requires { Held page.now offsets.now }
-    ensures { result ≡ lowest (operandConditions page.now n left right) }
+    ensures { result ≡ lowest (operand_conditions page.now n left right) }
 {
     if !is_used(page, offsets, n, left) {
         return Verdict::Refused(Refusal::Unused);
@@ -254,10 +254,10 @@ pub fn binary_checked(
     right: CheckedExpr,
 ) -> Answered
     requires held { Held page.now offsets.now }
-    requires leaves { Leaves false page.now leaves.now (typesIn page.now) }
-    requires op_value { (isOperator op ≡ true) × (inUse page.now left.checked ≡ true) × (inUse page.now right.checked ≡ true) }
-    requires left_value { (operandFormed left ≡ true) × (operandFormed right ≡ true) }
-    ensures { result ≡ binaryChecked page.now (walk steps parents.now) op left right }
+    requires leaves { Leaves false page.now leaves.now (types_in page.now) }
+    requires op_value { (is_operator op ≡ true) × (in_use page.now left.checked ≡ true) × (in_use page.now right.checked ≡ true) }
+    requires left_value { (operand_formed left ≡ true) × (operand_formed right ≡ true) }
+    ensures { result ≡ binary_checked page.now (walk steps parents.now) op left right }
 {
     let clash = add_unit_mismatch(parents, steps, left, right);
     let l = left.checked;
@@ -276,7 +276,7 @@ pub fn check_binary_operator(
     left: CheckedExpr,
     right: CheckedExpr,
 ) -> Answered
-    ensures { result ≡ binaryAnswer page.now names.now lent table.now op left right }
+    ensures { result ≡ binary_answer page.now names.now lent table.now op left right }
 {
     if !operators::is_operator(op) {
         return refuse(Refusal::Undefined);
@@ -310,8 +310,8 @@ fn unary_unit(
     unit: MaybeUnit,
 ) -> MaybeUnit
     requires held { Held page.now offsets.now }
-    requires checked_bound { numberOf outcome.checked < typesIn page.now }
-    ensures { result ≡ unaryUnit page.now op outcome unit }
+    requires checked_bound { number_of outcome.checked < types_in page.now }
+    ensures { result ≡ unary_unit page.now op outcome unit }
 {
     if op != MINUS {
         return no_unit();
@@ -337,10 +337,10 @@ fn unary_answer(
     unit: MaybeUnit,
 ) -> Answered
     requires held { Held page.now offsets.now }
-    requires n_bound { (n ≤ typesIn page.now) × Leaves true page.now leaves.old n }
-    requires checked_bound { numberOf outcome.checked < typesIn page.now }
-    ensures value { result ≡ answered outcome (unaryUnit page.now op outcome unit) }
-    ensures leaves { Leaves true page.now leaves.new (typesIn page.now) }
+    requires n_bound { (n ≤ types_in page.now) × Leaves true page.now leaves.old n }
+    requires checked_bound { number_of outcome.checked < types_in page.now }
+    ensures value { result ≡ answered outcome (unary_unit page.now op outcome unit) }
+    ensures leaves { Leaves true page.now leaves.new (types_in page.now) }
 {
     members::fill_leaves(page, offsets, leaves, true, n);
     answer(outcome, unary_unit(page, offsets, op, outcome, unit))
@@ -348,8 +348,8 @@ fn unary_answer(
 
 // Puts the store back where it was before a union that is refused, and refuses.
 fn put_back(page: &mut [u8], front: Word, end: usize, refusal: Refusal) -> Answered
-    requires { (countBytes ≤ end) × (end ≤ length page.old) }
-    ensures { (result ≡ refused refusal) × (page.new ≡ takenBack page.old front end) }
+    requires { (count_bytes ≤ end) × (end ≤ length page.old) }
+    ensures { (result ≡ refused refusal) × (page.new ≡ taken_back page.old front end) }
 {
     types::take_back(page, front, end);
     refuse(refusal)
@@ -366,12 +366,12 @@ pub fn unary_checked(
     x: CheckedExpr,
 ) -> Answered
     requires measured { Measured page.old offsets.old depths.old }
-    requires leaves { Leaves true page.old leaves.old (typesIn page.old) }
-    requires op_value { (isOperator op ≡ true) × (inUse page.old x.checked ≡ true) }
-    ensures value { result ≡ unaryChecked (checkUnary page.old op x.checked) op x.unit }
-    ensures page_after { page.new ≡ storeAfter (checkUnary page.old op x.checked) page.old }
+    requires leaves { Leaves true page.old leaves.old (types_in page.old) }
+    requires op_value { (is_operator op ≡ true) × (in_use page.old x.checked ≡ true) }
+    ensures value { result ≡ unary_checked (check_unary page.old op x.checked) op x.unit }
+    ensures page_after { page.new ≡ store_after (check_unary page.old op x.checked) page.old }
     ensures measured_2 { Measured page.new offsets.new depths.new }
-    ensures leaves_2 { Leaves true page.new leaves.new (typesIn page.new) }
+    ensures leaves_2 { Leaves true page.new leaves.new (types_in page.new) }
 {
     let front = types::front(page);
     let n = types::count(page);
@@ -392,7 +392,7 @@ pub fn check_unary_operator(
     op: usize,
     x: CheckedExpr,
 ) -> Answered
-    ensures { (result ≡ unaryAnswer page.old names.now lent op x) × (page.new ≡ unaryPage page.old names.now lent op x) }
+    ensures { (result ≡ unary_answer page.old names.now lent op x) × (page.new ≡ unary_page page.old names.now lent op x) }
 {
     if !operators::is_operator(op) {
         return refuse(Refusal::Undefined);
@@ -423,10 +423,10 @@ pub fn index_checked(
     key: Checked,
 ) -> Answered
     requires measured { Measured page.old offsets.old depths.old }
-    requires checked_value { (inUse page.old target.checked ≡ true) × (inUse page.old key ≡ true) }
+    requires checked_value { (in_use page.old target.checked ≡ true) × (in_use page.old key ≡ true) }
     requires noted { Noted (Found page.old) memo.old }
-    ensures value { result ≡ concludedBy (checkIndex page.old key target.checked).conclusion target.unit }
-    ensures page_after { page.new ≡ storeAfter (checkIndex page.old key target.checked) page.old }
+    ensures value { result ≡ concluded_by (check_index page.old key target.checked).conclusion target.unit }
+    ensures page_after { page.new ≡ store_after (check_index page.old key target.checked) page.old }
     ensures measured_2 { Measured page.new offsets.new depths.new }
     ensures noted_2 { Noted (Found page.new) memo.new }
 {
@@ -447,9 +447,9 @@ fn index_in_large(
     key: Checked,
 ) -> Answered
     requires measured { Measured page.old offsets.old depths.old }
-    requires checked_value { (inUse page.old target.checked ≡ true) × (inUse page.old key ≡ true) }
-    ensures value { result ≡ concludedBy (checkIndex page.old key target.checked).conclusion target.unit }
-    ensures page_after { page.new ≡ storeAfter (checkIndex page.old key target.checked) page.old }
+    requires checked_value { (in_use page.old target.checked ≡ true) × (in_use page.old key ≡ true) }
+    ensures value { result ≡ concluded_by (check_index page.old key target.checked).conclusion target.unit }
+    ensures page_after { page.new ≡ store_after (check_index page.old key target.checked) page.old }
 {
     let mut large = matching::large_memo();
     index_checked(page, offsets, depths, &mut large, target, key)
@@ -466,10 +466,10 @@ fn index_in(
     key: Checked,
 ) -> Answered
     requires measured { Measured page.old offsets.old depths.old }
-    requires checked_value { (inUse page.old target.checked ≡ true) × (inUse page.old key ≡ true) }
+    requires checked_value { (in_use page.old target.checked ≡ true) × (in_use page.old key ≡ true) }
     requires noted { Noted (Found page.old) memo.old }
-    ensures value { result ≡ concludedBy (checkIndex page.old key target.checked).conclusion target.unit }
-    ensures page_after { page.new ≡ storeAfter (checkIndex page.old key target.checked) page.old }
+    ensures value { result ≡ concluded_by (check_index page.old key target.checked).conclusion target.unit }
+    ensures page_after { page.new ≡ store_after (check_index page.old key target.checked) page.old }
 {
     let c = target.checked;
     if matching::fits(marks::room(memo), c, key) {
@@ -490,7 +490,7 @@ pub fn check_index(
     target: CheckedExpr,
     key: Checked,
 ) -> Answered
-    ensures { (result ≡ indexAnswer page.old names.now lent target key) × (page.new ≡ indexPage page.old names.now lent target key) }
+    ensures { (result ≡ index_answer page.old names.now lent target key) × (page.new ≡ index_page page.old names.now lent target key) }
 {
     let mut offsets = no_offsets();
     let mut depths = no_depths();

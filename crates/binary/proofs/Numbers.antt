@@ -1,5 +1,5 @@
 -- A binary check that passes and answers a number is one of + − × /, whose unit rules are adopted, multiplied and divided
--- (`number-rule`); comparisons and logic answer Bool. Assumes nothing.
+-- (`number_rule`); comparisons and logic answer Bool. Assumes nothing.
 use mathlib.Core.Path.{◌≡◌, refl, ap, sym, ◌∙◌}
 use mathlib.Core.Bool.{Bool, true, false, cond}
 use mathlib.Core.Logic.{◌⊎◌, inl, inr}
@@ -9,32 +9,32 @@ use native.Mathlib.Omega.{arith}
 use borrow.Author.Tests.{eqb-true, eqb-false, leb-true, le-leb}
 use lib.Dec.{eqb, leb}
 use Rattle.pages.specs.Bytes.{within}
-use Rattle.pages.proofs.Quant.{and-true}
+use Rattle.pages.proofs.Quant.{and_true}
 use Rattle.types.specs.Store.{Formed}
-use Rattle.types.specs.Types.{typesIn}
-use Rattle.matching.specs.Matching.{inUse}
+use Rattle.types.specs.Types.{types_in}
+use Rattle.matching.specs.Matching.{in_use}
 use Rattle.matching.specs.declared.Checked.{Checked}
 use Rattle.matching.specs.declared.Checked.TheVariants.{Known}
-use Rattle.matching.proofs.Matching.{known-in-use}
-use Rattle.operators.specs.Operators.{adopted, multiplied, divided, unitRule, nothing, operands, truth, resultRule, isNumber, gives}
-use Rattle.operators.specs.Outcome.{numberOf, passes}
+use Rattle.matching.proofs.Matching.{known_in_use}
+use Rattle.operators.specs.Operators.{adopted, multiplied, divided, unit_rule, nothing, operands, truth, result_rule, is_number, gives}
+use Rattle.operators.specs.Outcome.{number_of, passes}
 use Rattle.operators.specs.declared.Outcome.{Outcome}
-use Rattle.binary.specs.Binary.{binaryKnown, checkBinary}
+use Rattle.binary.specs.Binary.{binary_known, check_binary}
 use Rattle.binary.proofs.Rule.{never}
 use Rattle.binary.proofs.Families.{standing}
-use Rattle.binary.proofs.Settled.{answer-known}
-use Rattle.binary.proofs.Operands.{both-known}
+use Rattle.binary.proofs.Settled.{answer_known}
+use Rattle.binary.proofs.Operands.{both_known}
 
 -- the unit rule of + − × or /: adopted, multiplied or divided
 abbrev pub IsArithmetic : ℕ → Type 0
-IsArithmetic op = (unitRule op ≡ adopted) ⊎ ((unitRule op ≡ multiplied) ⊎ (unitRule op ≡ divided))
+IsArithmetic op = (unit_rule op ≡ adopted) ⊎ ((unit_rule op ≡ multiplied) ⊎ (unit_rule op ≡ divided))
 
 module _ (op : ℕ) where
   -- the operators that answer their operands' family are + − × /
-  operands-arithmetic : eqb (resultRule op) operands ≡ true → IsArithmetic op
-  unfolding resultRule unitRule
-  operands-arithmetic h =
-      let p = and-true (leb 1 op) (leb op 4) (low (within 1 4 op) refl) in
+  operands_arithmetic : eqb (result_rule op) operands ≡ true → IsArithmetic op
+  unfolding result_rule unit_rule
+  operands_arithmetic h =
+      let p = and_true (leb 1 op) (leb op 4) (low (within 1 4 op) refl) in
       go (eqb op 3) refl (eqb op 4) refl p.0 (leb-true op 4 p.1)
     where
       rest : (b : Bool) → eqb (cond b truth nothing) operands ≡ false
@@ -51,24 +51,24 @@ module _ (op : ℕ) where
       go false e false d l m = inl (rw (l, le-leb op 2 (omega (arith, eqb-false op 3 e, eqb-false op 4 d))) refl)
 
 module _ (page : List ℕ) (form : Formed page) (op : ℕ) (clash : Bool) where
-  known-number : (l r : ℕ) → l < typesIn page → r < typesIn page → passes (binaryKnown page op clash l r) ≡ true
-      → (t : ℕ) → (binaryKnown page op clash l r).checked ≡ Known t → isNumber t ≡ true → IsArithmetic op
+  known_number : (l r : ℕ) → l < types_in page → r < types_in page → passes (binary_known page op clash l r) ≡ true
+      → (t : ℕ) → (binary_known page op clash l r).checked ≡ Known t → is_number t ≡ true → IsArithmetic op
   unfolding gives
-  known-number l r u v h t e n = go (eqb (resultRule op) operands) refl
+  known_number l r u v h t e n = go (eqb (result_rule op) operands) refl
     where
       given : gives op (standing page l) ≡ t
-      given = ap numberOf (sym (ap (λ (o : Outcome). o.checked) (answer-known page form op clash l r u v h)) ∙ e)
+      given = ap number_of (sym (ap (λ (o : Outcome). o.checked) (answer_known page form op clash l r u v h)) ∙ e)
 
-      go : (b : Bool) → eqb (resultRule op) operands ≡ b → IsArithmetic op
-      go true d = operands-arithmetic op d
+      go : (b : Bool) → eqb (result_rule op) operands ≡ b → IsArithmetic op
+      go true d = operands_arithmetic op d
       go false d = absurd (never (sym (rw (← given, d) at n)))
 
   -- a check that passes and answers a number is by an operator whose unit rule is adopted, multiplied or divided
-  pub number-rule : (x y : Checked) → inUse page x ≡ true → inUse page y ≡ true → passes (checkBinary page op clash x y) ≡ true
-      → (t : ℕ) → (checkBinary page op clash x y).checked ≡ Known t → isNumber t ≡ true → IsArithmetic op
-  unfolding checkBinary
-  number-rule x y u v h t e n = let k = both-known page op clash x y h in go k.0 k.1 k.2 k.3
+  pub number_rule : (x y : Checked) → in_use page x ≡ true → in_use page y ≡ true → passes (check_binary page op clash x y) ≡ true
+      → (t : ℕ) → (check_binary page op clash x y).checked ≡ Known t → is_number t ≡ true → IsArithmetic op
+  unfolding check_binary
+  number_rule x y u v h t e n = let k = both_known page op clash x y h in go k.0 k.1 k.2 k.3
     where
       go : (l r : ℕ) → x ≡ Known l → y ≡ Known r → IsArithmetic op
       go l r d c =
-          known-number l r (known-in-use page l (rw d at u)) (known-in-use page r (rw c at v)) (rw (d, c) at h) t (rw (d, c) at e) n
+          known_number l r (known_in_use page l (rw d at u)) (known_in_use page r (rw c at v)) (rw (d, c) at h) t (rw (d, c) at e) n

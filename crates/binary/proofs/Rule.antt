@@ -5,10 +5,10 @@ use Prim.Native.Nat.{ℕ}
 use native.Mathlib.Omega.{arith}
 use borrow.Author.Tests.{eqb-true}
 use lib.Dec.{eqb}
-use Rattle.pages.proofs.Quant.{and-true}
+use Rattle.pages.proofs.Quant.{and_true}
 use Rattle.matching.specs.declared.Checked.TheVariants.{Known}
-use Rattle.operators.specs.Operators.{notBinary, equality, logic, classOf, bool, noFamily, takes, looks, gives, suits, fits}
-use Rattle.operators.specs.Outcome.{leftNotBool, rightNotBool, noError, oneError, twoErrors, outcome, passes, notBools, misfit, plainBinary}
+use Rattle.operators.specs.Operators.{not_binary, equality, logic, class_of, bool, no_family, takes, looks, gives, suits, fits}
+use Rattle.operators.specs.Outcome.{left_not_bool, right_not_bool, no_error, one_error, two_errors, outcome, passes, not_bools, misfit, plain_binary}
 use Rattle.operators.specs.declared.Outcome.{Outcome}
 use Rattle.members.specs.Trials.{Tried, joined}
 
@@ -17,43 +17,43 @@ never e = let z : ◌≡◌ {A = ℕ} 0 1 = cc in omega arith
 
 -- o is, as far as trials look, what an operator answers for operands of families f and g
 pub record Says (op : ℕ) (clash : Bool) (f g : ℕ) (o : Outcome) : Type 0 where
-  pub passing : fits op clash f g ≡ true → o ≡ outcome (Known (gives op f)) noError
+  pub passing : fits op clash f g ≡ true → o ≡ outcome (Known (gives op f)) no_error
   pub failing : fits op clash f g ≡ false → passes o ≡ false
 
 module _ {op : ℕ} {clash : Bool} {f g : ℕ} {o : Outcome} (s : Says op clash f g o) where
-  pub says-passes : passes o ≡ fits op clash f g
+  pub says_passes : passes o ≡ fits op clash f g
   unfolding passes
-  says-passes = go (fits op clash f g) refl
+  says_passes = go (fits op clash f g) refl
     where
       go : (b : Bool) → fits op clash f g ≡ b → passes o ≡ fits op clash f g
       go true e = rw (s.passing e, e) refl
       go false e = s.failing e ∙ sym e
 
   -- a trial makes no difference between two outcomes of which so much is known
-  pub says-joined : {p : Outcome} → Says op clash f g p → (x y : ℕ) (q : Tried) → joined x y o q ≡ joined x y p q
+  pub says_joined : {p : Outcome} → Says op clash f g p → (x y : ℕ) (q : Tried) → joined x y o q ≡ joined x y p q
   unfolding joined
-  says-joined {p} t x y q = go (fits op clash f g) refl
+  says_joined {p} t x y q = go (fits op clash f g) refl
     where
       go : (b : Bool) → fits op clash f g ≡ b → joined x y o q ≡ joined x y p q
       go true e = rw (s.passing e, t.passing e) refl
       go false e = rw (s.failing e, t.failing e) refl
 
 -- a choice of two that fail fails
-either-fails : (b : Bool) (o p : Outcome) → passes o ≡ false → passes p ≡ false → passes (cond b o p) ≡ false
-either-fails true o p h k = h
-either-fails false o p h k = k
+either_fails : (b : Bool) (o p : Outcome) → passes o ≡ false → passes p ≡ false → passes (cond b o p) ≡ false
+either_fails true o p h k = h
+either_fails false o p h k = k
 
-bools-fail : (a b : Bool) → let errors = cond a (oneError rightNotBool) (cond b (oneError leftNotBool) (twoErrors leftNotBool rightNotBool)) in
+bools_fail : (a b : Bool) → let errors = cond a (one_error right_not_bool) (cond b (one_error left_not_bool) (two_errors left_not_bool right_not_bool)) in
     passes (outcome (Known bool) errors) ≡ false
 unfolding passes
-bools-fail true b = refl
-bools-fail false true = refl
-bools-fail false false = refl
+bools_fail true b = refl
+bools_fail false true = refl
+bools_fail false false = refl
 
 -- no family is taken by no operator
-takes-none : (op : ℕ) → takes op noFamily ≡ false
+takes_none : (op : ℕ) → takes op no_family ≡ false
 unfolding takes
-takes-none op = go (eqb (classOf op) logic) (eqb (classOf op) equality) (not (eqb (classOf op) notBinary))
+takes_none op = go (eqb (class_of op) logic) (eqb (class_of op) equality) (not (eqb (class_of op) not_binary))
   where
     go : (a b c : Bool) → cond a false (cond b false (c && false)) ≡ false
     go true b c = refl
@@ -62,28 +62,28 @@ takes-none op = go (eqb (classOf op) logic) (eqb (classOf op) equality) (not (eq
     go false false false = refl
 
 module _ (op : ℕ) (clash : Bool) (f g : ℕ) where
-  misfit-fails : passes (misfit op f g) ≡ false
-  unfolding misfit passes notBools
-  misfit-fails =
-      either-fails (eqb (classOf op) notBinary) _ _ refl
-      (either-fails (eqb (classOf op) logic) _ _ (bools-fail (eqb f bool) (eqb g bool))
-      (either-fails (suits op f g) _ _ refl (either-fails (eqb (classOf op) equality) _ _ refl refl)))
+  misfit_fails : passes (misfit op f g) ≡ false
+  unfolding misfit passes not_bools
+  misfit_fails =
+      either_fails (eqb (class_of op) not_binary) _ _ refl
+      (either_fails (eqb (class_of op) logic) _ _ (bools_fail (eqb f bool) (eqb g bool))
+      (either_fails (suits op f g) _ _ refl (either_fails (eqb (class_of op) equality) _ _ refl refl)))
 
-  pub plain-says : Says op clash f g (plainBinary op clash f g)
-  unfolding plainBinary
-  plain-says = record { passing = λ h. rw h refl; failing = λ h. rw h misfit-fails }
+  pub plain_says : Says op clash f g (plain_binary op clash f g)
+  unfolding plain_binary
+  plain_says = record { passing = λ h. rw h refl; failing = λ h. rw h misfit_fails }
 
   module _ (h : fits op clash f g ≡ true) where
     suited : (eqb f g ≡ true) × (takes op f ≡ true)
     unfolding fits suits
-    suited = and-true (eqb f g) (takes op f) (and-true (suits op f g) (not (clash && looks op f)) h).0
+    suited = and_true (eqb f g) (takes op f) (and_true (suits op f g) (not (clash && looks op f)) h).0
 
     -- operands that fit are of one family
-    pub fits-same : f ≡ g
-    fits-same = eqb-true f g suited.0
+    pub fits_same : f ≡ g
+    fits_same = eqb-true f g suited.0
 
-    pub fits-some : f ≡ noFamily → ⊥
-    fits-some e = never (sym suited.1 ∙ rw e (takes-none op))
+    pub fits_some : f ≡ no_family → ⊥
+    fits_some e = never (sym suited.1 ∙ rw e (takes_none op))
 
-    pub fits-takes : takes op f ≡ true
-    fits-takes = suited.1
+    pub fits_takes : takes op f ≡ true
+    fits_takes = suited.1

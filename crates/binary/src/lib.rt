@@ -2,16 +2,16 @@
 #![tactic(auto)]
 
 ghost use Rattle.std.specs.Prelude.{◌≡◌, true, false, [], ◌*◌, ◌+◌, ◌≤◌, ◌<◌};
-ghost use Rattle.types.specs.Types.{typesIn, Held};
-ghost use Rattle.matching.specs.Matching.{inUse};
-ghost use Rattle.operators.specs.Operators.{isOperator};
-ghost use Rattle.operators.specs.Outcome.{numberOf};
-ghost use Rattle.types.specs.Store.{typesMax};
-ghost use Rattle.members.specs.Members.{membersMax};
-ghost use Rattle.members.specs.Trials.{noFailure, Tried, tried, joined};
+ghost use Rattle.types.specs.Types.{types_in, Held};
+ghost use Rattle.matching.specs.Matching.{in_use};
+ghost use Rattle.operators.specs.Operators.{is_operator};
+ghost use Rattle.operators.specs.Outcome.{number_of};
+ghost use Rattle.types.specs.Store.{types_max};
+ghost use Rattle.members.specs.Members.{members_max};
+ghost use Rattle.members.specs.Trials.{no_failure, Tried, tried, joined};
 ghost use Rattle.members.specs.Leaves.{Leaves};
-ghost use Rattle.binary.specs.Binary.{familyIn, either, binaryKnown, binaryAny, besideFunction, checkBinary};
-ghost use Rattle.binary.specs.Tally.{tallyOf, settleTally};
+ghost use Rattle.binary.specs.Binary.{family_in, either, binary_known, binary_any, beside_function, check_binary};
+ghost use Rattle.binary.specs.Tally.{tally_of, settle_tally};
 
 use kinds::Kind;
 use matching::Checked;
@@ -30,7 +30,7 @@ struct Tally {
 
 // No trial yet.
 fn no_trial() -> Tally
-    ensures { result ≡ tallyOf (tried [] noFailure) }
+    ensures { result ≡ tally_of (tried [] no_failure) }
 {
     Tally {
         seen: 0,
@@ -42,8 +42,8 @@ fn no_trial() -> Tally
 
 // One more trial, of the members x and y.
 fn join(tally: Tally, o: Outcome, x: usize, y: usize) -> Tally
-    requires { (tally.failing < membersMax * membersMax) × (numberOf o.checked < typesMax) }
-    ensures { ((q : Tried) → tally ≡ tallyOf q → result ≡ tallyOf (joined x y o q)) × (result.failing ≤ tally.failing + 1) }
+    requires { (tally.failing < members_max * members_max) × (number_of o.checked < types_max) }
+    ensures { ((q : Tried) → tally ≡ tally_of q → result ≡ tally_of (joined x y o q)) × (result.failing ≤ tally.failing + 1) }
 {
     if !operators::does_pass(o) {
         if tally.failing == 0 {
@@ -75,7 +75,7 @@ fn join(tally: Tally, o: Outcome, x: usize, y: usize) -> Tally
 
 // What the trials come to.
 fn settle(tally: Tally) -> Outcome
-    ensures { result ≡ settleTally tally }
+    ensures { result ≡ settle_tally tally }
 {
     if tally.failing != 0 {
         return operators::unknown(operators::some_fail(tally.failing, tally.left, tally.right));
@@ -89,8 +89,8 @@ fn settle(tally: Tally) -> Outcome
 // The family of a type.
 fn family_in(page: &[u8], offsets: &[usize], t: usize) -> Kind
     requires held { Held page.now offsets.now }
-    requires t_bound { t < typesIn page.now }
-    ensures { result ≡ familyIn page.now t }
+    requires t_bound { t < types_in page.now }
+    ensures { result ≡ family_in page.now t }
 {
     operators::family_of(kind_of(page, offsets, t))
 }
@@ -98,7 +98,7 @@ fn family_in(page: &[u8], offsets: &[usize], t: usize) -> Kind
 // Whether one of two types is a union.
 fn is_either(page: &[u8], offsets: &[usize], l: usize, r: usize) -> bool
     requires held { Held page.now offsets.now }
-    requires l_bound { (l < typesIn page.now) × (r < typesIn page.now) }
+    requires l_bound { (l < types_in page.now) × (r < types_in page.now) }
     ensures { result ≡ either page.now l r }
 {
     kinds::is_union(kind_of(page, offsets, l)) | kinds::is_union(kind_of(page, offsets, r))
@@ -116,9 +116,9 @@ pub fn check_binary_operator(
     r: usize,
 ) -> Outcome
     requires held { Held page.now offsets.now }
-    requires leaves { Leaves false page.now leaves.now (typesIn page.now) }
-    requires op_value { (isOperator op ≡ true) × (l < typesIn page.now) × (r < typesIn page.now) }
-    ensures { (result ≡ binaryKnown page.now op clash l r) × (numberOf result.checked < 256) }
+    requires leaves { Leaves false page.now leaves.now (types_in page.now) }
+    requires op_value { (is_operator op ≡ true) × (l < types_in page.now) × (r < types_in page.now) }
+    ensures { (result ≡ binary_known page.now op clash l r) × (number_of result.checked < 256) }
 {
     if is_either(page, offsets, l, r) {
         return check_binary_any(page, offsets, leaves, op, clash, l, r);
@@ -143,10 +143,10 @@ pub fn check_binary_any(
     r: usize,
 ) -> Outcome
     requires held { Held page.now offsets.now }
-    requires leaves { Leaves false page.now leaves.now (typesIn page.now) }
-    requires op_value { (isOperator op ≡ true) × (l < typesIn page.now) × (r < typesIn page.now) }
+    requires leaves { Leaves false page.now leaves.now (types_in page.now) }
+    requires op_value { (is_operator op ≡ true) × (l < types_in page.now) × (r < types_in page.now) }
     requires r_value { either page.now l r ≡ true }
-    ensures { (result ≡ binaryAny page.now op clash l r) × (numberOf result.checked < 256) }
+    ensures { (result ≡ binary_any page.now op clash l r) × (number_of result.checked < 256) }
 {
     let mut lefts = no_members();
     let mut rights = no_members();
@@ -173,8 +173,8 @@ pub fn check_binary_any(
 // A Function beside a type: a union's members have no partner.
 fn beside_function(page: &[u8], offsets: &[usize], t: usize, plain: Outcome) -> Outcome
     requires held { Held page.now offsets.now }
-    requires t_bound { t < typesIn page.now }
-    ensures { result ≡ besideFunction page.now t plain }
+    requires t_bound { t < types_in page.now }
+    ensures { result ≡ beside_function page.now t plain }
 {
     if kinds::is_union(kind_of(page, offsets, t)) {
         return operators::unknown(operators::one_error(NO_MEMBER));
@@ -193,9 +193,9 @@ fn check_known(
     right: Checked,
 ) -> Outcome
     requires held { Held page.now offsets.now }
-    requires leaves { Leaves false page.now leaves.now (typesIn page.now) }
-    requires op_value { (isOperator op ≡ true) × (l < typesIn page.now) × (inUse page.now right ≡ true) }
-    ensures { result ≡ checkBinary page.now op clash (Checked.Known l) right }
+    requires leaves { Leaves false page.now leaves.now (types_in page.now) }
+    requires op_value { (is_operator op ≡ true) × (l < types_in page.now) × (in_use page.now right ≡ true) }
+    ensures { result ≡ check_binary page.now op clash (Checked.Known l) right }
 {
     match right {
         Checked::Unknown => operators::unknown(operators::no_error()),
@@ -211,8 +211,8 @@ fn check_known(
 // The check on a Function and another operand.
 fn check_function(page: &[u8], offsets: &[usize], op: usize, clash: bool, right: Checked) -> Outcome
     requires held { Held page.now offsets.now }
-    requires op_value { (isOperator op ≡ true) × (inUse page.now right ≡ true) }
-    ensures { result ≡ checkBinary page.now op clash (Checked.Function 0) right }
+    requires op_value { (is_operator op ≡ true) × (in_use page.now right ≡ true) }
+    ensures { result ≡ check_binary page.now op clash (Checked.Function 0) right }
 {
     match right {
         Checked::Unknown => operators::unknown(operators::no_error()),
@@ -236,9 +236,9 @@ pub fn check_binary(
     right: Checked,
 ) -> Outcome
     requires held { Held page.now offsets.now }
-    requires leaves { Leaves false page.now leaves.now (typesIn page.now) }
-    requires op_value { (isOperator op ≡ true) × (inUse page.now left ≡ true) × (inUse page.now right ≡ true) }
-    ensures { result ≡ checkBinary page.now op clash left right }
+    requires leaves { Leaves false page.now leaves.now (types_in page.now) }
+    requires op_value { (is_operator op ≡ true) × (in_use page.now left ≡ true) × (in_use page.now right ≡ true) }
+    ensures { result ≡ check_binary page.now op clash left right }
 {
     match left {
         Checked::Unknown => operators::unknown(operators::no_error()),

@@ -2,10 +2,10 @@
 #![tactic(auto)]
 
 ghost use Rattle.std.specs.Prelude.{◌≡◌, true, cond, ◌+◌, ◌≤◌, ◌<◌, length, get_or, set, replicate};
-ghost use Rattle.types.specs.Store.{typesMax};
-ghost use Rattle.types.specs.Types.{typesIn, kindOf, Held, Measured};
-ghost use Rattle.bindings.specs.Bindings.{bindingsMax, placeIn, isBound, boundTo, withBinding, goodBinding, formed, typesBelow};
-ghost use Rattle.bindings.specs.Generics.{isEntered, hasGeneric, Told, substitute, Remembered, Working};
+ghost use Rattle.types.specs.Store.{types_max};
+ghost use Rattle.types.specs.Types.{types_in, kind_of, Held, Measured};
+ghost use Rattle.bindings.specs.Bindings.{bindings_max, place_in, is_bound, bound_to, with_binding, good_binding, formed, types_below};
+ghost use Rattle.bindings.specs.Generics.{is_entered, has_generic, Told, substitute, Remembered, Working};
 
 use kinds::{CALLBACK, CHILDREN, GENERIC, Kind};
 use names::{Symbol, symbol_index};
@@ -24,8 +24,8 @@ pub struct Bindings {
 
 // The first of the first k places that has a name, or k.
 fn place_of(bindings: Bindings, k: usize, name: Symbol) -> usize
-    requires { k ≤ bindingsMax }
-    ensures { (result ≡ placeIn bindings k name) × (result ≤ k) }
+    requires { k ≤ bindings_max }
+    ensures { (result ≡ place_in bindings k name) × (result ≤ k) }
 {
     let names = bindings.names;
     let mut i: usize = 0;
@@ -40,8 +40,8 @@ fn place_of(bindings: Bindings, k: usize, name: Symbol) -> usize
 
 // Whether place i has a name in use, of n, which stands in no place before it, and a type in use, of those below t.
 fn is_good(bindings: Bindings, n: usize, t: usize, i: usize) -> bool
-    requires { i < bindingsMax }
-    ensures { result ≡ goodBinding n t bindings i }
+    requires { i < bindings_max }
+    ensures { result ≡ good_binding n t bindings i }
 {
     let names = bindings.names;
     let types = bindings.types;
@@ -75,8 +75,8 @@ pub fn is_formed(bindings: Bindings, n: usize, t: usize) -> bool
 
 // Whether the types that names are bound to are numbered below t.
 pub fn are_below(bindings: Bindings, t: usize) -> bool
-    requires { bindings.count ≤ bindingsMax }
-    ensures { result ≡ typesBelow bindings t }
+    requires { bindings.count ≤ bindings_max }
+    ensures { result ≡ types_below bindings t }
 {
     let types = bindings.types;
     let count = bindings.count;
@@ -92,8 +92,8 @@ pub fn are_below(bindings: Bindings, t: usize) -> bool
 
 // The type that a name is bound to, or another where it is not bound.
 pub fn bound_or(bindings: Bindings, name: Symbol, other: usize) -> usize
-    requires { bindings.count ≤ bindingsMax }
-    ensures { result ≡ cond (isBound bindings name) (boundTo bindings name) other }
+    requires { bindings.count ≤ bindings_max }
+    ensures { result ≡ cond (is_bound bindings name) (bound_to bindings name) other }
 {
     let types = bindings.types;
     let i = place_of(bindings, bindings.count, name);
@@ -105,16 +105,16 @@ pub fn bound_or(bindings: Bindings, name: Symbol, other: usize) -> usize
 
 // Whether a name is bound.
 pub fn is_bound(bindings: Bindings, name: Symbol) -> bool
-    requires { bindings.count ≤ bindingsMax }
-    ensures { result ≡ isBound bindings name }
+    requires { bindings.count ≤ bindings_max }
+    ensures { result ≡ is_bound bindings name }
 {
     place_of(bindings, bindings.count, name) < bindings.count
 }
 
 // Bindings with one more.
 pub fn with_binding(bindings: Bindings, name: Symbol, t: usize) -> Bindings
-    requires { (bindings.count < bindingsMax) × (t < typesMax) }
-    ensures { result ≡ withBinding bindings name t }
+    requires { (bindings.count < bindings_max) × (t < types_max) }
+    ensures { result ≡ with_binding bindings name t }
 {
     let count = bindings.count;
     let mut names = bindings.names;
@@ -130,7 +130,7 @@ pub fn with_binding(bindings: Bindings, name: Symbol, t: usize) -> Bindings
 
 // Whether the children of a kind are entered.
 pub fn is_entered(k: Kind) -> bool
-    ensures { result ≡ isEntered k }
+    ensures { result ≡ is_entered k }
 {
     kinds::is_built(k) | (k == CALLBACK)
 }
@@ -138,8 +138,8 @@ pub fn is_entered(k: Kind) -> bool
 // Whether a generic name stands in a type, where found says it of every lower one.
 fn generic_in(page: &[u8], offsets: &[usize], found: &[bool], t: usize) -> bool
     requires held { Held page.now offsets.now }
-    requires t_bound { (t < typesIn page.now) × (t ≤ length found.now) × Told page.now found.now t }
-    ensures { result ≡ hasGeneric page.now t }
+    requires t_bound { (t < types_in page.now) × (t ≤ length found.now) × Told page.now found.now t }
+    ensures { result ≡ has_generic page.now t }
 {
     let kind = kind_of(page, offsets, t);
     if kind == GENERIC {
@@ -170,7 +170,7 @@ fn set_found(found: &mut [bool], t: usize, here: bool)
 
 // Nothing found yet.
 fn none_found() -> [bool; TYPES]
-    ensures { length result ≡ typesMax }
+    ensures { length result ≡ types_max }
 {
     [false; TYPES]
 }
@@ -179,8 +179,8 @@ fn none_found() -> [bool; TYPES]
 // are looked at from the lowest number up, each once.
 pub fn has_generic(page: &[u8], offsets: &[usize], t: usize) -> bool
     requires held { Held page.now offsets.now }
-    requires t_bound { t < typesIn page.now }
-    ensures { result ≡ hasGeneric page.now t }
+    requires t_bound { t < types_in page.now }
+    ensures { result ≡ has_generic page.now t }
 {
     let mut found = none_found();
     let mut i: usize = 0;
@@ -197,14 +197,14 @@ type Done = [usize; TYPES];
 
 // Nothing substituted yet.
 pub fn none_done() -> Done
-    ensures { result ≡ replicate typesMax 0 }
+    ensures { result ≡ replicate types_max 0 }
 {
     [0; TYPES]
 }
 
 // One more than the number that a type was substituted by; 0 where it was not yet.
 fn done_at(done: &[usize], t: usize) -> usize
-    requires { (length done.now ≡ typesMax) × (t < typesMax) }
+    requires { (length done.now ≡ types_max) × (t < types_max) }
     ensures { result ≡ get_or done.now t 0 }
 {
     done[t]
@@ -212,7 +212,7 @@ fn done_at(done: &[usize], t: usize) -> usize
 
 // Writes down what a type was substituted by.
 fn set_done(done: &mut [usize], t: usize, r: usize)
-    requires { (length done.old ≡ typesMax) × (t < typesMax) × (r < typesMax) }
+    requires { (length done.old ≡ types_max) × (t < types_max) × (r < types_max) }
     ensures { done.new ≡ set done.old t (r + 1) }
 {
     done[t] = r + 1;
@@ -263,7 +263,7 @@ fn rebuild(
     t: usize,
 ) -> Made
     requires working { Working bindings page.old offsets.old depths.old done.old t }
-    requires t_value { isEntered (kindOf page.old t) ≡ true }
+    requires t_value { is_entered (kind_of page.old t) ≡ true }
     ensures value { (result ≡ (substitute bindings t page.old).made) × (page.new ≡ (substitute bindings t page.old).store) }
     ensures measured { Measured page.new offsets.new depths.new × Remembered bindings page.new done.new }
 {

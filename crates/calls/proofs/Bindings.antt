@@ -15,85 +15,85 @@ use Rattle.refusals.specs.declared.Verdict.{Verdict}
 use Rattle.refusals.specs.declared.Verdict.TheVariants.{Passed, Refused}
 use Rattle.refusals.specs.declared.Answer.{Answer}
 use Rattle.refusals.specs.declared.Answer.TheVariants as answer
-use Rattle.refusals.proofs.Lowest.{passed-parts}
-use Rattle.pages.specs.Bytes.{words, lowBytes, put}
-use Rattle.pages.proofs.Quant.{and-true}
-use Rattle.pages.proofs.Put.{put-append, put-whole}
-use Rattle.pages.proofs.Words.{words-length}
-use Rattle.pages.proofs.Low.{low-length}
-use Rattle.names.specs.Calls.{usedOf}
-use Rattle.types.specs.Store.{childBytes, Formed}
-use Rattle.types.specs.Types.{typesIn}
-use Rattle.types.specs.Calls.{storeBroken}
-use Rattle.types.proofs.Calls.{unbroken-both}
-use Rattle.matching.specs.Matching.{inUse}
+use Rattle.refusals.proofs.Lowest.{passed_parts}
+use Rattle.pages.specs.Bytes.{words, low_bytes, put}
+use Rattle.pages.proofs.Quant.{and_true}
+use Rattle.pages.proofs.Put.{put_append, put_whole}
+use Rattle.pages.proofs.Words.{words_length}
+use Rattle.pages.proofs.Low.{low_length}
+use Rattle.names.specs.Calls.{used_of}
+use Rattle.types.specs.Store.{child_bytes, Formed}
+use Rattle.types.specs.Types.{types_in}
+use Rattle.types.specs.Calls.{store_broken}
+use Rattle.types.proofs.Calls.{unbroken_both}
+use Rattle.matching.specs.Matching.{in_use}
 use Rattle.matching.specs.declared.Checked.{Checked}
 use Rattle.matching.specs.declared.Checked.TheVariants.{Known}
-use Rattle.bindings.specs.Bindings.{bindingsMax, formed}
+use Rattle.bindings.specs.Bindings.{bindings_max, formed}
 use Rattle.bindings.specs.declared.Bindings.{Bindings}
 use Rattle.bindings.proofs.Bound.{usable}
-use Rattle.unification.specs.Unification.{unifyArg}
+use Rattle.unification.specs.Unification.{unify_arg}
 use Rattle.unification.specs.declared.Unified.{Unified}
 use Rattle.unification.proofs.Growth.{Given}
-use Rattle.unification.proofs.Arguments.{unify-arg-grown}
-use Rattle.checked.specs.Calls.{verdictOf, bindingsVerdict, keptBy, unifiedOr, unifyArgAnswer, unifyAnswer}
-use Rattle.checked.proofs.Calls.{unify-known}
-use Rattle.calls.specs.Types.{typesFrom, bindingBytes, bytesOfBindings}
+use Rattle.unification.proofs.Arguments.{unify_arg_grown}
+use Rattle.checked.specs.Calls.{verdict_of, bindings_verdict, kept_by, unified_or, unify_arg_answer, unify_answer}
+use Rattle.checked.proofs.Calls.{unify_known}
+use Rattle.calls.specs.Types.{types_from, binding_bytes, bytes_of_bindings}
 
 -- ---- read
 
-module _ (bytes : List ℕ) (n : length bytes ≡ bindingBytes) where
-  pub names-length : length (take bindingsMax (drop 1 bytes)) ≡ bindingsMax
-  names-length = length-take-le bindingsMax (drop 1 bytes) (omega (arith, length-drop 1 bytes, n))
+module _ (bytes : List ℕ) (n : length bytes ≡ binding_bytes) where
+  pub names_length : length (take bindings_max (drop 1 bytes)) ≡ bindings_max
+  names_length = length-take-le bindings_max (drop 1 bytes) (omega (arith, length-drop 1 bytes, n))
 
 -- ---- written
 
-pub bindings-made : (b : Bindings) → length b.names ≡ bindingsMax → length b.types ≡ bindingsMax
-    → put (put (put (replicate bindingBytes 0) 0 (b.count ∷ [])) 1 (lowBytes b.names)) typesFrom (words b.types) ≡ bytesOfBindings b
-unfolding bytesOfBindings
-bindings-made b n t =
-    let l : List ℕ = replicate bindingBytes 0 in
-    let names : List ℕ = lowBytes b.names in
-    let k : length names ≡ bindingsMax = low-length b.names ∙ n in
-    let w : length (words b.types) ≡ childBytes * bindingsMax = words-length b.types ∙ ap (λ (x : ℕ). childBytes * x) t in
-    let e : 0 + length (b.count ∷ names) ≡ typesFrom = omega (arith, k) in
-    ap (λ (x : List ℕ). put x typesFrom (words b.types)) (put-append l 0 (b.count ∷ []) names (omega (arith, k)))
+pub bindings_made : (b : Bindings) → length b.names ≡ bindings_max → length b.types ≡ bindings_max
+    → put (put (put (replicate binding_bytes 0) 0 (b.count ∷ [])) 1 (low_bytes b.names)) types_from (words b.types) ≡ bytes_of_bindings b
+unfolding bytes_of_bindings
+bindings_made b n t =
+    let l : List ℕ = replicate binding_bytes 0 in
+    let names : List ℕ = low_bytes b.names in
+    let k : length names ≡ bindings_max = low_length b.names ∙ n in
+    let w : length (words b.types) ≡ child_bytes * bindings_max = words_length b.types ∙ ap (λ (x : ℕ). child_bytes * x) t in
+    let e : 0 + length (b.count ∷ names) ≡ types_from = omega (arith, k) in
+    ap (λ (x : List ℕ). put x types_from (words b.types)) (put_append l 0 (b.count ∷ []) names (omega (arith, k)))
     ∙ ap (λ (x : ℕ). put (put l 0 (b.count ∷ names)) x (words b.types)) (sym e)
-    ∙ put-append l 0 (b.count ∷ names) (words b.types) (omega (arith, k, w))
-    ∙ put-whole l (b.count ∷ (names ++ words b.types)) (omega (arith, length-append names (words b.types), k, w))
+    ∙ put_append l 0 (b.count ∷ names) (words b.types) (omega (arith, k, w))
+    ∙ put_whole l (b.count ∷ (names ++ words b.types)) (omega (arith, length-append names (words b.types), k, w))
 
 -- ---- the count after unifying fits in a byte
 
-kept-few : (r : Answer) (new old : Bindings) → new.count < 256 → old.count < 256 → (keptBy r new old).bindings.count < 256
-kept-few answer.Yes new old h k = h
-kept-few answer.No new old h k = h
-kept-few (answer.Refused r) new old h k = k
+kept_few : (r : Answer) (new old : Bindings) → new.count < 256 → old.count < 256 → (kept_by r new old).bindings.count < 256
+kept_few answer.Yes new old h k = h
+kept_few answer.No new old h k = h
+kept_few (answer.Refused r) new old h k = k
 
-arg-few : (page names : List ℕ) (lent : Bool) (b : Bindings) (e : ℕ) (c : Checked) → b.count < 256
-    → length b.names ≡ bindingsMax → length b.types ≡ bindingsMax
-    → (unifyArgAnswer page names lent b e c).bindings.count < 256
-unfolding unifyArgAnswer bindingsVerdict verdictOf
-arg-few page names lent b e c few n t = go (bindingsVerdict page names lent b used) refl
+arg_few : (page names : List ℕ) (lent : Bool) (b : Bindings) (e : ℕ) (c : Checked) → b.count < 256
+    → length b.names ≡ bindings_max → length b.types ≡ bindings_max
+    → (unify_arg_answer page names lent b e c).bindings.count < 256
+unfolding unify_arg_answer bindings_verdict verdict_of
+arg_few page names lent b e c few n t = go (bindings_verdict page names lent b used) refl
   where
     used : Bool
-    used = ltb e (typesIn page) && inUse page c
+    used = ltb e (types_in page) && in_use page c
 
-    go : (v : Verdict) → bindingsVerdict page names lent b used ≡ v → (unifiedOr v (unifyArg page e c b) b).bindings.count < 256
+    go : (v : Verdict) → bindings_verdict page names lent b used ≡ v → (unified_or v (unify_arg page e c b) b).bindings.count < 256
     go Passed h =
-        let form = formed (usedOf names lent) (typesIn page) b in
-        let a = passed-parts Broken (storeBroken page names lent || not form) ((Unused when not used) ∷ []) h in
-        let z = (or-eq-false-eq-eq-false-and-eq-false (storeBroken page names lent) (not form)).0 a.0 in
-        let w = and-true (ltb e (typesIn page)) (inUse page c) (not-false used (passed-parts Unused (not used) [] a.1).0) in
-        let f : Formed page = record { names = usedOf names lent; form = (unbroken-both page names lent z.0).1 } in
-        let g : Given b (typesIn page) = record { usable = usable (usedOf names lent) (typesIn page) b (not-false form z.1); names = n; types = t } in
-        let grown = unify-arg-grown page f e (ltb-true e (typesIn page) w.0) b g c w.1 in
-        kept-few (unifyArg page e c b).answer (unifyArg page e c b).bindings b (omega (arith, grown.given.usable.few)) few
+        let form = formed (used_of names lent) (types_in page) b in
+        let a = passed_parts Broken (store_broken page names lent || not form) ((Unused when not used) ∷ []) h in
+        let z = (or-eq-false-eq-eq-false-and-eq-false (store_broken page names lent) (not form)).0 a.0 in
+        let w = and_true (ltb e (types_in page)) (in_use page c) (not-false used (passed_parts Unused (not used) [] a.1).0) in
+        let f : Formed page = record { names = used_of names lent; form = (unbroken_both page names lent z.0).1 } in
+        let g : Given b (types_in page) = record { usable = usable (used_of names lent) (types_in page) b (not-false form z.1); names = n; types = t } in
+        let grown = unify_arg_grown page f e (ltb-true e (types_in page) w.0) b g c w.1 in
+        kept_few (unify_arg page e c b).answer (unify_arg page e c b).bindings b (omega (arith, grown.given.usable.few)) few
     go (Refused r) h = few
 
-module _ (page names : List ℕ) (lent : Bool) (b : Bindings) (few : b.count < 256) (n : length b.names ≡ bindingsMax) (t : length b.types ≡ bindingsMax)
+module _ (page names : List ℕ) (lent : Bool) (b : Bindings) (few : b.count < 256) (n : length b.names ≡ bindings_max) (t : length b.types ≡ bindings_max)
     (e : ℕ) (u : Unified) where
-  pub unify-arg-few : (c : Checked) → u ≡ unifyArgAnswer page names lent b e c → u.bindings.count < 256
-  unify-arg-few c h = rw h (arg-few page names lent b e c few n t)
+  pub unify_arg_few : (c : Checked) → u ≡ unify_arg_answer page names lent b e c → u.bindings.count < 256
+  unify_arg_few c h = rw h (arg_few page names lent b e c few n t)
 
-  pub unify-few : (a : ℕ) → u ≡ unifyAnswer page names lent b e a → u.bindings.count < 256
-  unify-few a h = unify-arg-few (Known a) (h ∙ sym (unify-known page names lent b e a))
+  pub unify_few : (a : ℕ) → u ≡ unify_answer page names lent b e a → u.bindings.count < 256
+  unify_few a h = unify_arg_few (Known a) (h ∙ sym (unify_known page names lent b e a))

@@ -8,298 +8,298 @@ use native.Mathlib.Omega.{arith}
 use lib.Dec.{eqb, leb}
 use lib.ListN.{length, get_or}
 use borrow.Author.Tests.{leb-true, ne_eqb}
-use Rattle.refusals.specs.Numbers.{isRefused}
-use Rattle.refusals.specs.Lowest.{Condition, ◌when◌, lowest, unlessRefused}
+use Rattle.refusals.specs.Numbers.{is_refused}
+use Rattle.refusals.specs.Lowest.{Condition, ◌when◌, lowest, unless_refused}
 use Rattle.refusals.specs.declared.Refusal.TheVariants.{Undefined, Broken, Unused, BadUnit}
 use Rattle.refusals.specs.declared.Verdict.{Verdict}
 use Rattle.refusals.specs.declared.Verdict.TheVariants.{Refused}
-use Rattle.refusals.proofs.Lowest.{first-holds}
-use Rattle.pages.specs.Bytes.{countOf}
-use Rattle.pages.proofs.Quant.{and-true}
-use Rattle.pages.proofs.Bytes.{and-false}
-use Rattle.names.specs.Table.{namesMax}
+use Rattle.refusals.proofs.Lowest.{first_holds}
+use Rattle.pages.specs.Bytes.{count_of}
+use Rattle.pages.proofs.Quant.{and_true}
+use Rattle.pages.proofs.Bytes.{and_false}
+use Rattle.names.specs.Table.{names_max}
 use Rattle.names.specs.Table as names
-use Rattle.names.specs.Calls.{usedOf}
-use Rattle.types.specs.Calls.{storeBroken}
-use Rattle.units.specs.Unit.{placesMax, Term, formed, inUse}
-use Rattle.units.specs.Calls.{termsOf, present, unitOf}
-use Rattle.units.proofs.Order.{or-both}
-use Rattle.units.proofs.Held.{terms-unit}
-use Rattle.units.proofs.Used.{present-all}
-use Rattle.pairs.specs.Calls.{tableBroken}
-use Rattle.sums.specs.Calls.{rootsIn, orEmpty, unitsVerdict, sumsAnswer, convertAnswer}
-use Rattle.text.specs.Calls.{textVerdict, textAnswer}
-use Rattle.values.specs.Value.{noneCount, termBytes, termsAt, isNone, isSome, readable, valueVerdict, unitIn, symbolsUsed}
-use Rattle.values.proofs.Used.{used-some, used-none}
-use Rattle.operators.specs.Operators.{isOperator}
-use Rattle.answers.specs.Units.{noUnit}
-use Rattle.unary.specs.Unary.{checkUnary}
-use Rattle.indexing.specs.Indexing.{checkIndex}
-use Rattle.answers.specs.Calls.{operandConditions, unless, concludedBy, storeAfter, binaryChecked, binaryAnswer, unaryChecked, unaryAnswer, unaryPage, keyed, indexAnswer, indexPage}
-use Rattle.calls.specs.Types.{checkedOf}
-use Rattle.calls.specs.Codes.{unitFormedIn, maybeFormedIn, textVerdictIn, textIn, unitsVerdictIn, groupSumsIn, convertibleIn}
-use Rattle.calls.specs.Answers.{operandOf, operandUsedIn, operandsIn, operandsVerdictIn, binaryVerdictIn, binaryIn, unaryVerdictIn, unaryIn, unaryPageIn, indexIn, indexPageIn}
+use Rattle.names.specs.Calls.{used_of}
+use Rattle.types.specs.Calls.{store_broken}
+use Rattle.units.specs.Unit.{places_max, Term, formed, in_use}
+use Rattle.units.specs.Calls.{terms_of, present, unit_of}
+use Rattle.units.proofs.Order.{or_both}
+use Rattle.units.proofs.Held.{terms_unit}
+use Rattle.units.proofs.Used.{present_all}
+use Rattle.pairs.specs.Calls.{table_broken}
+use Rattle.sums.specs.Calls.{roots_in, or_empty, units_verdict, sums_answer, convert_answer}
+use Rattle.text.specs.Calls.{text_verdict, text_answer}
+use Rattle.values.specs.Value.{none_count, term_bytes, terms_at, is_none, is_some, readable, value_verdict, unit_in, symbols_used}
+use Rattle.values.proofs.Used.{used_some, used_none}
+use Rattle.operators.specs.Operators.{is_operator}
+use Rattle.answers.specs.Units.{no_unit}
+use Rattle.unary.specs.Unary.{check_unary}
+use Rattle.indexing.specs.Indexing.{check_index}
+use Rattle.answers.specs.Calls.{operand_conditions, unless, concluded_by, store_after, binary_checked, binary_answer, unary_checked, unary_answer, unary_page, keyed, index_answer, index_page}
+use Rattle.calls.specs.Types.{checked_of}
+use Rattle.calls.specs.Codes.{unit_formed_in, maybe_formed_in, text_verdict_in, text_in, units_verdict_in, group_sums_in, convertible_in}
+use Rattle.calls.specs.Answers.{operand_of, operand_used_in, operands_in, operands_verdict_in, binary_verdict_in, binary_in, unary_verdict_in, unary_in, unary_page_in, index_in, index_page_in}
 
 -- ---- choices
 
-or-end : (a : Bool) → (a || true) ≡ true
-or-end true = refl
-or-end false = refl
+or_end : (a : Bool) → (a || true) ≡ true
+or_end true = refl
+or_end false = refl
 
-or-none : (a : Bool) → (a || false) ≡ a
-or-none true = refl
-or-none false = refl
+or_none_lem : (a : Bool) → (a || false) ≡ a
+or_none_lem true = refl
+or_none_lem false = refl
 
 -- ---- bytes that can be read
 
-pub readable-is : (bytes : List ℕ) → not (isRefused (valueVerdict bytes)) ≡ readable bytes
-unfolding valueVerdict
-readable-is bytes = go (readable bytes)
+pub readable_is : (bytes : List ℕ) → not (is_refused (value_verdict bytes)) ≡ readable bytes
+unfolding value_verdict
+readable_is bytes = go (readable bytes)
   where
-    go : (b : Bool) → not (isRefused (lowest ((BadUnit when not b) ∷ []))) ≡ b
+    go : (b : Bool) → not (is_refused (lowest ((BadUnit when not b) ∷ []))) ≡ b
     go true = refl
     go false = refl
 
 -- the places of a unit that was read are the terms in the bytes
-module _ (bytes : List ℕ) (s : isSome bytes ≡ true) where
-  few : get_or bytes 0 0 ≤ placesMax
+module _ (bytes : List ℕ) (s : is_some bytes ≡ true) where
+  few : get_or bytes 0 0 ≤ places_max
   few =
-      let a = and-true (leb 1 (length bytes)) _ s in
-      leb-true (get_or bytes 0 0) placesMax (and-true (leb (get_or bytes 0 0) placesMax) _ a.1).0
+      let a = and_true (leb 1 (length bytes)) _ s in
+      leb-true (get_or bytes 0 0) places_max (and_true (leb (get_or bytes 0 0) places_max) _ a.1).0
 
-  not-none : isNone bytes ≡ false
-  not-none = let f = few in rw (ne_eqb (get_or bytes 0 0) noneCount (λ e. omega arith)) (and-false (eqb (length bytes) 1))
+  not_none : is_none bytes ≡ false
+  not_none = let f = few in rw (ne_eqb (get_or bytes 0 0) none_count (λ e. omega arith)) (and_false (eqb (length bytes) 1))
 
   read : List Term
-  read = termsAt bytes (get_or bytes 0 0) 1
+  read = terms_at bytes (get_or bytes 0 0) 1
 
-  read-length : length read ≤ placesMax
+  read_length : length read ≤ places_max
   unfolding read
-  read-length = rw (length-at (get_or bytes 0 0) 1) few
+  read_length = rw (length_at (get_or bytes 0 0) 1) few
     where
-      length-at : (k at : ℕ) → length (termsAt bytes k at) ≡ k
-      length-at zero at = refl
-      length-at (suc k) at = ap suc (length-at k (at + termBytes))
+      length_at : (k at : ℕ) → length (terms_at bytes k at) ≡ k
+      length_at zero at = refl
+      length_at (suc k) at = ap suc (length_at k (at + term_bytes))
 
-  unit-is : (unitIn bytes).unit ≡ unitOf read
-  unfolding unitIn read
-  unit-is = rw s
+  unit_is : (unit_in bytes).unit ≡ unit_of read
+  unfolding unit_in read
+  unit_is = rw s
 
-  some-terms : termsOf (unitIn bytes).unit ≡ read
-  some-terms = ap termsOf unit-is ∙ terms-unit read read-length
+  some_terms : terms_of (unit_in bytes).unit ≡ read
+  some_terms = ap terms_of unit_is ∙ terms_unit read read_length
 
-  pub some-used : (n : ℕ) → symbolsUsed n bytes ≡ inUse n (present (unitIn bytes).unit)
-  some-used n =
-      used-some n bytes s ∙ unfold read in (sym (ap (λ u. inUse n (present u)) unit-is ∙ ap (inUse n) (present-all (unitOf read) read-length ∙ terms-unit read read-length)))
+  pub some_used : (n : ℕ) → symbols_used n bytes ≡ in_use n (present (unit_in bytes).unit)
+  some_used n =
+      used_some n bytes s ∙ unfold read in (sym (ap (λ u. in_use n (present u)) unit_is ∙ ap (in_use n) (present_all (unit_of read) read_length ∙ terms_unit read read_length)))
 
-  pub some-formed : unitFormedIn bytes ≡ formed placesMax namesMax (termsOf (unitIn bytes).unit)
-  unfolding unitFormedIn
-  some-formed = rw s
+  pub some_formed : unit_formed_in bytes ≡ formed places_max names_max (terms_of (unit_in bytes).unit)
+  unfolding unit_formed_in
+  some_formed = rw s
 
 -- a unit, or none
 module _ (bytes : List ℕ) where
-  no-unit : isSome bytes ≡ false → unitIn bytes ≡ noUnit
-  unfolding unitIn
-  no-unit s = rw s
+  no_unit_lem : is_some bytes ≡ false → unit_in bytes ≡ no_unit
+  unfolding unit_in
+  no_unit_lem s = rw s
 
-  or-is : isSome bytes ≡ true → orEmpty (unitIn bytes) ≡ (unitIn bytes).unit
-  unfolding unitIn
-  or-is s = rw s
+  or_is : is_some bytes ≡ true → or_empty (unit_in bytes) ≡ (unit_in bytes).unit
+  unfolding unit_in
+  or_is s = rw s
 
   module _ (h : readable bytes ≡ true) where
-    pub used-in : (n : ℕ) → symbolsUsed n bytes ≡ inUse n (present (orEmpty (unitIn bytes)))
-    unfolding readable inUse
-    used-in n = go (isSome bytes) refl
+    pub used_in : (n : ℕ) → symbols_used n bytes ≡ in_use n (present (or_empty (unit_in bytes)))
+    unfolding readable in_use
+    used_in n = go (is_some bytes) refl
       where
-        go : (b : Bool) → isSome bytes ≡ b → symbolsUsed n bytes ≡ inUse n (present (orEmpty (unitIn bytes)))
-        go true s = some-used bytes s n ∙ ap (λ u. inUse n (present u)) (sym (or-is s))
-        go false s = used-none n bytes (sym (or-none (isNone bytes)) ∙ rw s at h) ∙ ap (λ u. inUse n (present (orEmpty u))) (sym (no-unit s))
+        go : (b : Bool) → is_some bytes ≡ b → symbols_used n bytes ≡ in_use n (present (or_empty (unit_in bytes)))
+        go true s = some_used bytes s n ∙ ap (λ u. in_use n (present u)) (sym (or_is s))
+        go false s = used_none n bytes (sym (or_none_lem (is_none bytes)) ∙ rw s at h) ∙ ap (λ u. in_use n (present (or_empty u))) (sym (no_unit_lem s))
 
-    pub formed-in : maybeFormedIn bytes ≡ formed placesMax namesMax (termsOf (orEmpty (unitIn bytes)))
-    unfolding readable maybeFormedIn formed
-    formed-in = go (isSome bytes) refl
+    pub formed_in : maybe_formed_in bytes ≡ formed places_max names_max (terms_of (or_empty (unit_in bytes)))
+    unfolding readable maybe_formed_in formed
+    formed_in = go (is_some bytes) refl
       where
-        go : (b : Bool) → isSome bytes ≡ b → (isNone bytes || unitFormedIn bytes) ≡ formed placesMax namesMax (termsOf (orEmpty (unitIn bytes)))
-        go true s = rw (not-none bytes s) (some-formed bytes s ∙ ap (λ u. formed placesMax namesMax (termsOf u)) (sym (or-is s)))
-        go false s = rw (no-unit s, sym (or-none (isNone bytes)) ∙ rw s at h)
+        go : (b : Bool) → is_some bytes ≡ b → (is_none bytes || unit_formed_in bytes) ≡ formed places_max names_max (terms_of (or_empty (unit_in bytes)))
+        go true s = rw (not_none bytes s) (some_formed bytes s ∙ ap (λ u. formed places_max names_max (terms_of u)) (sym (or_is s)))
+        go false s = rw (no_unit_lem s, sym (or_none_lem (is_none bytes)) ∙ rw s at h)
 
   -- ---- bytes that cannot
 
-  unread-formed : readable bytes ≡ false → maybeFormedIn bytes ≡ false
-  unfolding readable maybeFormedIn unitFormedIn
-  unread-formed h = let a = or-both (isNone bytes) (isSome bytes) h in rw (a.0, a.1)
+  unread_formed : readable bytes ≡ false → maybe_formed_in bytes ≡ false
+  unfolding readable maybe_formed_in unit_formed_in
+  unread_formed h = let a = or_both (is_none bytes) (is_some bytes) h in rw (a.0, a.1)
 
-pub unread-both : (l r : List ℕ) → (readable l && readable r) ≡ false → (maybeFormedIn l && maybeFormedIn r) ≡ false
-unread-both l r h = go (readable l) refl
+pub unread_both : (l r : List ℕ) → (readable l && readable r) ≡ false → (maybe_formed_in l && maybe_formed_in r) ≡ false
+unread_both l r h = go (readable l) refl
   where
-    go : (b : Bool) → readable l ≡ b → (maybeFormedIn l && maybeFormedIn r) ≡ false
-    go true e = rw (unread-formed r (rw e at h)) (and-false (maybeFormedIn l))
-    go false e = rw (unread-formed l e)
+    go : (b : Bool) → readable l ≡ b → (maybe_formed_in l && maybe_formed_in r) ≡ false
+    go true e = rw (unread_formed r (rw e at h)) (and_false (maybe_formed_in l))
+    go false e = rw (unread_formed l e)
 
 -- both can be read
-pub read-both : (l r : List ℕ) → (readable l && readable r) ≡ true → (readable l ≡ true) × (readable r ≡ true)
-read-both l r h = and-true (readable l) (readable r) h
+pub read_both : (l r : List ℕ) → (readable l && readable r) ≡ true → (readable l ≡ true) × (readable r ≡ true)
+read_both l r h = and_true (readable l) (readable r) h
 
 -- ---- the text of a unit
 
 module _ (page bytes : List ℕ) where
-  pub text-some : (unitIn bytes).some ≡ true → textAnswer page (unitIn bytes).unit ≡ textIn page bytes
-  unfolding textAnswer textVerdict textVerdictIn
-  text-some h = let s : isSome bytes ≡ true = unfold unitIn in h in rw (some-used bytes s (countOf page), some-formed bytes s)
+  pub text_some : (unit_in bytes).some ≡ true → text_answer page (unit_in bytes).unit ≡ text_in page bytes
+  unfolding text_answer text_verdict text_verdict_in
+  text_some h = let s : is_some bytes ≡ true = unfold unit_in in h in rw (some_used bytes s (count_of page), some_formed bytes s)
 
-  pub text-broken : names.formed page ≡ false → Refused Broken ≡ textVerdictIn page bytes
-  unfolding textVerdictIn
-  text-broken f = sym (rw f (first-holds Broken ((Unused when not (symbolsUsed (countOf page) bytes)) ∷ (BadUnit when not (unitFormedIn bytes)) ∷ []) refl))
+  pub text_broken : names.formed page ≡ false → Refused Broken ≡ text_verdict_in page bytes
+  unfolding text_verdict_in
+  text_broken f = sym (rw f (first_holds Broken ((Unused when not (symbols_used (count_of page) bytes)) ∷ (BadUnit when not (unit_formed_in bytes)) ∷ []) refl))
 
-  module _ (f : names.formed page ≡ true) (n : ℕ) (is : n ≡ countOf page) where
-    pub text-unused : symbolsUsed n bytes ≡ false → Refused Unused ≡ textVerdictIn page bytes
-    unfolding textVerdictIn
-    text-unused u = sym (rw (f, ← is, u) (first-holds Unused ((BadUnit when not (unitFormedIn bytes)) ∷ []) refl))
+  module _ (f : names.formed page ≡ true) (n : ℕ) (is : n ≡ count_of page) where
+    pub text_unused : symbols_used n bytes ≡ false → Refused Unused ≡ text_verdict_in page bytes
+    unfolding text_verdict_in
+    text_unused u = sym (rw (f, ← is, u) (first_holds Unused ((BadUnit when not (unit_formed_in bytes)) ∷ []) refl))
 
-    pub text-bad : symbolsUsed n bytes ≡ true → (unitIn bytes).some ≡ false → Refused BadUnit ≡ textVerdictIn page bytes
-    unfolding textVerdictIn unitFormedIn
-    text-bad u h = let s : isSome bytes ≡ false = unfold unitIn in h in rw (f, ← is, u, s)
+    pub text_bad : symbols_used n bytes ≡ true → (unit_in bytes).some ≡ false → Refused BadUnit ≡ text_verdict_in page bytes
+    unfolding text_verdict_in unit_formed_in
+    text_bad u h = let s : is_some bytes ≡ false = unfold unit_in in h in rw (f, ← is, u, s)
 
 -- ---- units over the pairs of a page
 
-and-end : (a : Bool) → (a && true) ≡ a
-and-end true = refl
-and-end false = refl
+and_end : (a : Bool) → (a && true) ≡ a
+and_end true = refl
+and_end false = refl
 
-and-self : (a : Bool) → (a && a) ≡ a
-and-self true = refl
-and-self false = refl
+and_self : (a : Bool) → (a && a) ≡ a
+and_self true = refl
+and_self false = refl
 
 module _ (page names : List ℕ) (lent : Bool) where
   module _ (l r : List ℕ) (h : (readable l && readable r) ≡ true) where
-    units-alike : unitsVerdict page names lent (orEmpty (unitIn l) ∷ orEmpty (unitIn r) ∷ []) ≡ unitsVerdictIn page names lent l r
-    unfolding unitsVerdict unitsVerdictIn
-    units-alike =
-        let k = read-both l r h in
-        let n = usedOf names lent in
-        rw (used-in l k.0 n, used-in r k.1 n, formed-in l k.0, formed-in r k.1, and-end (inUse n (present (orEmpty (unitIn r)))), and-end (formed placesMax namesMax (termsOf (orEmpty (unitIn r)))))
+    units_alike : units_verdict page names lent (or_empty (unit_in l) ∷ or_empty (unit_in r) ∷ []) ≡ units_verdict_in page names lent l r
+    unfolding units_verdict units_verdict_in
+    units_alike =
+        let k = read_both l r h in
+        let n = used_of names lent in
+        rw (used_in l k.0 n, used_in r k.1 n, formed_in l k.0, formed_in r k.1, and_end (in_use n (present (or_empty (unit_in r)))), and_end (formed places_max names_max (terms_of (or_empty (unit_in r)))))
 
-    pub convert-alike : convertAnswer page names lent (unitIn l) (unitIn r) ≡ convertibleIn page names lent l r
-    unfolding convertAnswer
-    convert-alike = rw units-alike
+    pub convert_alike : convert_answer page names lent (unit_in l) (unit_in r) ≡ convertible_in page names lent l r
+    unfolding convert_answer
+    convert_alike = rw units_alike
 
-  pub sums-alike : (b : List ℕ) → (readable b && readable b) ≡ true → sumsAnswer page names lent (orEmpty (unitIn b)) ≡ groupSumsIn page names lent b
-  unfolding sumsAnswer unitsVerdict unitsVerdictIn
-  sums-alike b h =
-      let k = (read-both b b h).0 in
-      let n = usedOf names lent in
-      rw (used-in b k n, formed-in b k, and-end (inUse n (present (orEmpty (unitIn b)))), and-end (formed placesMax namesMax (termsOf (orEmpty (unitIn b)))), and-self (inUse n (present (orEmpty (unitIn b)))), and-self (formed placesMax namesMax (termsOf (orEmpty (unitIn b)))))
+  pub sums_alike : (b : List ℕ) → (readable b && readable b) ≡ true → sums_answer page names lent (or_empty (unit_in b)) ≡ group_sums_in page names lent b
+  unfolding sums_answer units_verdict units_verdict_in
+  sums_alike b h =
+      let k = (read_both b b h).0 in
+      let n = used_of names lent in
+      rw (used_in b k n, formed_in b k, and_end (in_use n (present (or_empty (unit_in b)))), and_end (formed places_max names_max (terms_of (or_empty (unit_in b)))), and_self (in_use n (present (or_empty (unit_in b)))), and_self (formed places_max names_max (terms_of (or_empty (unit_in b)))))
 
   module _ (l r : List ℕ) where
-    pub units-broken : tableBroken page names lent ≡ true → Refused Broken ≡ unitsVerdictIn page names lent l r
-    unfolding unitsVerdictIn
-    units-broken t =
-        sym (rw t (first-holds Broken ((Unused when not (symbolsUsed (usedOf names lent) l && symbolsUsed (usedOf names lent) r)) ∷ (BadUnit when not (maybeFormedIn l && maybeFormedIn r)) ∷ []) refl))
+    pub units_broken : table_broken page names lent ≡ true → Refused Broken ≡ units_verdict_in page names lent l r
+    unfolding units_verdict_in
+    units_broken t =
+        sym (rw t (first_holds Broken ((Unused when not (symbols_used (used_of names lent) l && symbols_used (used_of names lent) r)) ∷ (BadUnit when not (maybe_formed_in l && maybe_formed_in r)) ∷ []) refl))
 
-    module _ (t : tableBroken page names lent ≡ false) (n : ℕ) (is : n ≡ usedOf names lent) where
-      unused : (symbolsUsed n l && symbolsUsed n r) ≡ false → Refused Unused ≡ unitsVerdictIn page names lent l r
-      unfolding unitsVerdictIn
-      unused u = sym (rw (t, ← is, u) (first-holds Unused ((BadUnit when not (maybeFormedIn l && maybeFormedIn r)) ∷ []) refl))
+    module _ (t : table_broken page names lent ≡ false) (n : ℕ) (is : n ≡ used_of names lent) where
+      unused : (symbols_used n l && symbols_used n r) ≡ false → Refused Unused ≡ units_verdict_in page names lent l r
+      unfolding units_verdict_in
+      unused u = sym (rw (t, ← is, u) (first_holds Unused ((BadUnit when not (maybe_formed_in l && maybe_formed_in r)) ∷ []) refl))
 
-      pub left-unused : symbolsUsed n l ≡ false → Refused Unused ≡ unitsVerdictIn page names lent l r
-      left-unused u = unused (rw u)
+      pub left_unused : symbols_used n l ≡ false → Refused Unused ≡ units_verdict_in page names lent l r
+      left_unused u = unused (rw u)
 
-      pub right-unused : symbolsUsed n r ≡ false → Refused Unused ≡ unitsVerdictIn page names lent l r
-      right-unused u = unused (rw u (and-false (symbolsUsed n l)))
+      pub right_unused : symbols_used n r ≡ false → Refused Unused ≡ units_verdict_in page names lent l r
+      right_unused u = unused (rw u (and_false (symbols_used n l)))
 
-      pub units-bad : symbolsUsed n l ≡ true → symbolsUsed n r ≡ true → (readable l && readable r) ≡ false → Refused BadUnit ≡ unitsVerdictIn page names lent l r
-      unfolding unitsVerdictIn
-      units-bad a b h = rw (t, ← is, a, b, unread-both l r h)
+      pub units_bad : symbols_used n l ≡ true → symbols_used n r ≡ true → (readable l && readable r) ≡ false → Refused BadUnit ≡ units_verdict_in page names lent l r
+      unfolding units_verdict_in
+      units_bad a b h = rw (t, ← is, a, b, unread_both l r h)
 
 -- ---- operands
 
 module _ (page names : List ℕ) (lent : Bool) (left : ℕ) (unit : List ℕ) (right : ℕ) (other : List ℕ) where
   abbrev conditions : ℕ → List Condition
-  conditions n = operandsIn page n left unit right other
+  conditions n = operands_in page n left unit right other
 
   module _ (h : (readable unit && readable other) ≡ true) where
-    operands-alike : (n : ℕ) → operandConditions page n (operandOf left unit) (operandOf right other) ≡ operandsIn page n left unit right other
-    operands-alike n =
-        let k = read-both unit other h in
-        rw (used-in unit k.0 n, used-in other k.1 n, formed-in unit k.0, formed-in other k.1)
+    operands_alike : (n : ℕ) → operand_conditions page n (operand_of left unit) (operand_of right other) ≡ operands_in page n left unit right other
+    operands_alike n =
+        let k = read_both unit other h in
+        rw (used_in unit k.0 n, used_in other k.1 n, formed_in unit k.0, formed_in other k.1)
 
-    pub binary-alike : (pairs : List ℕ) (op : ℕ)
-        → binaryAnswer page names lent pairs op (operandOf left unit) (operandOf right other) ≡ binaryIn page names lent pairs op left unit right other
-    unfolding binaryAnswer binaryVerdictIn
-    binary-alike pairs op =
-        ap (λ (cs : List Condition). unless (lowest ((Undefined when not (isOperator op)) ∷ (Broken when (storeBroken page names lent || tableBroken pairs names lent)) ∷ cs))
-        (binaryChecked page (rootsIn pairs) op (operandOf left unit) (operandOf right other))) (operands-alike (usedOf names lent))
+    pub binary_alike : (pairs : List ℕ) (op : ℕ)
+        → binary_answer page names lent pairs op (operand_of left unit) (operand_of right other) ≡ binary_in page names lent pairs op left unit right other
+    unfolding binary_answer binary_verdict_in
+    binary_alike pairs op =
+        ap (λ (cs : List Condition). unless (lowest ((Undefined when not (is_operator op)) ∷ (Broken when (store_broken page names lent || table_broken pairs names lent)) ∷ cs))
+        (binary_checked page (roots_in pairs) op (operand_of left unit) (operand_of right other))) (operands_alike (used_of names lent))
 
   module _ (h : (readable unit && readable other) ≡ false) where
-    pub operands-broken : storeBroken page names lent ≡ true → Refused Broken ≡ operandsVerdictIn page names lent left unit right other
-    unfolding operandsVerdictIn
-    operands-broken t = sym (rw t (first-holds Broken (conditions (usedOf names lent)) refl))
+    pub operands_broken : store_broken page names lent ≡ true → Refused Broken ≡ operands_verdict_in page names lent left unit right other
+    unfolding operands_verdict_in
+    operands_broken t = sym (rw t (first_holds Broken (conditions (used_of names lent)) refl))
 
-    module _ (t : storeBroken page names lent ≡ false) (n : ℕ) (is : n ≡ usedOf names lent) where
-      unused-operand : (operandUsedIn page n left unit && operandUsedIn page n right other) ≡ false → Refused Unused ≡ operandsVerdictIn page names lent left unit right other
-      unfolding operandsVerdictIn
-      unused-operand u = sym (rw (t, ← is, u) (first-holds Unused ((BadUnit when not (maybeFormedIn unit && maybeFormedIn other)) ∷ []) refl))
+    module _ (t : store_broken page names lent ≡ false) (n : ℕ) (is : n ≡ used_of names lent) where
+      unused_operand : (operand_used_in page n left unit && operand_used_in page n right other) ≡ false → Refused Unused ≡ operands_verdict_in page names lent left unit right other
+      unfolding operands_verdict_in
+      unused_operand u = sym (rw (t, ← is, u) (first_holds Unused ((BadUnit when not (maybe_formed_in unit && maybe_formed_in other)) ∷ []) refl))
 
-      pub left-operand : operandUsedIn page n left unit ≡ false → Refused Unused ≡ operandsVerdictIn page names lent left unit right other
-      left-operand u = unused-operand (rw u)
+      pub left_operand : operand_used_in page n left unit ≡ false → Refused Unused ≡ operands_verdict_in page names lent left unit right other
+      left_operand u = unused_operand (rw u)
 
-      pub right-operand : operandUsedIn page n right other ≡ false → Refused Unused ≡ operandsVerdictIn page names lent left unit right other
-      right-operand u = unused-operand (rw u (and-false (operandUsedIn page n left unit)))
+      pub right_operand : operand_used_in page n right other ≡ false → Refused Unused ≡ operands_verdict_in page names lent left unit right other
+      right_operand u = unused_operand (rw u (and_false (operand_used_in page n left unit)))
 
-      pub operands-bad : operandUsedIn page n left unit ≡ true → operandUsedIn page n right other ≡ true → Refused BadUnit ≡ operandsVerdictIn page names lent left unit right other
-      unfolding operandsVerdictIn
-      operands-bad a b = rw (t, ← is, a, b, unread-both unit other h)
+      pub operands_bad : operand_used_in page n left unit ≡ true → operand_used_in page n right other ≡ true → Refused BadUnit ≡ operands_verdict_in page names lent left unit right other
+      unfolding operands_verdict_in
+      operands_bad a b = rw (t, ← is, a, b, unread_both unit other h)
 
   -- 1 and the pairs come before what is asked of the operands
   module _ (pairs : List ℕ) (op : ℕ) where
-    pub binary-undefined : isOperator op ≡ false → Refused Undefined ≡ binaryVerdictIn page names lent pairs op left unit right other
-    unfolding binaryVerdictIn
-    binary-undefined o =
-        sym (rw o (first-holds Undefined ((Broken when (storeBroken page names lent || tableBroken pairs names lent)) ∷ conditions (usedOf names lent)) refl))
+    pub binary_undefined : is_operator op ≡ false → Refused Undefined ≡ binary_verdict_in page names lent pairs op left unit right other
+    unfolding binary_verdict_in
+    binary_undefined o =
+        sym (rw o (first_holds Undefined ((Broken when (store_broken page names lent || table_broken pairs names lent)) ∷ conditions (used_of names lent)) refl))
 
-    module _ (o : isOperator op ≡ true) where
-      pub binary-broken : tableBroken pairs names lent ≡ true → Refused Broken ≡ binaryVerdictIn page names lent pairs op left unit right other
-      unfolding binaryVerdictIn
-      binary-broken t = sym (rw (o, t, or-end (storeBroken page names lent)) (first-holds Broken (conditions (usedOf names lent)) refl))
+    module _ (o : is_operator op ≡ true) where
+      pub binary_broken : table_broken pairs names lent ≡ true → Refused Broken ≡ binary_verdict_in page names lent pairs op left unit right other
+      unfolding binary_verdict_in
+      binary_broken t = sym (rw (o, t, or_end (store_broken page names lent)) (first_holds Broken (conditions (used_of names lent)) refl))
 
-      pub binary-rest : tableBroken pairs names lent ≡ false → operandsVerdictIn page names lent left unit right other ≡ binaryVerdictIn page names lent pairs op left unit right other
-      unfolding binaryVerdictIn operandsVerdictIn
-      binary-rest t = rw (o, t, or-none (storeBroken page names lent))
+      pub binary_rest : table_broken pairs names lent ≡ false → operands_verdict_in page names lent left unit right other ≡ binary_verdict_in page names lent pairs op left unit right other
+      unfolding binary_verdict_in operands_verdict_in
+      binary_rest t = rw (o, t, or_none_lem (store_broken page names lent))
 
 module _ (page names : List ℕ) (lent : Bool) (op operand : ℕ) (unit : List ℕ) where
-  pub unary-alike : (readable unit && readable unit) ≡ true
-      → (unaryAnswer page names lent op (operandOf operand unit) ≡ unaryIn page names lent op operand unit)
-      × (unaryPage page names lent op (operandOf operand unit) ≡ unaryPageIn page names lent op operand unit)
-  unfolding unaryAnswer unaryPage unaryVerdictIn
-  unary-alike h =
-      let e = operands-alike page names lent operand unit operand unit h (usedOf names lent) in
-      let verdict : List Condition → Verdict = λ cs. lowest ((Undefined when not (isOperator op)) ∷ (Broken when storeBroken page names lent) ∷ cs) in
-      let q = checkUnary page op (checkedOf operand) in (
-        ap (λ (cs : List Condition). unless (verdict cs) (unaryChecked q op (unitIn unit))) e,
-        ap (λ (cs : List Condition). unlessRefused (verdict cs) (storeAfter q page) page) e,
+  pub unary_alike : (readable unit && readable unit) ≡ true
+      → (unary_answer page names lent op (operand_of operand unit) ≡ unary_in page names lent op operand unit)
+      × (unary_page page names lent op (operand_of operand unit) ≡ unary_page_in page names lent op operand unit)
+  unfolding unary_answer unary_page unary_verdict_in
+  unary_alike h =
+      let e = operands_alike page names lent operand unit operand unit h (used_of names lent) in
+      let verdict : List Condition → Verdict = λ cs. lowest ((Undefined when not (is_operator op)) ∷ (Broken when store_broken page names lent) ∷ cs) in
+      let q = check_unary page op (checked_of operand) in (
+        ap (λ (cs : List Condition). unless (verdict cs) (unary_checked q op (unit_in unit))) e,
+        ap (λ (cs : List Condition). unless_refused (verdict cs) (store_after q page) page) e,
       )
 
-  pub unary-undefined : isOperator op ≡ false → Refused Undefined ≡ unaryVerdictIn page names lent op operand unit
-  unfolding unaryVerdictIn
-  unary-undefined o =
-      sym (rw o (first-holds Undefined ((Broken when storeBroken page names lent) ∷ operandsIn page (usedOf names lent) operand unit operand unit) refl))
+  pub unary_undefined : is_operator op ≡ false → Refused Undefined ≡ unary_verdict_in page names lent op operand unit
+  unfolding unary_verdict_in
+  unary_undefined o =
+      sym (rw o (first_holds Undefined ((Broken when store_broken page names lent) ∷ operands_in page (used_of names lent) operand unit operand unit) refl))
 
-  pub unary-rest : isOperator op ≡ true → operandsVerdictIn page names lent operand unit operand unit ≡ unaryVerdictIn page names lent op operand unit
-  unfolding unaryVerdictIn operandsVerdictIn
-  unary-rest o = rw o
+  pub unary_rest : is_operator op ≡ true → operands_verdict_in page names lent operand unit operand unit ≡ unary_verdict_in page names lent op operand unit
+  unfolding unary_verdict_in operands_verdict_in
+  unary_rest o = rw o
 
 -- a key, whose bytes say that it has no unit
-pub index-alike : (page names : List ℕ) (lent : Bool) (target : ℕ) (unit : List ℕ) (key : ℕ) → (readable unit && readable (noneCount ∷ [])) ≡ true
-    → (indexAnswer page names lent (operandOf target unit) (checkedOf key) ≡ indexIn page names lent target unit key)
-    × (indexPage page names lent (operandOf target unit) (checkedOf key) ≡ indexPageIn page names lent target unit key)
-unfolding indexAnswer indexPage operandsVerdictIn
-index-alike page names lent target unit key h =
-    let none : operandOf key (noneCount ∷ []) ≡ keyed (checkedOf key) = unfold unitIn in refl in
+pub index_alike : (page names : List ℕ) (lent : Bool) (target : ℕ) (unit : List ℕ) (key : ℕ) → (readable unit && readable (none_count ∷ [])) ≡ true
+    → (index_answer page names lent (operand_of target unit) (checked_of key) ≡ index_in page names lent target unit key)
+    × (index_page page names lent (operand_of target unit) (checked_of key) ≡ index_page_in page names lent target unit key)
+unfolding index_answer index_page operands_verdict_in
+index_alike page names lent target unit key h =
+    let none : operand_of key (none_count ∷ []) ≡ keyed (checked_of key) = unfold unit_in in refl in
     let e =
-    ap (λ x. operandConditions page (usedOf names lent) (operandOf target unit) x) (sym none)
-    ∙ operands-alike page names lent target unit key (noneCount ∷ []) h (usedOf names lent) in
-    let verdict : List Condition → Verdict = λ cs. lowest ((Broken when storeBroken page names lent) ∷ cs) in
-    let q = checkIndex page (checkedOf key) (checkedOf target) in (
-      ap (λ (cs : List Condition). unless (verdict cs) (concludedBy q.conclusion (unitIn unit))) e,
-      ap (λ (cs : List Condition). unlessRefused (verdict cs) (storeAfter q page) page) e,
+    ap (λ x. operand_conditions page (used_of names lent) (operand_of target unit) x) (sym none)
+    ∙ operands_alike page names lent target unit key (none_count ∷ []) h (used_of names lent) in
+    let verdict : List Condition → Verdict = λ cs. lowest ((Broken when store_broken page names lent) ∷ cs) in
+    let q = check_index page (checked_of key) (checked_of target) in (
+      ap (λ (cs : List Condition). unless (verdict cs) (concluded_by q.conclusion (unit_in unit))) e,
+      ap (λ (cs : List Condition). unless_refused (verdict cs) (store_after q page) page) e,
     )

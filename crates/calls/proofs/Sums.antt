@@ -6,19 +6,19 @@ use Prim.Native.Nat.{ℕ, ◌≤◌}
 use native.Mathlib.Omega.{arith}
 use Rattle.refusals.specs.declared.Verdict.{Verdict}
 use Rattle.refusals.specs.declared.Verdict.TheVariants.{Passed, Refused}
-use Rattle.names.specs.Table.{namesMax}
-use Rattle.units.specs.Unit.{placesMax}
-use Rattle.units.specs.Calls.{termsOf}
+use Rattle.names.specs.Table.{names_max}
+use Rattle.units.specs.Unit.{places_max}
+use Rattle.units.specs.Calls.{terms_of}
 use Rattle.units.specs.declared.Unit.{Unit}
-use Rattle.sums.specs.Calls.{unitsVerdict, rootsIn, sumsAnswer}
-use Rattle.sums.proofs.Bound.{sums-bound}
-use Rattle.sums.proofs.Calls.{passed-left, sums-refused, sums-given}
+use Rattle.sums.specs.Calls.{units_verdict, roots_in, sums_answer}
+use Rattle.sums.proofs.Bound.{sums_bound}
+use Rattle.sums.proofs.Calls.{passed_left, sums_refused, sums_given}
 
-pub sums-few : (page names : List ℕ) (lent : Bool) (u : Unit) → (sumsAnswer page names lent u).sums.count ≤ placesMax
-sums-few page names lent u = go (unitsVerdict page names lent (u ∷ u ∷ [])) refl
+pub sums_few : (page names : List ℕ) (lent : Bool) (u : Unit) → (sums_answer page names lent u).sums.count ≤ places_max
+sums_few page names lent u = go (units_verdict page names lent (u ∷ u ∷ [])) refl
   where
-    go : (v : Verdict) → v ≡ unitsVerdict page names lent (u ∷ u ∷ []) → (sumsAnswer page names lent u).sums.count ≤ placesMax
+    go : (v : Verdict) → v ≡ units_verdict page names lent (u ∷ u ∷ []) → (sums_answer page names lent u).sums.count ≤ places_max
     go Passed is =
-        let e = sums-given page names lent u Passed is refl (rootsIn page) (λ s. refl) in
-        rw (← e) (sums-bound placesMax namesMax (rootsIn page) (termsOf u) (passed-left page names lent u u (sym is))).1
-    go (Refused r) is = let e = sums-refused page names lent u (Refused r) is refl in rw (← e) (omega arith)
+        let e = sums_given page names lent u Passed is refl (roots_in page) (λ s. refl) in
+        rw (← e) (sums_bound places_max names_max (roots_in page) (terms_of u) (passed_left page names lent u u (sym is))).1
+    go (Refused r) is = let e = sums_refused page names lent u (Refused r) is refl in rw (← e) (omega arith)

@@ -5,26 +5,26 @@
 
 ghost use Rattle.std.specs.Prelude.{◌≡◌, false, ◌&&◌, List, [], ◌∷◌, ℕ, ◌≤◌, ◌<◌, length, replicate};
 ghost use Rattle.refusals.specs.declared.Verdict.{Verdict};
-ghost use Rattle.refusals.specs.Lowest.{unlessRefused};
-ghost use Rattle.names.specs.Table.{namesMax};
-ghost use Rattle.names.specs.Calls.{emptyVerdict, emptyPage, addAnswer, pageAfter, findAnswer, readAnswer};
-ghost use Rattle.units.specs.Unit.{placesMax};
-ghost use Rattle.units.specs.Calls.{formVerdict, exponentAnswer};
+ghost use Rattle.refusals.specs.Lowest.{unless_refused};
+ghost use Rattle.names.specs.Table.{names_max};
+ghost use Rattle.names.specs.Calls.{empty_verdict, empty_page, add_answer, page_after, find_answer, read_answer};
+ghost use Rattle.units.specs.Unit.{places_max};
+ghost use Rattle.units.specs.Calls.{form_verdict, exponent_answer};
 ghost use Rattle.groups.specs.Groups.{pair};
-ghost use Rattle.pairs.specs.Calls.{pairVerdict, rootAnswer, factorAnswer};
+ghost use Rattle.pairs.specs.Calls.{pair_verdict, root_answer, factor_answer};
 ghost use Rattle.pairs.specs.Calls as tables;
-ghost use Rattle.kinds.specs.Kinds.{childrenMax};
+ghost use Rattle.kinds.specs.Kinds.{children_max};
 ghost use Rattle.types.specs.Types.{Held};
-ghost use Rattle.types.specs.Calls.{makeAnswer, makePage};
+ghost use Rattle.types.specs.Calls.{make_answer, make_page};
 ghost use Rattle.types.specs.Calls as store;
-ghost use Rattle.bindings.specs.Bindings.{bindingsMax};
-ghost use Rattle.checked.specs.Calls.{matchesAnswer, genericAnswer, intoConst, intoConstPage, substituteAnswer, substitutePage};
+ghost use Rattle.bindings.specs.Bindings.{bindings_max};
+ghost use Rattle.checked.specs.Calls.{matches_answer, generic_answer, into_const, into_const_page, substitute_answer, substitute_page};
 ghost use Rattle.pages.specs.Pad.{pad};
-ghost use Rattle.values.specs.Value.{noneCount, unitMax, readable, unitIn, valueIn};
-ghost use Rattle.sums.specs.Calls.{orEmpty};
-ghost use Rattle.calls.specs.Types.{madeCode, typeBytes, bytesOfType, checkedOf, bindingBytes, bindingsIn, bytesOfBindings, numberIn, constCode, bindingsAfter, unifyIn, unifyArgIn};
-ghost use Rattle.calls.specs.Codes.{packed, addedCode, foundCode, powerCode, answerCode, brokenUnit, unitOrBroken, unitlessIn, productIn, textVerdictIn, textIn, bytesOfUnit, rootCode, factorCode, outAfterFactor, unitsVerdictIn, groupSumsIn, bytesOfSums, convertibleIn, unitsIn};
-ghost use Rattle.calls.specs.Answers.{answeredCode, bytesOfErrors, bytesOfMaybe, answerBytes, bytesOfAnswer, outAfterAnswer, operandUsedIn, operandsVerdictIn, binaryVerdictIn, binaryIn, unaryVerdictIn, unaryIn, unaryPageIn, indexIn, indexPageIn};
+ghost use Rattle.values.specs.Value.{none_count, unit_max, readable, unit_in, value_in};
+ghost use Rattle.sums.specs.Calls.{or_empty};
+ghost use Rattle.calls.specs.Types.{made_code, type_bytes, bytes_of_type, checked_of, binding_bytes, bindings_in, bytes_of_bindings, number_in, const_code, bindings_after, unify_in, unify_arg_in};
+ghost use Rattle.calls.specs.Codes.{packed, added_code, found_code, power_code, answer_code, broken_unit, unit_or_broken, unitless_in, product_in, text_verdict_in, text_in, bytes_of_unit, root_code, factor_code, out_after_factor, units_verdict_in, group_sums_in, bytes_of_sums, convertible_in, units_in};
+ghost use Rattle.calls.specs.Answers.{answered_code, bytes_of_errors, bytes_of_maybe, answer_bytes, bytes_of_answer, out_after_answer, operand_used_in, operands_verdict_in, binary_verdict_in, binary_in, unary_verdict_in, unary_in, unary_page_in, index_in, index_page_in};
 
 use answers::{Answered, CheckedExpr};
 use bindings::{BINDINGS, Bindings};
@@ -63,7 +63,7 @@ fn refused_as(refusal: Refusal) -> u32
 // Makes the page an empty table of names.
 #[unsafe(no_mangle)]
 pub extern "C" fn riddlepoppy_empty_names(page: &mut [u8]) -> u32
-    ensures { (result ≡ packed (emptyVerdict page.old) 0) × (page.new ≡ emptyPage page.old) }
+    ensures { (result ≡ packed (empty_verdict page.old) 0) × (page.new ≡ empty_page page.old) }
 {
     packed_as(names::empty_names(page), 0)
 }
@@ -71,7 +71,7 @@ pub extern "C" fn riddlepoppy_empty_names(page: &mut [u8]) -> u32
 // The number of a name, which is added if it is new.
 #[unsafe(no_mangle)]
 pub extern "C" fn riddlepoppy_add_name(page: &mut [u8], name: &[u8]) -> u32
-    ensures { (result ≡ addedCode (addAnswer namesMax page.old name.now)) × (page.new ≡ pageAfter namesMax page.old name.now) }
+    ensures { (result ≡ added_code (add_answer names_max page.old name.now)) × (page.new ≡ page_after names_max page.old name.now) }
 {
     let added = names::add_name(page, name);
     match added {
@@ -83,7 +83,7 @@ pub extern "C" fn riddlepoppy_add_name(page: &mut [u8], name: &[u8]) -> u32
 // The number of a name, or 65,535 where the table does not have it.
 #[unsafe(no_mangle)]
 pub extern "C" fn riddlepoppy_find_name(page: &[u8], name: &[u8]) -> u32
-    ensures { result ≡ foundCode (findAnswer page.now name.now) }
+    ensures { result ≡ found_code (find_answer page.now name.now) }
 {
     let found = names::find_name(page, name);
     match found {
@@ -96,7 +96,7 @@ pub extern "C" fn riddlepoppy_find_name(page: &[u8], name: &[u8]) -> u32
 // The name with number k, and its length.
 #[unsafe(no_mangle)]
 pub extern "C" fn riddlepoppy_read_name(page: &[u8], k: u32, out: &mut [u8; NAME_BYTES]) -> u32
-    ensures { (result ≡ packed (readAnswer page.now k).verdict (readAnswer page.now k).size) × (out.new ≡ unlessRefused (readAnswer page.now k).verdict (readAnswer page.now k).bytes out.old) }
+    ensures { (result ≡ packed (read_answer page.now k).verdict (read_answer page.now k).size) × (out.new ≡ unless_refused (read_answer page.now k).verdict (read_answer page.now k).bytes out.old) }
 {
     let name = names::read_name(page, k as usize);
     let verdict = name.verdict;
@@ -109,7 +109,7 @@ pub extern "C" fn riddlepoppy_read_name(page: &[u8], k: u32, out: &mut [u8; NAME
 }
 
 fn broken_unit() -> Unit
-    ensures { result ≡ brokenUnit }
+    ensures { result ≡ broken_unit }
 {
     Unit {
         count: PLACES + 1,
@@ -120,7 +120,7 @@ fn broken_unit() -> Unit
 
 // The unit that the bytes say, where no symbol is looked up; bytes that say none give one that breaks its form.
 fn unit_or_broken(bytes: &[u8]) -> Unit
-    ensures { result ≡ unitOrBroken bytes.now }
+    ensures { result ≡ unit_or_broken bytes.now }
 {
     let value = values::read_value(bytes);
     let unit = value.unit;
@@ -133,7 +133,7 @@ fn unit_or_broken(bytes: &[u8]) -> Unit
 // Whether a unit is in form.
 #[unsafe(no_mangle)]
 pub extern "C" fn riddlepoppy_unit_form(unit: &[u8]) -> u32
-    ensures { result ≡ packed (formVerdict (unitOrBroken unit.now)) 0 }
+    ensures { result ≡ packed (form_verdict (unit_or_broken unit.now)) 0 }
 {
     packed_as(units::unit_form(unit_or_broken(unit)), 0)
 }
@@ -146,7 +146,7 @@ pub extern "C" fn riddlepoppy_product(
     quotient: bool,
     out: &mut [u8; UNIT_BYTES],
 ) -> u32
-    ensures { (result ≡ packed (productIn quotient a.now b.now).verdict 0) × (out.new ≡ unlessRefused (productIn quotient a.now b.now).verdict (bytesOfUnit (productIn quotient a.now b.now).unit) out.old) }
+    ensures { (result ≡ packed (product_in quotient a.now b.now).verdict 0) × (out.new ≡ unless_refused (product_in quotient a.now b.now).verdict (bytes_of_unit (product_in quotient a.now b.now).unit) out.old) }
 {
     let result = units::product(unit_or_broken(a), unit_or_broken(b), quotient);
     let verdict = result.verdict;
@@ -161,7 +161,7 @@ pub extern "C" fn riddlepoppy_product(
 // The exponent of a symbol, as its sixteen bits.
 #[unsafe(no_mangle)]
 pub extern "C" fn riddlepoppy_exponent(unit: &[u8], symbol: Symbol) -> u32
-    ensures { result ≡ powerCode (exponentAnswer (unitOrBroken unit.now) symbol) }
+    ensures { result ≡ power_code (exponent_answer (unit_or_broken unit.now) symbol) }
 {
     let power = units::exponent(unit_or_broken(unit), symbol);
     match power {
@@ -172,7 +172,7 @@ pub extern "C" fn riddlepoppy_exponent(unit: &[u8], symbol: Symbol) -> u32
 
 // A plain answer as one number: 1 for yes.
 fn answer_code(answer: Answer) -> u32
-    ensures { result ≡ answerCode answer }
+    ensures { result ≡ answer_code answer }
 {
     match answer {
         Answer::Yes => packed_as(Verdict::Passed, 1),
@@ -184,7 +184,7 @@ fn answer_code(answer: Answer) -> u32
 // Whether there is no unit, or the empty one: 1 for yes.
 #[unsafe(no_mangle)]
 pub extern "C" fn riddlepoppy_is_dimensionless(bytes: &[u8]) -> u32
-    ensures { result ≡ answerCode (unitlessIn bytes.now) }
+    ensures { result ≡ answer_code (unitless_in bytes.now) }
 {
     let value = values::read_value(bytes);
     let verdict = value.verdict;
@@ -197,8 +197,8 @@ pub extern "C" fn riddlepoppy_is_dimensionless(bytes: &[u8]) -> u32
 
 // Why a text is refused of bytes that say no unit.
 fn unread_text(page: &[u8], unit: &[u8]) -> Refusal
-    requires { (unitIn unit.now).some ≡ false }
-    ensures { Verdict.Refused result ≡ textVerdictIn page.now unit.now }
+    requires { (unit_in unit.now).some ≡ false }
+    ensures { Verdict.Refused result ≡ text_verdict_in page.now unit.now }
 {
     if !names::is_formed(page) {
         return Refusal::Broken;
@@ -211,7 +211,7 @@ fn unread_text(page: &[u8], unit: &[u8]) -> Refusal
 
 // The text of the unit that the bytes say.
 fn text_in(page: &[u8], unit: &[u8]) -> Text
-    ensures { result ≡ textIn page.now unit.now }
+    ensures { result ≡ text_in page.now unit.now }
 {
     let value = values::read_value(unit);
     let m = value.unit;
@@ -224,7 +224,7 @@ fn text_in(page: &[u8], unit: &[u8]) -> Text
 // The text of a unit, and its length.
 #[unsafe(no_mangle)]
 pub extern "C" fn riddlepoppy_unit_text(page: &[u8], unit: &[u8], out: &mut [u8; TEXT_BYTES]) -> u32
-    ensures { (result ≡ packed (textIn page.now unit.now).verdict (textIn page.now unit.now).size) × (out.new ≡ unlessRefused (textIn page.now unit.now).verdict (textIn page.now unit.now).bytes out.old) }
+    ensures { (result ≡ packed (text_in page.now unit.now).verdict (text_in page.now unit.now).size) × (out.new ≡ unless_refused (text_in page.now unit.now).verdict (text_in page.now unit.now).bytes out.old) }
 {
     let text = text_in(page, unit);
     let verdict = text.verdict;
@@ -239,7 +239,7 @@ pub extern "C" fn riddlepoppy_unit_text(page: &[u8], unit: &[u8], out: &mut [u8;
 // Makes the page a table without pairs.
 #[unsafe(no_mangle)]
 pub extern "C" fn riddlepoppy_empty_pairs(page: &mut [u8]) -> u32
-    ensures { (result ≡ packed (tables.emptyVerdict page.old) 0) × (page.new ≡ tables.emptyPage page.old) }
+    ensures { (result ≡ packed (tables.empty_verdict page.old) 0) × (page.new ≡ tables.empty_page page.old) }
 {
     packed_as(pairs::empty_pairs(page), 0)
 }
@@ -254,7 +254,7 @@ pub extern "C" fn riddlepoppy_insert_pair(
     factor: u64,
     base: Symbol,
 ) -> u32
-    ensures { (result ≡ packed (pairVerdict page.old names.now lent (pair symbol base)) 0) × (page.new ≡ tables.pageAfter page.old names.now lent symbol factor base) }
+    ensures { (result ≡ packed (pair_verdict page.old names.now lent (pair symbol base)) 0) × (page.new ≡ tables.page_after page.old names.now lent symbol factor base) }
 {
     packed_as(
         pairs::insert_pair(page, names, lent, symbol, factor, base),
@@ -270,7 +270,7 @@ pub extern "C" fn riddlepoppy_canonical(
     lent: bool,
     symbol: Symbol,
 ) -> u32
-    ensures { result ≡ rootCode (rootAnswer page.now names.now lent symbol) }
+    ensures { result ≡ root_code (root_answer page.now names.now lent symbol) }
 {
     let root = pairs::canonical(page, names, lent, symbol);
     match root {
@@ -288,7 +288,7 @@ pub extern "C" fn riddlepoppy_first_factor(
     symbol: Symbol,
     out: &mut [u8; LONG_BYTES],
 ) -> u32
-    ensures { (result ≡ factorCode (factorAnswer page.now names.now lent symbol)) × (out.new ≡ outAfterFactor (factorAnswer page.now names.now lent symbol) out.old) }
+    ensures { (result ≡ factor_code (factor_answer page.now names.now lent symbol)) × (out.new ≡ out_after_factor (factor_answer page.now names.now lent symbol) out.old) }
 {
     let first = pairs::first_factor(page, names, lent, symbol);
     match first {
@@ -303,8 +303,8 @@ pub extern "C" fn riddlepoppy_first_factor(
 
 // Group sums in the form of a unit's bytes.
 fn sums_bytes(sums: Sums) -> UnitBytes
-    requires { sums.count ≤ placesMax }
-    ensures { result ≡ bytesOfSums sums }
+    requires { sums.count ≤ places_max }
+    ensures { result ≡ bytes_of_sums sums }
 {
     let count = sums.count;
     let symbols = sums.symbols;
@@ -326,7 +326,7 @@ struct Units {
 
 // Whether bytes say a unit, in form or not, or none.
 fn is_readable(value: Value) -> bool
-    ensures { (bytes : List ℕ) → value ≡ valueIn bytes → result ≡ readable bytes }
+    ensures { (bytes : List ℕ) → value ≡ value_in bytes → result ≡ readable bytes }
 {
     let verdict = value.verdict;
     !refusals::is_refused(verdict)
@@ -334,7 +334,7 @@ fn is_readable(value: Value) -> bool
 
 // The units that two slices say, or none.
 fn units_in(left: &[u8], right: &[u8]) -> Units
-    ensures { result ≡ unitsIn left.now right.now }
+    ensures { result ≡ units_in left.now right.now }
 {
     let a = values::read_value(left);
     let b = values::read_value(right);
@@ -350,7 +350,7 @@ fn units_in(left: &[u8], right: &[u8]) -> Units
 // Why two units are refused, over the pairs of a page, where one of them cannot be read.
 fn unread_units(page: &[u8], names: &[u8], lent: bool, left: &[u8], right: &[u8]) -> Refusal
     requires { (readable left.now && readable right.now) ≡ false }
-    ensures { Verdict.Refused result ≡ unitsVerdictIn page.now names.now lent left.now right.now }
+    ensures { Verdict.Refused result ≡ units_verdict_in page.now names.now lent left.now right.now }
 {
     if pairs::is_broken(page, names, lent) {
         return Refusal::Broken;
@@ -374,7 +374,7 @@ pub extern "C" fn riddlepoppy_canonicalize(
     unit: &[u8],
     out: &mut [u8; UNIT_BYTES],
 ) -> u32
-    ensures { (result ≡ packed (groupSumsIn page.now names.now lent unit.now).verdict 0) × (out.new ≡ unlessRefused (groupSumsIn page.now names.now lent unit.now).verdict (bytesOfSums (groupSumsIn page.now names.now lent unit.now).sums) out.old) }
+    ensures { (result ≡ packed (group_sums_in page.now names.now lent unit.now).verdict 0) × (out.new ≡ unless_refused (group_sums_in page.now names.now lent unit.now).verdict (bytes_of_sums (group_sums_in page.now names.now lent unit.now).sums) out.old) }
 {
     let units = units_in(unit, unit);
     if !units.readable {
@@ -399,7 +399,7 @@ pub extern "C" fn riddlepoppy_is_convertible_to(
     left: &[u8],
     right: &[u8],
 ) -> u32
-    ensures { result ≡ answerCode (convertibleIn page.now names.now lent left.now right.now) }
+    ensures { result ≡ answer_code (convertible_in page.now names.now lent left.now right.now) }
 {
     let units = units_in(left, right);
     if !units.readable {
@@ -411,14 +411,14 @@ pub extern "C" fn riddlepoppy_is_convertible_to(
 // Makes the page a store of the fixed types alone.
 #[unsafe(no_mangle)]
 pub extern "C" fn riddlepoppy_empty_types(page: &mut [u8]) -> u32
-    ensures { (result ≡ packed (store.emptyVerdict page.old) 0) × (page.new ≡ store.emptyPage page.old) }
+    ensures { (result ≡ packed (store.empty_verdict page.old) 0) × (page.new ≡ store.empty_page page.old) }
 {
     packed_as(types::empty_types(page), 0)
 }
 
 // The number of a type that was made, or the refusal, as one number.
 fn made_code(made: Made) -> u32
-    ensures { result ≡ madeCode made }
+    ensures { result ≡ made_code made }
 {
     match made {
         Made::At(t) => packed_as(Verdict::Passed, t),
@@ -436,7 +436,7 @@ pub extern "C" fn riddlepoppy_make_type(
     children: &[u16],
     name: Symbol,
 ) -> u32
-    ensures { (result ≡ madeCode (makeAnswer page.old names.now lent kind children.now name)) × (page.new ≡ makePage page.old names.now lent kind children.now name) }
+    ensures { (result ≡ made_code (make_answer page.old names.now lent kind children.now name)) × (page.new ≡ make_page page.old names.now lent kind children.now name) }
 {
     made_code(types::make_type(page, names, lent, kind, children, name))
 }
@@ -449,15 +449,15 @@ type TypeBytes = [u8; TYPE_BYTES];
 
 // No byte of a type yet.
 fn no_type_bytes() -> TypeBytes
-    ensures { result ≡ replicate typeBytes 0 }
+    ensures { result ≡ replicate type_bytes 0 }
 {
     [0; TYPE_BYTES]
 }
 
 // A type's depth and entry, and zeros after them.
 fn type_bytes(shape: Shape) -> TypeBytes
-    requires { (shape.depth < 256) × (shape.count ≤ childrenMax) }
-    ensures { result ≡ bytesOfType shape }
+    requires { (shape.depth < 256) × (shape.count ≤ children_max) }
+    ensures { result ≡ bytes_of_type shape }
 {
     let children = shape.children;
     let count = shape.count;
@@ -479,7 +479,7 @@ pub extern "C" fn riddlepoppy_read_type(
     t: u32,
     out: &mut [u8; TYPE_BYTES],
 ) -> u32
-    ensures { (result ≡ packed (store.readAnswer page.now names.now lent t).verdict 0) × (out.new ≡ unlessRefused (store.readAnswer page.now names.now lent t).verdict (bytesOfType (store.readAnswer page.now names.now lent t).shape) out.old) }
+    ensures { (result ≡ packed (store.read_answer page.now names.now lent t).verdict 0) × (out.new ≡ unless_refused (store.read_answer page.now names.now lent t).verdict (bytes_of_type (store.read_answer page.now names.now lent t).shape) out.old) }
 {
     let result = types::read_type(page, names, lent, t as usize);
     let verdict = result.verdict;
@@ -498,7 +498,7 @@ const UNKNOWN: usize = 2 * FUNCTIONS;
 
 // The checked type that a number says.
 fn checked_of(c: u32) -> Checked
-    ensures { result ≡ checkedOf c }
+    ensures { result ≡ checked_of c }
 {
     let n = c as usize;
     if n < FUNCTIONS {
@@ -525,28 +525,28 @@ type BoundTypes = [u16; BINDINGS];
 
 // No byte yet.
 fn no_binding_bytes() -> BindingBytes
-    ensures { result ≡ replicate bindingBytes 0 }
+    ensures { result ≡ replicate binding_bytes 0 }
 {
     [0; BINDING_BYTES]
 }
 
 // No name yet.
 fn no_names() -> BoundNames
-    ensures { result ≡ replicate bindingsMax 0 }
+    ensures { result ≡ replicate bindings_max 0 }
 {
     [0; BINDINGS]
 }
 
 // No type yet.
 fn no_types() -> BoundTypes
-    ensures { result ≡ replicate bindingsMax 0 }
+    ensures { result ≡ replicate bindings_max 0 }
 {
     [0; BINDINGS]
 }
 
 // The bindings that the bytes say.
 fn bindings_in(bytes: BindingBytes) -> Bindings
-    ensures { (result ≡ bindingsIn bytes) × (result.count < 256) × (length result.names ≡ bindingsMax) × (length result.types ≡ bindingsMax) }
+    ensures { (result ≡ bindings_in bytes) × (result.count < 256) × (length result.names ≡ bindings_max) × (length result.types ≡ bindings_max) }
 {
     let mut names = no_names();
     pages::read_bytes(&bytes, 1, &mut names);
@@ -562,7 +562,7 @@ fn bindings_in(bytes: BindingBytes) -> Bindings
 // The bytes of bindings.
 fn binding_bytes(bindings: Bindings) -> BindingBytes
     requires { bindings.count < 256 }
-    ensures { result ≡ bytesOfBindings bindings }
+    ensures { result ≡ bytes_of_bindings bindings }
 {
     let count = [bindings.count as u8];
     let names = bindings.names;
@@ -583,7 +583,7 @@ pub extern "C" fn riddlepoppy_matches(
     actual: u32,
     expected: u32,
 ) -> u32
-    ensures { result ≡ answerCode (matchesAnswer page.now names.now lent (checkedOf actual) (checkedOf expected)) }
+    ensures { result ≡ answer_code (matches_answer page.now names.now lent (checked_of actual) (checked_of expected)) }
 {
     let a = checked_of(actual);
     let e = checked_of(expected);
@@ -593,7 +593,7 @@ pub extern "C" fn riddlepoppy_matches(
 // Whether a generic name stands in a type: 1 for yes.
 #[unsafe(no_mangle)]
 pub extern "C" fn riddlepoppy_has_generic(page: &[u8], names: &[u8], lent: bool, t: u32) -> u32
-    ensures { result ≡ answerCode (genericAnswer page.now names.now lent t) }
+    ensures { result ≡ answer_code (generic_answer page.now names.now lent t) }
 {
     answer_code(checked::has_generic(page, names, lent, t as usize))
 }
@@ -603,7 +603,7 @@ const ANSWERED_FUNCTIONS: usize = 32768;
 
 // A checked type as it is answered: its number, of a Function that much higher, or 65,535 where none is known.
 fn number_of(c: Checked) -> usize
-    ensures { result ≡ numberIn c }
+    ensures { result ≡ number_in c }
 {
     match c {
         Checked::Known(t) => t,
@@ -615,7 +615,7 @@ fn number_of(c: Checked) -> usize
 // The number of a checked type's const form, which is made if it is new.
 #[unsafe(no_mangle)]
 pub extern "C" fn riddlepoppy_into_const(page: &mut [u8], names: &[u8], lent: bool, c: u32) -> u32
-    ensures { (result ≡ constCode (intoConst page.old names.now lent (checkedOf c))) × (page.new ≡ intoConstPage page.old names.now lent (checkedOf c)) }
+    ensures { (result ≡ const_code (into_const page.old names.now lent (checked_of c))) × (page.new ≡ into_const_page page.old names.now lent (checked_of c)) }
 {
     let result = checked::into_const(page, names, lent, checked_of(c));
     let verdict = result.verdict;
@@ -629,7 +629,7 @@ pub extern "C" fn riddlepoppy_into_const(page: &mut [u8], names: &[u8], lent: bo
 // A plain answer as one number, and the bindings beside it written back unless it is a refusal.
 fn written_back(res: Unified, bytes: &mut [u8; BINDING_BYTES]) -> u32
     requires { res.bindings.count < 256 }
-    ensures { (result ≡ answerCode res.answer) × (bytes.new ≡ bindingsAfter res.answer res.bindings bytes.old) }
+    ensures { (result ≡ answer_code res.answer) × (bytes.new ≡ bindings_after res.answer res.bindings bytes.old) }
 {
     let answer = res.answer;
     match answer {
@@ -655,7 +655,7 @@ pub extern "C" fn riddlepoppy_unify(
     actual: u32,
     bindings: &mut [u8; BINDING_BYTES],
 ) -> u32
-    ensures { (result ≡ answerCode (unifyIn page.now names.now lent bindings.old expected actual).answer) × (bindings.new ≡ bindingsAfter (unifyIn page.now names.now lent bindings.old expected actual).answer (unifyIn page.now names.now lent bindings.old expected actual).bindings bindings.old) }
+    ensures { (result ≡ answer_code (unify_in page.now names.now lent bindings.old expected actual).answer) × (bindings.new ≡ bindings_after (unify_in page.now names.now lent bindings.old expected actual).answer (unify_in page.now names.now lent bindings.old expected actual).bindings bindings.old) }
 {
     let bytes = *bindings;
     let bound = bindings_in(bytes);
@@ -673,7 +673,7 @@ pub extern "C" fn riddlepoppy_unify_arg(
     actual: u32,
     bindings: &mut [u8; BINDING_BYTES],
 ) -> u32
-    ensures { (result ≡ answerCode (unifyArgIn page.now names.now lent bindings.old expected actual).answer) × (bindings.new ≡ bindingsAfter (unifyArgIn page.now names.now lent bindings.old expected actual).answer (unifyArgIn page.now names.now lent bindings.old expected actual).bindings bindings.old) }
+    ensures { (result ≡ answer_code (unify_arg_in page.now names.now lent bindings.old expected actual).answer) × (bindings.new ≡ bindings_after (unify_arg_in page.now names.now lent bindings.old expected actual).answer (unify_arg_in page.now names.now lent bindings.old expected actual).bindings bindings.old) }
 {
     let bytes = *bindings;
     let bound = bindings_in(bytes);
@@ -691,7 +691,7 @@ pub extern "C" fn riddlepoppy_substitute(
     t: u32,
     bindings: &[u8; BINDING_BYTES],
 ) -> u32
-    ensures { (result ≡ madeCode (substituteAnswer page.old names.now lent (bindingsIn bindings.now) t)) × (page.new ≡ substitutePage page.old names.now lent (bindingsIn bindings.now) t) }
+    ensures { (result ≡ made_code (substitute_answer page.old names.now lent (bindings_in bindings.now) t)) × (page.new ≡ substitute_page page.old names.now lent (bindings_in bindings.now) t) }
 {
     let bytes = *bindings;
     let bound = bindings_in(bytes);
@@ -700,7 +700,7 @@ pub extern "C" fn riddlepoppy_substitute(
 
 // An operand: the checked type that a number says, and a unit or none.
 fn operand_of(c: u32, unit: MaybeUnit) -> CheckedExpr
-    ensures { result ≡ record { checked = checkedOf c; unit = unit } }
+    ensures { result ≡ record { checked = checked_of c; unit = unit } }
 {
     CheckedExpr {
         checked: checked_of(c),
@@ -719,7 +719,7 @@ fn unread_operands(
     other: &[u8],
 ) -> Refusal
     requires { (readable unit.now && readable other.now) ≡ false }
-    ensures { Verdict.Refused result ≡ operandsVerdictIn page.now names.now lent left unit.now right other.now }
+    ensures { Verdict.Refused result ≡ operands_verdict_in page.now names.now lent left unit.now right other.now }
 {
     let mut offsets = types::no_offsets();
     let mut depths = types::no_depths();
@@ -739,7 +739,7 @@ fn unread_operands(
 // Whether an operand's type, and the symbols that stand in its unit's bytes, of n numbers, are in use.
 fn is_operand_used(page: &[u8], offsets: &[usize], n: usize, c: u32, unit: &[u8]) -> bool
     requires { Held page.now offsets.now }
-    ensures { result ≡ operandUsedIn page.now n c unit.now }
+    ensures { result ≡ operand_used_in page.now n c unit.now }
 {
     if !checked::is_used(page, offsets, checked_of(c)) {
         return false;
@@ -760,7 +760,7 @@ type AnswerBytes = [u8; ANSWER_BYTES];
 
 // The bytes of errors.
 fn error_bytes(errors: Errors) -> ErrorBytes
-    ensures { result ≡ bytesOfErrors errors }
+    ensures { result ≡ bytes_of_errors errors }
 {
     [
         (errors.count % 256) as u8,
@@ -779,7 +779,7 @@ fn error_bytes(errors: Errors) -> ErrorBytes
 
 // The bytes that say that there is no unit.
 fn none_bytes() -> UnitBytes
-    ensures { result ≡ pad unitMax 0 (noneCount ∷ []) }
+    ensures { result ≡ pad unit_max 0 (none_count ∷ []) }
 {
     let none = [NONE_COUNT as u8];
     let mut bytes = [0u8; UNIT_BYTES];
@@ -789,8 +789,8 @@ fn none_bytes() -> UnitBytes
 
 // The bytes of a unit, or of none.
 fn maybe_bytes(m: MaybeUnit) -> UnitBytes
-    requires { (orEmpty m).count ≤ placesMax }
-    ensures { result ≡ bytesOfMaybe m }
+    requires { (or_empty m).count ≤ places_max }
+    ensures { result ≡ bytes_of_maybe m }
 {
     if m.some {
         return values::value_bytes(m.unit);
@@ -800,15 +800,15 @@ fn maybe_bytes(m: MaybeUnit) -> UnitBytes
 
 // No byte of an answer yet.
 fn no_answer_bytes() -> AnswerBytes
-    ensures { result ≡ replicate answerBytes 0 }
+    ensures { result ≡ replicate answer_bytes 0 }
 {
     [0; ANSWER_BYTES]
 }
 
 // The bytes of an answer: its errors, and its unit or none.
 fn answer_bytes(answer: Answered) -> AnswerBytes
-    requires { (orEmpty answer.unit).count ≤ placesMax }
-    ensures { result ≡ bytesOfAnswer answer }
+    requires { (or_empty answer.unit).count ≤ places_max }
+    ensures { result ≡ bytes_of_answer answer }
 {
     let e = answer.errors;
     let errors = error_bytes(e);
@@ -821,8 +821,8 @@ fn answer_bytes(answer: Answered) -> AnswerBytes
 
 // An answer as one number, and its bytes written down unless it is a refusal.
 fn written_down(answer: Answered, out: &mut [u8; ANSWER_BYTES]) -> u32
-    requires { (orEmpty answer.unit).count ≤ placesMax }
-    ensures { (result ≡ answeredCode answer) × (out.new ≡ outAfterAnswer answer out.old) }
+    requires { (or_empty answer.unit).count ≤ places_max }
+    ensures { (result ≡ answered_code answer) × (out.new ≡ out_after_answer answer out.old) }
 {
     let verdict = answer.verdict;
     if refusals::is_refused(verdict) {
@@ -846,7 +846,7 @@ fn unread_binary(
     other: &[u8],
 ) -> Refusal
     requires { (readable unit.now && readable other.now) ≡ false }
-    ensures { Verdict.Refused result ≡ binaryVerdictIn page.now names.now lent table.now op left unit.now right other.now }
+    ensures { Verdict.Refused result ≡ binary_verdict_in page.now names.now lent table.now op left unit.now right other.now }
 {
     if !operators::is_operator(op) {
         return Refusal::Undefined;
@@ -867,7 +867,7 @@ fn unread_unary(
     unit: &[u8],
 ) -> Refusal
     requires { (readable unit.now && readable unit.now) ≡ false }
-    ensures { Verdict.Refused result ≡ unaryVerdictIn page.now names.now lent op operand unit.now }
+    ensures { Verdict.Refused result ≡ unary_verdict_in page.now names.now lent op operand unit.now }
 {
     if !operators::is_operator(op) {
         return Refusal::Undefined;
@@ -889,7 +889,7 @@ pub extern "C" fn riddlepoppy_check_binary_operator(
     other: &[u8],
     out: &mut [u8; ANSWER_BYTES],
 ) -> u32
-    ensures { (result ≡ answeredCode (binaryIn page.now names.now lent table.now op left unit.now right other.now)) × (out.new ≡ outAfterAnswer (binaryIn page.now names.now lent table.now op left unit.now right other.now) out.old) }
+    ensures { (result ≡ answered_code (binary_in page.now names.now lent table.now op left unit.now right other.now)) × (out.new ≡ out_after_answer (binary_in page.now names.now lent table.now op left unit.now right other.now) out.old) }
 {
     let units = units_in(unit, other);
     if !units.readable {
@@ -922,8 +922,8 @@ pub extern "C" fn riddlepoppy_check_unary_operator(
     unit: &[u8],
     out: &mut [u8; ANSWER_BYTES],
 ) -> u32
-    ensures value { (result ≡ answeredCode (unaryIn page.old names.now lent op operand unit.now)) × (out.new ≡ outAfterAnswer (unaryIn page.old names.now lent op operand unit.now) out.old) }
-    ensures page_after { page.new ≡ unaryPageIn page.old names.now lent op operand unit.now }
+    ensures value { (result ≡ answered_code (unary_in page.old names.now lent op operand unit.now)) × (out.new ≡ out_after_answer (unary_in page.old names.now lent op operand unit.now) out.old) }
+    ensures page_after { page.new ≡ unary_page_in page.old names.now lent op operand unit.now }
 {
     let units = units_in(unit, unit);
     if !units.readable {
@@ -945,8 +945,8 @@ pub extern "C" fn riddlepoppy_check_index(
     key: u32,
     out: &mut [u8; ANSWER_BYTES],
 ) -> u32
-    ensures value { (result ≡ answeredCode (indexIn page.old names.now lent target unit.now key)) × (out.new ≡ outAfterAnswer (indexIn page.old names.now lent target unit.now key) out.old) }
-    ensures page_after { page.new ≡ indexPageIn page.old names.now lent target unit.now key }
+    ensures value { (result ≡ answered_code (index_in page.old names.now lent target unit.now key)) × (out.new ≡ out_after_answer (index_in page.old names.now lent target unit.now key) out.old) }
+    ensures page_after { page.new ≡ index_page_in page.old names.now lent target unit.now key }
 {
     let none = [NONE_COUNT as u8];
     let units = units_in(unit, &none);

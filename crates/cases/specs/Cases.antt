@@ -4,24 +4,24 @@ use Rattle.refusals.specs.declared.Verdict.TheVariants.{Passed}
 use Rattle.refusals.specs.declared.Answer.{Answer}
 use Rattle.refusals.specs.declared.Answer.TheVariants.{Yes, No}
 use Rattle.pages.specs.Pad.{pad}
-use Rattle.names.specs.Table.{namesMax}
+use Rattle.names.specs.Table.{names_max}
 use Rattle.matching.specs.Matching.{matches}
 use Rattle.matching.specs.declared.Checked.TheVariants.{Known, Unknown}
-use Rattle.bindings.specs.Bindings.{bindingsMax}
+use Rattle.bindings.specs.Bindings.{bindings_max}
 use Rattle.bindings.specs.declared.Bindings.{Bindings}
 use Rattle.unification.specs.Unification.{unified, unify}
-use Rattle.units.specs.Unit.{placesMax, Term, term}
-use Rattle.units.specs.Product.{productOf, productVerdict}
-use Rattle.units.specs.Calls.{unitOf}
-use Rattle.groups.specs.Groups.{Pair, pair, rootOf}
-use Rattle.pairs.specs.Page.{sizeOf}
-use Rattle.pairs.specs.Calls.{emptyPage}
+use Rattle.units.specs.Unit.{places_max, Term, term}
+use Rattle.units.specs.Product.{product_of, product_verdict}
+use Rattle.units.specs.Calls.{unit_of}
+use Rattle.groups.specs.Groups.{Pair, pair, root_of}
+use Rattle.pairs.specs.Page.{size_of}
+use Rattle.pairs.specs.Calls.{empty_page}
 use Rattle.sums.specs.Sums.{convertible}
 use Rattle.operators.specs.Operators.{minus}
-use Rattle.operators.specs.Outcome.{noError, oneError, twoErrors, outcome, badUnits, leftNotBool, rightNotBool, noMember}
+use Rattle.operators.specs.Outcome.{no_error, one_error, two_errors, outcome, bad_units, left_not_bool, right_not_bool, no_member}
 use Rattle.operators.specs.declared.Outcome.{Outcome}
-use Rattle.answers.specs.Units.{noUnit}
-use Rattle.answers.specs.Calls.{answered, binaryAnswer, unaryAnswer, unaryPage}
+use Rattle.answers.specs.Units.{no_unit}
+use Rattle.answers.specs.Calls.{answered, binary_answer, unary_answer, unary_page}
 use Rattle.answers.specs.declared.CheckedExpr.{CheckedExpr}
 
 -- ---- types: those of one store, and others that are always there
@@ -51,8 +51,8 @@ null = 0
 abbrev int : ℕ
 int = 1
 
-abbrev constInt : ℕ
-constInt = 2
+abbrev const_int : ℕ
+const_int = 2
 
 abbrev uint : ℕ
 uint = 3
@@ -60,63 +60,63 @@ uint = 3
 abbrev bool : ℕ
 bool = 7
 
-abbrev arrayInt : ℕ
-arrayInt = 19
+abbrev array_int : ℕ
+array_int = 19
 
-abbrev constArrayFloat : ℕ
-constArrayFloat = 20
+abbrev const_array_float : ℕ
+const_array_float = 20
 
-abbrev arrayFloat : ℕ
-arrayFloat = 21
+abbrev array_float : ℕ
+array_float = 21
 
 abbrev tuple : ℕ
 tuple = 22
 
-abbrev tupleInt : ℕ
-tupleInt = 23
+abbrev tuple_int : ℕ
+tuple_int = 23
 
-abbrev tupleNullInt : ℕ
-tupleNullInt = 24
+abbrev tuple_null_int : ℕ
+tuple_null_int = 24
 
-abbrev tupleIntInt : ℕ
-tupleIntInt = 25
+abbrev tuple_int_int : ℕ
+tuple_int_int = 25
 
-abbrev tupleABool : ℕ
-tupleABool = 27
+abbrev tuple_a_bool : ℕ
+tuple_a_bool = 27
 
-abbrev tupleIntFloat : ℕ
-tupleIntFloat = 28
+abbrev tuple_int_float : ℕ
+tuple_int_float = 28
 
-abbrev arrayA : ℕ
-arrayA = 29
+abbrev array_a : ℕ
+array_a = 29
 
-abbrev arrayNull : ℕ
-arrayNull = 30
+abbrev array_null : ℕ
+array_null = 30
 
-abbrev anyOfNone : ℕ
-anyOfNone = 31
+abbrev any_of_none : ℕ
+any_of_none = 31
 
 -- the name of A
-abbrev nameA : ℕ
-nameA = 0
+abbrev name_a : ℕ
+name_a = 0
 
 -- these names bound to these types, in order, and zeros after them
 abbrev bound : List ℕ → List ℕ → Bindings
-bound names types = record { count = length names; names = pad bindingsMax 0 names; types = pad bindingsMax 0 types }
+bound names types = record { count = length names; names = pad bindings_max 0 names; types = pad bindings_max 0 types }
 
 -- ---- operands and tables
 
 -- a type with a symbol as its unit
-abbrev inUnit : ℕ → ℕ → CheckedExpr
-inUnit t s = record { checked = Known t; unit = record { some = true; unit = unitOf (term s (pos 1) ∷ []) } }
+abbrev in_unit : ℕ → ℕ → CheckedExpr
+in_unit t s = record { checked = Known t; unit = record { some = true; unit = unit_of (term s (pos 1) ∷ []) } }
 
 -- a type without a unit
 abbrev plain : ℕ → CheckedExpr
-plain t = record { checked = Known t; unit = noUnit }
+plain t = record { checked = Known t; unit = no_unit }
 
 -- a table without pairs
-abbrev noPairs : List ℕ
-noPairs = emptyPage (replicate (sizeOf 0) 0)
+abbrev no_pairs : List ℕ
+no_pairs = empty_page (replicate (size_of 0) 0)
 
 -- ---- what rows there are
 
@@ -139,13 +139,13 @@ pub data Case : Type 0 where
 -- what a row says
 abbrev pub Holds : Case → Type 0
 Holds (product quotient xs ys zs) =
-    (productVerdict placesMax namesMax quotient xs ys ≡ Passed) × (productOf namesMax quotient xs ys ≡ zs)
-Holds (root ps s r) = rootOf namesMax ps s ≡ r
-Holds (converts yes! ps xs ys) = convertible namesMax (rootOf namesMax ps) xs ys ≡ yes!
+    (product_verdict places_max names_max quotient xs ys ≡ Passed) × (product_of names_max quotient xs ys ≡ zs)
+Holds (root ps s r) = root_of names_max ps s ≡ r
+Holds (converts yes! ps xs ys) = convertible names_max (root_of names_max ps) xs ys ≡ yes!
 Holds (against yes! a b) = matches store (Known a) (Known b) ≡ yes!
 Holds (unifies r e a b) = unify store e a (bound [] []) ≡ unified r b
-Holds (binary op x y o) = binaryAnswer store [] false noPairs op x y ≡ answered o noUnit
-Holds (unary op x o) = (unaryAnswer store [] false op x ≡ answered o noUnit) × (unaryPage store [] false op x ≡ store)
+Holds (binary op x y o) = binary_answer store [] false no_pairs op x y ≡ answered o no_unit
+Holds (unary op x o) = (unary_answer store [] false op x ≡ answered o no_unit) × (unary_page store [] false op x ≡ store)
 
 -- ---- symbols
 
@@ -188,24 +188,24 @@ cases =
     ∷ against true null int
     ∷ against false int null
     -- "CInt against Int yes, reversed no"
-    ∷ against true constInt int
-    ∷ against false int constInt
+    ∷ against true const_int int
+    ∷ against false int const_int
     -- "Array Int against CArray Float yes, against Array Float no"
-    ∷ against true arrayInt constArrayFloat
-    ∷ against false arrayInt arrayFloat
+    ∷ against true array_int const_array_float
+    ∷ against false array_int array_float
     -- "Tuple() against Tuple(Int) yes"
-    ∷ against true tuple tupleInt
+    ∷ against true tuple tuple_int
     -- "Tuple(Null, Int) against Tuple(Int, Int) no"
-    ∷ against false tupleNullInt tupleIntInt
+    ∷ against false tuple_null_int tuple_int_int
     -- "Unify Tuple(A, Bool) with Tuple(Int, Float), A a Generic: no, yet A is bound to Int"
-    ∷ unifies No tupleABool tupleIntFloat (bound (nameA ∷ []) (int ∷ []))
+    ∷ unifies No tuple_a_bool tuple_int_float (bound (name_a ∷ []) (int ∷ []))
     -- "Array A with Array Null: yes, A unbound"
-    ∷ unifies Yes arrayA arrayNull (bound [] [])
+    ∷ unifies Yes array_a array_null (bound [] [])
     -- "UInt mm < UInt s: no error; == : reason 2, still Bool" ("Answers")
-    ∷ binary less (inUnit uint millimetre) (inUnit uint second) (outcome (Known bool) noError)
-    ∷ binary equals (inUnit uint millimetre) (inUnit uint second) (outcome (Known bool) (oneError badUnits))
+    ∷ binary less (in_unit uint millimetre) (in_unit uint second) (outcome (Known bool) no_error)
+    ∷ binary equals (in_unit uint millimetre) (in_unit uint second) (outcome (Known bool) (one_error bad_units))
     -- "Int and Int under `and`: reasons 3, 4, Bool"
-    ∷ binary and (plain int) (plain int) (outcome (Known bool) (twoErrors leftNotBool rightNotBool))
+    ∷ binary and (plain int) (plain int) (outcome (Known bool) (two_errors left_not_bool right_not_bool))
     -- "Unary − on Any(): reason 8"
-    ∷ unary minus (plain anyOfNone) (outcome Unknown (oneError noMember))
+    ∷ unary minus (plain any_of_none) (outcome Unknown (one_error no_member))
     ∷ []

@@ -8,77 +8,77 @@ use native.Mathlib.Omega.{arith}
 use lib.ListN.{get_or}
 use lib.Dec.{eqb}
 use borrow.Author.Tests.{eq-eqb, eqb-true, eqb-false}
-use Rattle.pages.specs.Quant.{anyTo}
-use Rattle.pages.proofs.Quant.{any-none, any-found}
-use Rattle.chains.specs.Last.{lastBelow, Links}
+use Rattle.pages.specs.Quant.{any_to}
+use Rattle.pages.proofs.Quant.{any_none, any_found}
+use Rattle.chains.specs.Last.{last_below, Links}
 
 alone : (a : Bool) → cond a true false ≡ a
 alone true = refl
 alone false = refl
 
 module _ (bucket : ℕ → ℕ) (b : ℕ) where
-  pub last-le : (i : ℕ) → lastBelow bucket i b ≤ i
-  unfolding lastBelow
-  last-le zero = omega arith
-  last-le (suc i) = go (eqb (bucket i) b) (last-le i)
+  pub last_le : (i : ℕ) → last_below bucket i b ≤ i
+  unfolding last_below
+  last_le zero = omega arith
+  last_le (suc i) = go (eqb (bucket i) b) (last_le i)
     where
-      go : (x : Bool) → lastBelow bucket i b ≤ i → cond x (suc i) (lastBelow bucket i b) ≤ suc i
+      go : (x : Bool) → last_below bucket i b ≤ i → cond x (suc i) (last_below bucket i b) ≤ suc i
       go true h = omega arith
       go false h = omega arith
 
-  last-here : (i : ℕ) → bucket i ≡ b → lastBelow bucket (suc i) b ≡ suc i
-  unfolding lastBelow
-  last-here i e = rw (eq-eqb (bucket i) b e)
+  last_here : (i : ℕ) → bucket i ≡ b → last_below bucket (suc i) b ≡ suc i
+  unfolding last_below
+  last_here i e = rw (eq-eqb (bucket i) b e)
 
-  last-last : (i : ℕ) → lastBelow bucket (lastBelow bucket i b) b ≡ lastBelow bucket i b
-  unfolding lastBelow
-  last-last zero = refl
-  last-last (suc i) = go (eqb (bucket i) b) refl (last-last i)
+  last_last : (i : ℕ) → last_below bucket (last_below bucket i b) b ≡ last_below bucket i b
+  unfolding last_below
+  last_last zero = refl
+  last_last (suc i) = go (eqb (bucket i) b) refl (last_last i)
     where
-      go : (x : Bool) → eqb (bucket i) b ≡ x → lastBelow bucket (lastBelow bucket i b) b ≡ lastBelow bucket i b
-          → lastBelow bucket (cond x (suc i) (lastBelow bucket i b)) b ≡ cond x (suc i) (lastBelow bucket i b)
-      go true e h = last-here i (eqb-true (bucket i) b e)
+      go : (x : Bool) → eqb (bucket i) b ≡ x → last_below bucket (last_below bucket i b) b ≡ last_below bucket i b
+          → last_below bucket (cond x (suc i) (last_below bucket i b)) b ≡ cond x (suc i) (last_below bucket i b)
+      go true e h = last_here i (eqb-true (bucket i) b e)
       go false e h = h
 
-  last-in : (k : ℕ) → lastBelow bucket (suc k) b ≡ suc k → bucket k ≡ b
-  unfolding lastBelow
-  last-in k = go (eqb (bucket k) b) refl
+  last_in : (k : ℕ) → last_below bucket (suc k) b ≡ suc k → bucket k ≡ b
+  unfolding last_below
+  last_in k = go (eqb (bucket k) b) refl
     where
-      go : (x : Bool) → eqb (bucket k) b ≡ x → cond x (suc k) (lastBelow bucket k b) ≡ suc k → bucket k ≡ b
+      go : (x : Bool) → eqb (bucket k) b ≡ x → cond x (suc k) (last_below bucket k b) ≡ suc k → bucket k ≡ b
       go true e h = eqb-true (bucket k) b e
-      go false e h = absurd (omega (arith, last-le k))
+      go false e h = absurd (omega (arith, last_le k))
 
   module _ (p : ℕ → Bool) (same : (j : ℕ) → p j ≡ true → bucket j ≡ b) where
-    any-last : (m : ℕ) → anyTo m p ≡ anyTo (lastBelow bucket m b) p
-    unfolding lastBelow anyTo
-    any-last zero = refl
-    any-last (suc i) = go (eqb (bucket i) b) (p i) refl refl (any-last i)
+    any_last : (m : ℕ) → any_to m p ≡ any_to (last_below bucket m b) p
+    unfolding last_below any_to
+    any_last zero = refl
+    any_last (suc i) = go (eqb (bucket i) b) (p i) refl refl (any_last i)
       where
-        go : (x y : Bool) → eqb (bucket i) b ≡ x → p i ≡ y → anyTo i p ≡ anyTo (lastBelow bucket i b) p
-            → cond (anyTo i p) true (p i) ≡ anyTo (cond x (suc i) (lastBelow bucket i b)) p
+        go : (x y : Bool) → eqb (bucket i) b ≡ x → p i ≡ y → any_to i p ≡ any_to (last_below bucket i b) p
+            → cond (any_to i p) true (p i) ≡ any_to (cond x (suc i) (last_below bucket i b)) p
         go true y e f h = refl
         go false true e f h = absurd (eqb-false (bucket i) b e (same i f))
-        go false false e f h = rw f (alone (anyTo i p) ∙ h)
+        go false false e f h = rw f (alone (any_to i p) ∙ h)
 
     -- the walk stands at a place of the chain: no thing from there on passes
     abbrev pub Walk : ℕ → ℕ → Type 0
-    Walk n at = (at ≤ n) × (lastBelow bucket at b ≡ at) × (anyTo n p ≡ anyTo at p)
+    Walk n at = (at ≤ n) × (last_below bucket at b ≡ at) × (any_to n p ≡ any_to at p)
 
-    pub walk-start : (n head : ℕ) → head ≡ lastBelow bucket n b → Walk n head
-    walk-start n head e = rw e (last-le n, last-last n, any-last n)
+    pub walk_start : (n head : ℕ) → head ≡ last_below bucket n b → Walk n head
+    walk_start n head e = rw e (last_le n, last_last n, any_last n)
 
-    pub walk-end : (n at : ℕ) → Walk n at → at ≡ 0 → anyTo n p ≡ false
-    walk-end n at w e = w.2 ∙ rw e (any-none p)
+    pub walk_end : (n at : ℕ) → Walk n at → at ≡ 0 → any_to n p ≡ false
+    walk_end n at w e = w.2 ∙ rw e (any_none p)
 
     module _ (n at k : ℕ) (w : Walk n at) (e : at ≡ suc k) where
-      pub walk-found : p k ≡ true → anyTo n p ≡ true
-      walk-found h = w.2 ∙ any-found p at k (omega arith) h
+      pub walk_found : p k ≡ true → any_to n p ≡ true
+      walk_found h = w.2 ∙ any_found p at k (omega arith) h
 
-      pub walk-on : p k ≡ false → (links : List ℕ) → Links bucket links n → (r : ℕ) → r ≡ get_or links k 0 → (r < at) × Walk n r
-      unfolding anyTo
-      walk-on h links l r f =
-          let here : bucket k ≡ b = last-in k (rw e at w.1) in
-          let g : r ≡ lastBelow bucket k b = f ∙ l k (omega arith) ∙ ap (lastBelow bucket k) here in
-          let le = last-le k in
-          let any : anyTo n p ≡ anyTo k p = w.2 ∙ rw (e, h) (alone (anyTo k p)) in
-          rw g (omega arith, (omega arith, last-last k, any ∙ any-last k))
+      pub walk_on : p k ≡ false → (links : List ℕ) → Links bucket links n → (r : ℕ) → r ≡ get_or links k 0 → (r < at) × Walk n r
+      unfolding any_to
+      walk_on h links l r f =
+          let here : bucket k ≡ b = last_in k (rw e at w.1) in
+          let g : r ≡ last_below bucket k b = f ∙ l k (omega arith) ∙ ap (last_below bucket k) here in
+          let le = last_le k in
+          let any : any_to n p ≡ any_to k p = w.2 ∙ rw (e, h) (alone (any_to k p)) in
+          rw g (omega arith, (omega arith, last_last k, any ∙ any_last k))

@@ -3,7 +3,7 @@
 #![tactic(auto)]
 
 ghost use Rattle.std.specs.Prelude.{◌≡◌, ◌+◌, ◌<◌, length, get_or, set, replicate};
-ghost use Rattle.chains.specs.Prints.{printsMax, printOf};
+ghost use Rattle.chains.specs.Prints.{prints_max, print_of};
 
 use pages::index;
 
@@ -30,7 +30,7 @@ const SPREAD: usize = 40503;
 
 // The print of bytes, from a sum with them mixed in one after another.
 pub fn print_of(bytes: &[u8]) -> usize
-    ensures { (result ≡ printOf bytes.now) × (result < printsMax) }
+    ensures { (result ≡ print_of bytes.now) × (result < prints_max) }
 {
     let mut sum: usize = 0;
     let mut i: usize = 0;
@@ -46,7 +46,7 @@ type Heads = [u16; PRINTS];
 
 // No thing for any print.
 pub fn no_heads() -> Heads
-    ensures { result ≡ replicate printsMax 0 }
+    ensures { result ≡ replicate prints_max 0 }
 {
     [0; PRINTS]
 }

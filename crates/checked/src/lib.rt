@@ -3,16 +3,16 @@
 #![tactic(auto)]
 
 ghost use Rattle.std.specs.Prelude.{◌≡◌, true, ◌≤◌, ◌<◌};
-ghost use Rattle.types.specs.Types.{typesIn, Held};
+ghost use Rattle.types.specs.Types.{types_in, Held};
 ghost use Rattle.marks.specs.Marks.{Noted};
-ghost use Rattle.matching.specs.Matching.{inUse, matches};
+ghost use Rattle.matching.specs.Matching.{in_use, matches};
 ghost use Rattle.matching.specs.Memo.{Found};
-ghost use Rattle.bindings.specs.Bindings.{bindingsMax, Usable};
+ghost use Rattle.bindings.specs.Bindings.{bindings_max, Usable};
 ghost use Rattle.refusals.specs.Lowest.{answered};
 ghost use Rattle.refusals.specs.declared.Verdict.TheVariants.{Passed};
 ghost use Rattle.refusals.specs.declared.Answer.{Answer};
-ghost use Rattle.unification.specs.Unification.{unified, unifyArg, SettledAt};
-ghost use Rattle.checked.specs.Calls.{given, ofMade, matchesAnswer, genericAnswer, intoConst, intoConstPage, substituteAnswer, substitutePage, keptBy, fitsBound, unifyArgAnswer, unifyAnswer};
+ghost use Rattle.unification.specs.Unification.{unified, unify_arg, SettledAt};
+ghost use Rattle.checked.specs.Calls.{given, of_made, matches_answer, generic_answer, into_const, into_const_page, substitute_answer, substitute_page, kept_by, fits_bound, unify_arg_answer, unify_answer};
 
 use bindings::Bindings;
 use kinds::CALLBACK;
@@ -32,7 +32,7 @@ pub struct Const {
 // Whether a checked type's number is in use and, of a Function, that of a Callback. For crates above (their entry calls answer 3).
 pub fn is_used(page: &[u8], offsets: &[usize], c: Checked) -> bool
     requires { Held page.now offsets.now }
-    ensures { result ≡ inUse page.now c }
+    ensures { result ≡ in_use page.now c }
 {
     match c {
         Checked::Unknown => true,
@@ -66,7 +66,7 @@ fn pass(checked: Checked) -> Const
 
 // A type that was made, or the refusal.
 fn of_made(made: Made) -> Const
-    ensures { result ≡ ofMade made }
+    ensures { result ≡ of_made made }
 {
     match made {
         Made::At(t) => pass(Checked::Known(t)),
@@ -80,7 +80,7 @@ fn of_made(made: Made) -> Const
 // Whether a checked type in use stands for another, with room for all types: a frame of four MiB.
 fn matches_in_large(page: &[u8], offsets: &[usize], actual: Checked, expected: Checked) -> bool
     requires held { Held page.now offsets.now }
-    requires actual_value { (inUse page.now actual ≡ true) × (inUse page.now expected ≡ true) }
+    requires actual_value { (in_use page.now actual ≡ true) × (in_use page.now expected ≡ true) }
     ensures { result ≡ matches page.now actual expected }
 {
     let mut large = matching::large_memo();
@@ -97,7 +97,7 @@ fn matches_in(
     expected: Checked,
 ) -> bool
     requires held { Held page.now offsets.now }
-    requires actual_value { (inUse page.now actual ≡ true) × (inUse page.now expected ≡ true) }
+    requires actual_value { (in_use page.now actual ≡ true) × (in_use page.now expected ≡ true) }
     requires noted { Noted (Found page.now) memo.old }
     ensures { result ≡ matches page.now actual expected }
 {
@@ -113,7 +113,7 @@ fn matches_in(
 
 // Whether a checked type stands for another.
 pub fn matches(page: &[u8], names: &[u8], lent: bool, actual: Checked, expected: Checked) -> Answer
-    ensures { result ≡ matchesAnswer page.now names.now lent actual expected }
+    ensures { result ≡ matches_answer page.now names.now lent actual expected }
 {
     let mut offsets = no_offsets();
     let mut depths = no_depths();
@@ -132,7 +132,7 @@ pub fn matches(page: &[u8], names: &[u8], lent: bool, actual: Checked, expected:
 
 // Whether a generic name stands in a type.
 pub fn has_generic(page: &[u8], names: &[u8], lent: bool, t: usize) -> Answer
-    ensures { result ≡ genericAnswer page.now names.now lent t }
+    ensures { result ≡ generic_answer page.now names.now lent t }
 {
     let mut offsets = no_offsets();
     let mut depths = no_depths();
@@ -147,7 +147,7 @@ pub fn has_generic(page: &[u8], names: &[u8], lent: bool, t: usize) -> Answer
 
 // The const form of a checked type, which is made if it is new.
 pub fn into_const(page: &mut [u8], names: &[u8], lent: bool, c: Checked) -> Const
-    ensures { (result ≡ intoConst page.old names.now lent c) × (page.new ≡ intoConstPage page.old names.now lent c) }
+    ensures { (result ≡ into_const page.old names.now lent c) × (page.new ≡ into_const_page page.old names.now lent c) }
 {
     let mut offsets = no_offsets();
     let mut depths = no_depths();
@@ -166,7 +166,7 @@ pub fn into_const(page: &mut [u8], names: &[u8], lent: bool, c: Checked) -> Cons
 
 // A type with its generic names replaced by what they are bound to. New types are made left to right, children before parent.
 pub fn substitute(page: &mut [u8], names: &[u8], lent: bool, bound: Bindings, t: usize) -> Made
-    ensures { (result ≡ substituteAnswer page.old names.now lent bound t) × (page.new ≡ substitutePage page.old names.now lent bound t) }
+    ensures { (result ≡ substitute_answer page.old names.now lent bound t) × (page.new ≡ substitute_page page.old names.now lent bound t) }
 {
     let mut offsets = no_offsets();
     let mut depths = no_depths();
@@ -202,7 +202,7 @@ fn refuse(r: Refusal, bound: Bindings) -> Unified
 
 // An answer with its bindings, those that came in where it is a refusal.
 fn kept_by(out: Unified, bound: Bindings) -> Unified
-    ensures { result ≡ keptBy out.answer out.bindings bound }
+    ensures { result ≡ kept_by out.answer out.bindings bound }
 {
     let answer = out.answer;
     match answer {
@@ -214,8 +214,8 @@ fn kept_by(out: Unified, bound: Bindings) -> Unified
 
 // Whether the types of an argument and a parameter, and those that names are bound to, are numbered below n.
 fn fits_bound(n: usize, bound: Bindings, e: usize, actual: Checked) -> bool
-    requires { bound.count ≤ bindingsMax }
-    ensures { result ≡ fitsBound n bound e actual }
+    requires { bound.count ≤ bindings_max }
+    ensures { result ≡ fits_bound n bound e actual }
 {
     matching::fits(n, Checked::Known(e), actual) & bindings::are_below(bound, n)
 }
@@ -229,9 +229,9 @@ fn unify_in_large(
     actual: Checked,
 ) -> Unified
     requires held { Held page.now offsets.now }
-    requires e_bound { (e < typesIn page.now) × (inUse page.now actual ≡ true) }
-    requires usable { Usable bound (typesIn page.now) }
-    ensures { result ≡ unifyArg page.now e actual bound }
+    requires e_bound { (e < types_in page.now) × (in_use page.now actual ≡ true) }
+    requires usable { Usable bound (types_in page.now) }
+    ensures { result ≡ unify_arg page.now e actual bound }
 {
     let mut memo = matching::large_memo();
     let mut seen = unification::large_seen();
@@ -250,11 +250,11 @@ fn unify_in(
     actual: Checked,
 ) -> Unified
     requires held { Held page.now offsets.now }
-    requires e_bound { (e < typesIn page.now) × (inUse page.now actual ≡ true) }
-    requires usable { Usable bound (typesIn page.now) }
+    requires e_bound { (e < types_in page.now) × (in_use page.now actual ≡ true) }
+    requires usable { Usable bound (types_in page.now) }
     requires noted { Noted (Found page.now) memo.old }
     requires noted_2 { Noted (SettledAt page.now bound) seen.old }
-    ensures { result ≡ unifyArg page.now e actual bound }
+    ensures { result ≡ unify_arg page.now e actual bound }
 {
     if fits_bound(marks::room(memo), bound, e, actual) {
         return unification::unify_arg(page, offsets, memo, seen, bound, e, actual);
@@ -276,7 +276,7 @@ pub fn unify_arg(
     e: usize,
     actual: Checked,
 ) -> Unified
-    ensures { result ≡ unifyArgAnswer page.now names.now lent bound e actual }
+    ensures { result ≡ unify_arg_answer page.now names.now lent bound e actual }
 {
     let mut offsets = no_offsets();
     let mut depths = no_depths();
@@ -301,7 +301,7 @@ pub fn unify_arg(
 
 // Whether an actual type fits an expected one, and what generic names it binds.
 pub fn unify(page: &[u8], names: &[u8], lent: bool, bound: Bindings, e: usize, a: usize) -> Unified
-    ensures { result ≡ unifyAnswer page.now names.now lent bound e a }
+    ensures { result ≡ unify_answer page.now names.now lent bound e a }
 {
     unify_arg(page, names, lent, bound, e, Checked::Known(a))
 }

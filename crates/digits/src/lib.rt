@@ -3,7 +3,7 @@
 
 ghost use Rattle.std.specs.Prelude.{◌≡◌, ◌+◌, ◌≤◌, ◌<◌, length};
 ghost use Rattle.pages.specs.Bytes.{put};
-ghost use Rattle.digits.specs.Decimal.{decimalMax, digitOf, decimalOf};
+ghost use Rattle.digits.specs.Decimal.{decimal_max, digit_of, decimal_of};
 
 // Writes bytes from index at on, and answers where they end.
 pub fn push(out: &mut [u8], at: usize, bytes: &[u8]) -> usize
@@ -16,15 +16,15 @@ pub fn push(out: &mut [u8], at: usize, bytes: &[u8]) -> usize
 
 fn digit(n: usize) -> u8
     requires { n < 10 }
-    ensures { result ≡ digitOf n }
+    ensures { result ≡ digit_of n }
 {
     b'0' + n as u8
 }
 
 // Writes a number below 100,000 in decimal from index at on, and answers where it ends.
 pub fn decimal(out: &mut [u8], at: usize, n: usize) -> usize
-    requires { (n < decimalMax) × (at + length (decimalOf n) ≤ length out.old) }
-    ensures { (result ≡ at + length (decimalOf n)) × (out.new ≡ put out.old at (decimalOf n)) }
+    requires { (n < decimal_max) × (at + length (decimal_of n) ≤ length out.old) }
+    ensures { (result ≡ at + length (decimal_of n)) × (out.new ≡ put out.old at (decimal_of n)) }
 {
     if n < 10 {
         let text = [digit(n)];

@@ -6,43 +6,43 @@ use Prim.Native.Nat.{ℕ}
 use lib.IntN.{ℤ, pos}
 use Rattle.refusals.specs.declared.Refusal.TheVariants.{Exponent}
 use Rattle.refusals.specs.declared.Verdict.TheVariants.{Passed, Refused}
-use Rattle.pages.specs.Quant.{allTo, anyTo, firstTo}
+use Rattle.pages.specs.Quant.{all_to, any_to, first_to}
 use Rattle.pages.specs.Bytes.{eqs, zeros, words}
 use Rattle.pages.specs.Pad.{pad}
-use Rattle.names.specs.Table.{digit, nameByte, wellNamed, offset as nameOffset, nameAt, named, goodAt as goodNameAt, formed as namesFormed}
-use Rattle.names.specs.Calls.{lentBroken, usedOf, isUsed}
+use Rattle.names.specs.Table.{digit, name_byte, well_named, offset as name_offset, name_at, named, good_at as good_name_at, formed as names_formed}
+use Rattle.names.specs.Calls.{lent_broken, used_of, is_used}
 use Rattle.kinds.specs.Kinds.{fewest, most}
-use Rattle.types.specs.Store.{sizeAt, offset, deepest, depths, depthIn, partsAt, goodAt, formed as storeFormed}
-use Rattle.types.specs.Types.{kindOf, arity, childOf}
+use Rattle.types.specs.Store.{size_at, offset, deepest, depths, depth_in, parts_at, good_at, formed as store_formed}
+use Rattle.types.specs.Types.{kind_of, arity, child_of}
 use Rattle.types.specs.Recur.{below, run, cov}
-use Rattle.types.specs.Making.{entryOf, isMade, enterVerdict, enterAnswer, enterPage}
-use Rattle.types.specs.Calls.{storeBroken}
-use Rattle.matching.specs.Matching.{inUse as typeInUse}
+use Rattle.types.specs.Making.{entry_of, is_made, enter_verdict, enter_answer, enter_page}
+use Rattle.types.specs.Calls.{store_broken}
+use Rattle.matching.specs.Matching.{in_use as type_in_use}
 use Rattle.matching.specs.declared.Checked.TheVariants.{Known, Unknown}
-use Rattle.units.specs.Unit.{term, formed, inUse as symbolsInUse}
-use Rattle.units.specs.Product.{productOf, productVerdict}
-use Rattle.units.specs.Calls.{unitOf, productAnswer, unitless}
+use Rattle.units.specs.Unit.{term, formed, in_use as symbols_in_use}
+use Rattle.units.specs.Product.{product_of, product_verdict}
+use Rattle.units.specs.Calls.{unit_of, product_answer, unitless}
 use Rattle.units.specs.declared.MaybeUnit.{MaybeUnit}
-use Rattle.groups.specs.Groups.{rootOf, parentsOf, enterAll, enter, walk, selves}
-use Rattle.pairs.specs.Table.{pairsIn, formed as tableFormed, withPair}
-use Rattle.pairs.specs.Page.{tableIn, holds, formed as pageFormed, withTable}
-use Rattle.pairs.specs.Calls.{emptyVerdict, emptyPage, tableBroken, pairVerdict, pageAfter}
+use Rattle.groups.specs.Groups.{root_of, parents_of, enter_all, enter, walk, selves}
+use Rattle.pairs.specs.Table.{pairs_in, formed as table_formed, with_pair}
+use Rattle.pairs.specs.Page.{table_in, holds, formed as page_formed, with_table}
+use Rattle.pairs.specs.Calls.{empty_verdict, empty_page, table_broken, pair_verdict, page_after}
 use Rattle.sums.specs.Sums.{convertible}
-use Rattle.operators.specs.Operators.{minus, classOf, unitRule, resultRule, int, uint, float, familyOf, takes, looks, gives, suits, fits, takerOf}
-use Rattle.operators.specs.Outcome.{badUnits, notIndexable, noError, oneError, someFail, passes, misfit, plainBinary}
-use Rattle.members.specs.Members.{gather, shareOf, membersOf, has, merged, unionOf}
-use Rattle.members.specs.Trials.{foldTo, failedAt, errorsOf, joined, settled}
-use Rattle.binary.specs.Binary.{rowTried, rowsTried, outcomeOf, anyRule, binaryRule, binaryBy, binaryKnown, checkBinary}
-use Rattle.unary.specs.Unary.{passRule, unaryPasses, failing, unaryErrors, oneMore, resultNext, resultsTo, together, answerRule, unaryResult, checkUnary}
-use Rattle.indexing.specs.Indexing.{indexTarget, checkIndex}
-use Rattle.answers.specs.Units.{noUnit, clashes, adoptedBy, combined, binaryUnit, negationUnit}
-use Rattle.answers.specs.Calls.{withUnit, binaryChecked, binaryAnswer, unaryUnit, unaryAnswer, unaryPage, indexAnswer, indexPage}
+use Rattle.operators.specs.Operators.{minus, class_of, unit_rule, result_rule, int, uint, float, family_of, takes, looks, gives, suits, fits, taker_of}
+use Rattle.operators.specs.Outcome.{bad_units, not_indexable, no_error, one_error, some_fail, passes, misfit, plain_binary}
+use Rattle.members.specs.Members.{gather, share_of, members_of, has, merged, union_of}
+use Rattle.members.specs.Trials.{fold_to, failed_at, errors_of, joined, settled}
+use Rattle.binary.specs.Binary.{row_tried, rows_tried, outcome_of, any_rule, binary_rule, binary_by, binary_known, check_binary}
+use Rattle.unary.specs.Unary.{pass_rule, unary_passes, failing, unary_errors, one_more, result_next, results_to, together, answer_rule, unary_result, check_unary}
+use Rattle.indexing.specs.Indexing.{index_target, check_index}
+use Rattle.answers.specs.Units.{no_unit, clashes, adopted_by, combined, binary_unit, negation_unit}
+use Rattle.answers.specs.Calls.{with_unit, binary_checked, binary_answer, unary_unit, unary_answer, unary_page, index_answer, index_page}
 use Rattle.answers.specs.declared.CheckedExpr.{CheckedExpr}
 use Rattle.executed.specs.Rows.{expected, BinaryRow, UnaryRow, IndexRow}
 
 -- a symbol to a power: 0 is m, 1 is s, 2 is mm, 3 is in
 abbrev pub power : ℕ → ℤ → MaybeUnit
-power s e = record { some = true; unit = unitOf (term s e ∷ []) }
+power s e = record { some = true; unit = unit_of (term s e ∷ []) }
 
 abbrev pub mm : MaybeUnit
 mm = power 2 (pos 1)
@@ -56,39 +56,39 @@ operand t u = record { checked = Known t; unit = u }
 
 -- the rows: type 19 is Any(Int, Float), 20 Any(Int), 21 Tuple(Int), 22 Array Float; + has code 1, × code 3
 pub record Rows : Type 0 where
-  pub same-unit : BinaryRow 1 (operand uint mm) (operand uint mm) (expected Passed (Known uint) mm noError)
-  pub adopted : BinaryRow 1 (operand uint noUnit) (operand uint mm) (expected Passed (Known uint) mm noError)
-  pub kept-left : BinaryRow 1 (operand uint mm) (operand uint noUnit) (expected Passed (Known uint) mm noError)
-  pub in-mm : BinaryRow 1 (operand uint inch) (operand uint mm) (expected Passed (Known uint) inch noError)
-  pub mm-in : BinaryRow 1 (operand uint mm) (operand uint inch) (expected Passed (Known uint) mm noError)
-  pub sum : BinaryRow 1 (operand uint mm) (operand uint (power 1 (pos 1))) (expected Passed (Known uint) noUnit (oneError badUnits))
-  pub difference : BinaryRow minus (operand uint mm) (operand uint (power 1 (pos 1))) (expected Passed (Known uint) noUnit (oneError badUnits))
-  pub member : BinaryRow 3 (operand 19 (power 0 (pos 1000))) (operand int (power 0 (pos 1))) (expected Passed Unknown noUnit (someFail 1 float int))
-  pub limit : BinaryRow 3 (operand 20 (power 0 (pos 1000))) (operand int (power 0 (pos 1))) (expected (Refused Exponent) Unknown noUnit noError)
-  pub negated : UnaryRow minus (operand 19 mm) (expected Passed (Known 19) noUnit noError)
-  pub null : IndexRow (operand 0 noUnit) (expected Passed Unknown noUnit noError)
-  pub tuple : IndexRow (operand 21 noUnit) (expected Passed Unknown noUnit noError)
-  pub element : IndexRow (operand 22 mm) (expected Passed (Known float) mm noError)
-  pub kept : IndexRow (operand int mm) (expected Passed Unknown mm (oneError notIndexable))
+  pub same_unit : BinaryRow 1 (operand uint mm) (operand uint mm) (expected Passed (Known uint) mm no_error)
+  pub adopted : BinaryRow 1 (operand uint no_unit) (operand uint mm) (expected Passed (Known uint) mm no_error)
+  pub kept_left : BinaryRow 1 (operand uint mm) (operand uint no_unit) (expected Passed (Known uint) mm no_error)
+  pub in_mm : BinaryRow 1 (operand uint inch) (operand uint mm) (expected Passed (Known uint) inch no_error)
+  pub mm_in : BinaryRow 1 (operand uint mm) (operand uint inch) (expected Passed (Known uint) mm no_error)
+  pub sum : BinaryRow 1 (operand uint mm) (operand uint (power 1 (pos 1))) (expected Passed (Known uint) no_unit (one_error bad_units))
+  pub difference : BinaryRow minus (operand uint mm) (operand uint (power 1 (pos 1))) (expected Passed (Known uint) no_unit (one_error bad_units))
+  pub member : BinaryRow 3 (operand 19 (power 0 (pos 1000))) (operand int (power 0 (pos 1))) (expected Passed Unknown no_unit (some_fail 1 float int))
+  pub limit : BinaryRow 3 (operand 20 (power 0 (pos 1000))) (operand int (power 0 (pos 1))) (expected (Refused Exponent) Unknown no_unit no_error)
+  pub negated : UnaryRow minus (operand 19 mm) (expected Passed (Known 19) no_unit no_error)
+  pub null : IndexRow (operand 0 no_unit) (expected Passed Unknown no_unit no_error)
+  pub tuple : IndexRow (operand 21 no_unit) (expected Passed Unknown no_unit no_error)
+  pub element : IndexRow (operand 22 mm) (expected Passed (Known float) mm no_error)
+  pub kept : IndexRow (operand int mm) (expected Passed Unknown mm (one_error not_indexable))
 
 pub rows : Rows
-unfolding binaryAnswer storeBroken lentBroken usedOf namesFormed goodNameAt named nameAt nameOffset wellNamed nameByte digit
-    storeFormed goodAt partsAt fewest most offset sizeAt depths deepest depthIn eqs zeros allTo anyTo firstTo
-    tableBroken pageFormed holds tableIn tableFormed pairsIn emptyVerdict emptyPage rootOf parentsOf enterAll enter walk selves pad
-    pageAfter pairVerdict withTable withPair
-    typeInUse symbolsInUse formed kindOf arity childOf cov run below
-    binaryChecked withUnit passes clashes unitless convertible binaryUnit adoptedBy combined productAnswer productVerdict productOf
-    checkBinary binaryKnown binaryBy binaryRule anyRule outcomeOf rowsTried rowTried foldTo joined settled failedAt errorsOf merged has
-    plainBinary misfit fits suits looks takes gives familyOf classOf unitRule resultRule membersOf shareOf gather
-    unaryAnswer unaryPage unaryUnit negationUnit checkUnary unaryErrors failing unaryPasses passRule takerOf
-    unaryResult answerRule together resultsTo resultNext oneMore unionOf enterAnswer enterPage enterVerdict isMade entryOf words isUsed
-    indexAnswer indexPage checkIndex indexTarget
+unfolding binary_answer store_broken lent_broken used_of names_formed good_name_at named name_at name_offset well_named name_byte digit
+    store_formed good_at parts_at fewest most offset size_at depths deepest depth_in eqs zeros all_to any_to first_to
+    table_broken page_formed holds table_in table_formed pairs_in empty_verdict empty_page root_of parents_of enter_all enter walk selves pad
+    page_after pair_verdict with_table with_pair
+    type_in_use symbols_in_use formed kind_of arity child_of cov run below
+    binary_checked with_unit passes clashes unitless convertible binary_unit adopted_by combined product_answer product_verdict product_of
+    check_binary binary_known binary_by binary_rule any_rule outcome_of rows_tried row_tried fold_to joined settled failed_at errors_of merged has
+    plain_binary misfit fits suits looks takes gives family_of class_of unit_rule result_rule members_of share_of gather
+    unary_answer unary_page unary_unit negation_unit check_unary unary_errors failing unary_passes pass_rule taker_of
+    unary_result answer_rule together results_to result_next one_more union_of enter_answer enter_page enter_verdict is_made entry_of words is_used
+    index_answer index_page check_index index_target
 rows = record {
-  same-unit = refl;
+  same_unit = refl;
   adopted = refl;
-  kept-left = refl;
-  in-mm = refl;
-  mm-in = refl;
+  kept_left = refl;
+  in_mm = refl;
+  mm_in = refl;
   sum = refl;
   difference = refl;
   member = refl;

@@ -4,47 +4,47 @@ use mathlib.Core.Bool.{Bool, true, false}
 use mathlib.Core.List.{[], ◌∷◌}
 use Prim.Native.Nat.{ℕ}
 use lib.IntN.{pos}
-use Rattle.refusals.specs.Numbers.{codeOf}
-use Rattle.pages.specs.Quant.{allTo, anyTo, firstTo}
+use Rattle.refusals.specs.Numbers.{code_of}
+use Rattle.pages.specs.Quant.{all_to, any_to, first_to}
 use Rattle.pages.specs.Bytes.{eqs, zeros}
 use Rattle.pages.specs.Pad.{pad}
-use Rattle.names.specs.Table.{digit, nameByte, wellNamed, offset, nameAt, named, goodAt, namesMax, formed as namesFormed}
-use Rattle.names.specs.Calls.{lentBroken, usedOf, isUsed}
-use Rattle.units.specs.Unit.{placesMax, term, formed, inUse}
-use Rattle.units.specs.Calls.{termsOf, unitOf, formVerdict, productAnswer}
+use Rattle.names.specs.Table.{digit, name_byte, well_named, offset, name_at, named, good_at, names_max, formed as names_formed}
+use Rattle.names.specs.Calls.{lent_broken, used_of, is_used}
+use Rattle.units.specs.Unit.{places_max, term, formed, in_use}
+use Rattle.units.specs.Calls.{terms_of, unit_of, form_verdict, product_answer}
 use Rattle.units.specs.declared.Unit.{Unit}
 use Rattle.units.specs.declared.MaybeUnit.{MaybeUnit}
 use Rattle.units.specs.declared.UnitResult.{UnitResult}
-use Rattle.units.proofs.Calls.{form-refused, product-left, product-right}
-use Rattle.groups.specs.Groups.{pair, parentsOf, enterAll, enter, walk, selves}
-use Rattle.pairs.specs.Table.{pairsIn, formed as tableFormed, freshTable, bothUsed, insertVerdict, insertion, withPair}
-use Rattle.pairs.specs.Page.{tableIn, holds, formed as pageFormed, withTable}
-use Rattle.pairs.specs.Calls.{emptyVerdict, emptyPage, tableBroken, pairVerdict, pageAfter}
-use Rattle.pairs.proofs.Fresh.{fresh-formed}
-use Rattle.sums.specs.Calls.{unitsVerdict, convertAnswer}
-use Rattle.answers.specs.Units.{noUnit}
+use Rattle.units.proofs.Calls.{form_refused, product_left, product_right}
+use Rattle.groups.specs.Groups.{pair, parents_of, enter_all, enter, walk, selves}
+use Rattle.pairs.specs.Table.{pairs_in, formed as table_formed, fresh_table, both_used, insert_verdict, insertion, with_pair}
+use Rattle.pairs.specs.Page.{table_in, holds, formed as page_formed, with_table}
+use Rattle.pairs.specs.Calls.{empty_verdict, empty_page, table_broken, pair_verdict, page_after}
+use Rattle.pairs.proofs.Fresh.{fresh_formed}
+use Rattle.sums.specs.Calls.{units_verdict, convert_answer}
+use Rattle.answers.specs.Units.{no_unit}
 use Rattle.executed.specs.Rows.{ConvertRow}
 use Rattle.executed.proofs.Answers.{power, mm}
 
 -- ---- a unit that breaks its form
 
-module _ (u : Unit) (broken : formed placesMax namesMax (termsOf u) ≡ false) where
-  pub form-five : codeOf (formVerdict u) ≡ 5
-  form-five = ap codeOf (form-refused u broken)
+module _ (u : Unit) (broken : formed places_max names_max (terms_of u) ≡ false) where
+  pub form_five : code_of (form_verdict u) ≡ 5
+  form_five = ap code_of (form_refused u broken)
 
   -- on the left of any unit, and on the right of m
-  pub left-five : (d : Bool) (v : Unit) → codeOf (productAnswer d u v).verdict ≡ 5
-  left-five d v = ap (λ (r : UnitResult). codeOf r.verdict) (sym (product-left d u v broken))
+  pub left_five : (d : Bool) (v : Unit) → code_of (product_answer d u v).verdict ≡ 5
+  left_five d v = ap (λ (r : UnitResult). code_of r.verdict) (sym (product_left d u v broken))
 
-  pub right-five : (d : Bool) → codeOf (productAnswer d (unitOf (term 0 (pos 1) ∷ [])) u).verdict ≡ 5
+  pub right_five : (d : Bool) → code_of (product_answer d (unit_of (term 0 (pos 1) ∷ [])) u).verdict ≡ 5
   unfolding formed pad
-  right-five d = ap (λ (r : UnitResult). codeOf r.verdict) (sym (product-right d (unitOf (term 0 (pos 1) ∷ [])) u refl broken))
+  right_five d = ap (λ (r : UnitResult). code_of r.verdict) (sym (product_right d (unit_of (term 0 (pos 1) ∷ [])) u refl broken))
 
 -- ---- a pair of which a symbol is not in use
 
-pub pair-three : (n s f b : ℕ) → bothUsed n (pair s b) ≡ false → codeOf (insertion freshTable n s f b).verdict ≡ 3
-unfolding insertion insertVerdict
-pair-three n s f b u = rw ((fresh-formed n).0, u)
+pub pair_three : (n s f b : ℕ) → both_used n (pair s b) ≡ false → code_of (insertion fresh_table n s f b).verdict ≡ 3
+unfolding insertion insert_verdict
+pair_three n s f b u = rw ((fresh_formed n).0, u)
 
 -- ---- the rows of convertibility
 
@@ -60,14 +60,14 @@ nine s = record {
 }
 
 pub record Wide : Type 0 where
-  pub left : ConvertRow (power 256 (pos 1)) noUnit 3
+  pub left : ConvertRow (power 256 (pos 1)) no_unit 3
   pub right : ConvertRow mm (power 300 (pos 1)) 3
-  pub eighth : ConvertRow (nine 300) noUnit 3
-  pub ninth : ConvertRow (nine 7) noUnit 5
+  pub eighth : ConvertRow (nine 300) no_unit 3
+  pub ninth : ConvertRow (nine 7) no_unit 5
 
 pub wide : Wide
-unfolding convertAnswer unitsVerdict inUse formed isUsed usedOf lentBroken
-    namesFormed goodAt named nameAt offset wellNamed nameByte digit eqs zeros allTo anyTo firstTo
-    tableBroken pageFormed holds tableIn tableFormed pairsIn emptyVerdict emptyPage parentsOf enterAll enter walk selves pad
-    pageAfter pairVerdict withTable withPair
+unfolding convert_answer units_verdict in_use formed is_used used_of lent_broken
+    names_formed good_at named name_at offset well_named name_byte digit eqs zeros all_to any_to first_to
+    table_broken page_formed holds table_in table_formed pairs_in empty_verdict empty_page parents_of enter_all enter walk selves pad
+    page_after pair_verdict with_table with_pair
 wide = record { left = refl; right = refl; eighth = refl; ninth = refl }

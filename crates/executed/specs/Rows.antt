@@ -1,45 +1,45 @@
 -- What a row of the program looks at: no name bound, a plain yes or no, the answers of operators and indexing, and refusals.
 use Rattle.std.specs.Prelude.{◌≡◌, Bool, true, false, not, List, [], ◌∷◌, ℕ, replicate}
-use Rattle.refusals.specs.Numbers.{numberOf}
+use Rattle.refusals.specs.Numbers.{number_of}
 use Rattle.refusals.specs.declared.Answer.{Answer}
 use Rattle.refusals.specs.declared.Answer.TheVariants.{Yes, No, Refused}
 use Rattle.refusals.specs.declared.Verdict.{Verdict}
 use Rattle.matching.specs.declared.Checked.{Checked}
 use Rattle.matching.specs.declared.Checked.TheVariants.{Known, Unknown, Function}
-use Rattle.bindings.specs.Bindings.{bindingsMax}
+use Rattle.bindings.specs.Bindings.{bindings_max}
 use Rattle.bindings.specs.declared.Bindings.{Bindings}
 use Rattle.units.specs.declared.MaybeUnit.{MaybeUnit}
-use Rattle.pairs.specs.Page.{sizeOf}
-use Rattle.pairs.specs.Calls.{emptyPage, pageAfter}
-use Rattle.sums.specs.Calls.{convertAnswer}
+use Rattle.pairs.specs.Page.{size_of}
+use Rattle.pairs.specs.Calls.{empty_page, page_after}
+use Rattle.sums.specs.Calls.{convert_answer}
 use Rattle.operators.specs.declared.Errors.{Errors}
-use Rattle.answers.specs.Calls.{binaryAnswer, unaryAnswer, unaryPage, indexAnswer, indexPage}
+use Rattle.answers.specs.Calls.{binary_answer, unary_answer, unary_page, index_answer, index_page}
 use Rattle.answers.specs.declared.CheckedExpr.{CheckedExpr}
 use Rattle.answers.specs.declared.Answered.{Answered}
 
 -- no name bound
 abbrev pub unbound : Bindings
-unbound = record { count = 0; names = replicate bindingsMax 0; types = replicate bindingsMax 0 }
+unbound = record { count = 0; names = replicate bindings_max 0; types = replicate bindings_max 0 }
 
 -- is the answer a plain yes or, with false, a plain no
-abbrev pub isPlain : Answer → Bool → Bool
-isPlain Yes b = b
-isPlain No b = not b
-isPlain (Refused r) b = false
+abbrev pub is_plain : Answer → Bool → Bool
+is_plain Yes b = b
+is_plain No b = not b
+is_plain (Refused r) b = false
 
 -- ---- answers
 
 -- which of the three a checked type is
-abbrev pub tagOf : Checked → ℕ
-tagOf (Known t) = 0
-tagOf Unknown = 1
-tagOf (Function t) = 2
+abbrev pub tag_of : Checked → ℕ
+tag_of (Known t) = 0
+tag_of Unknown = 1
+tag_of (Function t) = 2
 
 -- its number, 0 where it has none
-abbrev pub numberIn : Checked → ℕ
-numberIn (Known t) = t
-numberIn Unknown = 0
-numberIn (Function t) = t
+abbrev pub number_in : Checked → ℕ
+number_in (Known t) = t
+number_in Unknown = 0
+number_in (Function t) = t
 
 -- an answer of these parts
 abbrev pub expected : Verdict → Checked → MaybeUnit → Errors → Answered
@@ -58,33 +58,33 @@ abbrev pub factor : ℕ
 factor = 4627842682090579558
 
 -- a table of the pair (in, mm)
-abbrev pub inchTable : List ℕ
-inchTable = pageAfter (emptyPage (replicate (sizeOf 1) 0)) symbols true 3 factor 2
+abbrev pub inch_table : List ℕ
+inch_table = page_after (empty_page (replicate (size_of 1) 0)) symbols true 3 factor 2
 
 -- what a binary operator answers over these
 abbrev pub BinaryRow : ℕ → CheckedExpr → CheckedExpr → Answered → Type 0
-BinaryRow op x y a = binaryAnswer unions symbols true inchTable op x y ≡ a
+BinaryRow op x y a = binary_answer unions symbols true inch_table op x y ≡ a
 
 -- what an operator answers for one operand, entering nothing
 abbrev pub UnaryRow : ℕ → CheckedExpr → Answered → Type 0
-UnaryRow op x a = (unaryAnswer unions symbols true op x ≡ a) × (unaryPage unions symbols true op x ≡ unions)
+UnaryRow op x a = (unary_answer unions symbols true op x ≡ a) × (unary_page unions symbols true op x ≡ unions)
 
 -- what indexing by an Int answers, entering nothing
 abbrev pub IndexRow : CheckedExpr → Answered → Type 0
-IndexRow x a = (indexAnswer unions symbols true x (Known 1) ≡ a) × (indexPage unions symbols true x (Known 1) ≡ unions)
+IndexRow x a = (index_answer unions symbols true x (Known 1) ≡ a) × (index_page unions symbols true x (Known 1) ≡ unions)
 
 -- ---- refusals
 
 -- the number of the refusal that an answer is, 0 where it is none
-abbrev pub refusalIn : Answer → ℕ
-refusalIn Yes = 0
-refusalIn No = 0
-refusalIn (Refused r) = numberOf r
+abbrev pub refusal_in : Answer → ℕ
+refusal_in Yes = 0
+refusal_in No = 0
+refusal_in (Refused r) = number_of r
 
 -- the refusal of asking whether two units convert, without names lent
 abbrev pub ConvertRow : MaybeUnit → MaybeUnit → ℕ → Type 0
-ConvertRow x y r = refusalIn (convertAnswer inchTable symbols false x y) ≡ r
+ConvertRow x y r = refusal_in (convert_answer inch_table symbols false x y) ≡ r
 
 -- how many names are said to be in use: more than there can be
-abbrev pub inUseSaid : ℕ
-inUseSaid = 300
+abbrev pub in_use_said : ℕ
+in_use_said = 300

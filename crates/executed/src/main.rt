@@ -5,16 +5,16 @@
 
 ghost use Rattle.std.specs.Prelude.{◌≡◌, true, false, [], ◌∷◌, ◌<◌};
 ghost use Rattle.refusals.specs.declared.Verdict.TheVariants.{Passed};
-ghost use Rattle.names.specs.Table.{namesMax};
-ghost use Rattle.units.specs.Unit.{placesMax, term};
+ghost use Rattle.names.specs.Table.{names_max};
+ghost use Rattle.units.specs.Unit.{places_max, term};
 ghost use Rattle.units.specs.Unit as units;
-ghost use Rattle.units.specs.Calls.{termsOf, unitOf};
+ghost use Rattle.units.specs.Calls.{terms_of, unit_of};
 ghost use Rattle.groups.specs.Groups.{pair};
-ghost use Rattle.pairs.specs.Table.{bothUsed};
+ghost use Rattle.pairs.specs.Table.{both_used};
 ghost use Rattle.types.specs.Store.{formed};
-ghost use Rattle.types.specs.Types.{typesIn};
+ghost use Rattle.types.specs.Types.{types_in};
 ghost use Rattle.unification.specs.Unification.{said, unify};
-ghost use Rattle.executed.specs.Rows.{unbound, isPlain, tagOf, numberIn, refusalIn, inchTable, inUseSaid, expected, BinaryRow, UnaryRow, IndexRow, ConvertRow};
+ghost use Rattle.executed.specs.Rows.{unbound, is_plain, tag_of, number_in, refusal_in, inch_table, in_use_said, expected, BinaryRow, UnaryRow, IndexRow, ConvertRow};
 
 use answers::{Answered, CheckedExpr};
 use bindings::{BINDINGS, Bindings};
@@ -298,7 +298,7 @@ fn no_bindings() -> Bindings
 
 // Whether an answer is a plain yes or, with `yes` false, a plain no.
 fn is_plain(answer: Answer, yes: bool) -> bool
-    ensures { result ≡ isPlain answer yes }
+    ensures { result ≡ is_plain answer yes }
 {
     match answer {
         Answer::Yes => yes,
@@ -310,7 +310,7 @@ fn is_plain(answer: Answer, yes: bool) -> bool
 // Expects of two types of a store that the first, expected, takes the second or, with `yes` false, refuses it, and that no name is bound.
 fn expect_unified(page: &[u8], e: usize, a: usize, yes: bool)
     requires page_value { formed page.now 1 ≡ true }
-    requires e_bound { (e < typesIn page.now) × (a < typesIn page.now) }
+    requires e_bound { (e < types_in page.now) × (a < types_in page.now) }
     requires unbound_value { unify page.now e a unbound ≡ said yes unbound }
 {
     let mut offsets = types::no_offsets();
@@ -334,7 +334,7 @@ fn expect_types() {
 
 // A symbol to a power.
 fn power(symbol: Symbol, exponent: i16) -> Unit
-    ensures { result ≡ unitOf (term symbol exponent ∷ []) }
+    ensures { result ≡ unit_of (term symbol exponent ∷ []) }
 {
     units::with_term(units::dimensionless(), symbol, exponent)
 }
@@ -353,7 +353,7 @@ fn expect_units() {
 
 // Which of the three a checked type is.
 fn tag_of(c: Checked) -> u8
-    ensures { result ≡ tagOf c }
+    ensures { result ≡ tag_of c }
 {
     match c {
         Checked::Known(_) => 0,
@@ -364,7 +364,7 @@ fn tag_of(c: Checked) -> u8
 
 // Its number, 0 where it has none.
 fn number_in(c: Checked) -> usize
-    ensures { result ≡ numberIn c }
+    ensures { result ≡ number_in c }
 {
     match c {
         Checked::Known(t) => t,
@@ -423,7 +423,7 @@ fn expect_answer(a: Answered, verdict: Verdict, c: Checked, unit: MaybeUnit, err
 
 // A table of the pair (in, mm).
 fn inch_table() -> [u8; TABLE_BYTES]
-    ensures { result ≡ inchTable }
+    ensures { result ≡ inch_table }
 {
     let mut table = [0u8; TABLE_BYTES];
     pairs::empty_pairs(&mut table);
@@ -524,7 +524,7 @@ fn expect_indexing() {
 
 // The number of the refusal that an answer is, 0 where it is none.
 fn refusal_in(answer: Answer) -> u8
-    ensures { result ≡ refusalIn answer }
+    ensures { result ≡ refusal_in answer }
 {
     match answer {
         Answer::Yes => 0,
@@ -544,7 +544,7 @@ fn expect_unconverted(left: MaybeUnit, right: MaybeUnit, refusal: u8)
 
 // Expects that a unit is refused for its form (5): by itself, on the left of a product, and on the right of a quotient.
 fn expect_unformed(u: Unit)
-    requires { units.formed placesMax namesMax (termsOf u) ≡ false }
+    requires { units.formed places_max names_max (terms_of u) ≡ false }
 {
     let metre = power(METRE, 1);
     let form = units::unit_form(u);
@@ -559,7 +559,7 @@ fn expect_unformed(u: Unit)
 
 // Expects that a pair is refused by value for a symbol not in use (3), where more names are said to be in use than there can be.
 fn expect_unused(symbol: Symbol, base: Symbol)
-    requires { bothUsed inUseSaid (pair symbol base) ≡ false }
+    requires { both_used in_use_said (pair symbol base) ≡ false }
 {
     let out = pairs::inserted(pairs::fresh_table(), IN_USE, symbol, FACTOR, base);
     let verdict = out.verdict;

@@ -5,26 +5,26 @@ use mathlib.Core.Logic.{◌⊎◌, inl, inr}
 use mathlib.Core.List.Memᴰ
 use mathlib.Core.List.{List, [], ◌∷◌, ◌++◌, Memᴰ}
 use Prim.Native.Nat.{ℕ, ◌<◌}
-use Rattle.groups.specs.Groups.{Pair, Within, Joined, parentsOf}
+use Rattle.groups.specs.Groups.{Pair, Within, Joined, parents_of}
 use Rattle.groups.specs.Groups.Joined.{listed, same, back, chain}
-use Rattle.groups.proofs.UnionFind.{enter-idle}
-use Rattle.groups.proofs.Walks.{parents-snoc}
+use Rattle.groups.proofs.UnionFind.{enter_idle}
+use Rattle.groups.proofs.Walks.{parents_snoc}
 
 -- the parents with it are those without it
-pub idle-parents : (n : ℕ) (ps : List Pair) (q : Pair) → Within n ps → q.symbol < n → q.base < n → Joined ps q.symbol q.base
-    → parentsOf n (ps ++ (q ∷ [])) ≡ parentsOf n ps
-idle-parents n ps q w qs qb joined = parents-snoc n ps q ∙ enter-idle n ps q w qs qb joined
+pub idle_parents : (n : ℕ) (ps : List Pair) (q : Pair) → Within n ps → q.symbol < n → q.base < n → Joined ps q.symbol q.base
+    → parents_of n (ps ++ (q ∷ [])) ≡ parents_of n ps
+idle_parents n ps q w qs qb joined = parents_snoc n ps q ∙ enter_idle n ps q w qs qb joined
 
 -- what the pairs join with it they join without it
-pub idle-groups : {ps : List Pair} {q : Pair} → Joined ps q.symbol q.base → {s t : ℕ} → Joined (ps ++ (q ∷ [])) s t → Joined ps s t
-idle-groups {ps} {q} joined (listed r m) = go (Memᴰ.append_cases ps m)
+pub idle_groups : {ps : List Pair} {q : Pair} → Joined ps q.symbol q.base → {s t : ℕ} → Joined (ps ++ (q ∷ [])) s t → Joined ps s t
+idle_groups {ps} {q} joined (listed r m) = go (Memᴰ.append_cases ps m)
   where
     go : Memᴰ r ps ⊎ Memᴰ r (q ∷ []) → Joined ps r.symbol r.base
     go (inl m) = listed r m
     go (inr m) = rw (Memᴰ.eq_of_singleton m) joined
-idle-groups joined (same s) = same s
-idle-groups joined (back j) = back (idle-groups joined j)
-idle-groups joined (chain i j) = chain (idle-groups joined i) (idle-groups joined j)
+idle_groups joined (same s) = same s
+idle_groups joined (back j) = back (idle_groups joined j)
+idle_groups joined (chain i j) = chain (idle_groups joined i) (idle_groups joined j)
 
 -- ---- a symbol that no pair names
 

@@ -37,8 +37,8 @@ pub data Joining : List Pair → List Pair → ℕ → Type 0 where
 -- ---- parents
 
 -- "the base's root gets the symbol's root as parent": of these two roots, the one that stays and the one that gets it
-abbrev pub linkOf : ℕ → ℕ → Link
-linkOf symbolRoot baseRoot = record { root = symbolRoot; child = baseRoot }
+abbrev pub link_of : ℕ → ℕ → Link
+link_of symbol_root base_root = record { root = symbol_root; child = base_root }
 
 -- k steps up from s: each goes to the parent, "itself at a root"
 unfoldable pub walk : ℕ → List ℕ → ℕ → ℕ
@@ -46,17 +46,17 @@ walk zero p s = s
 walk (suc k) p s = walk k p (get_or p s 0)
 
 -- the link of a pair, where k steps lead to a root
-abbrev pub linkAt : ℕ → List ℕ → Pair → Link
-linkAt k p q = linkOf (walk k p q.symbol) (walk k p q.base)
+abbrev pub link_at : ℕ → List ℕ → Pair → Link
+link_at k p q = link_of (walk k p q.symbol) (walk k p q.base)
 
 -- the parents with one more pair
 unfoldable pub enter : ℕ → List ℕ → Pair → List ℕ
-enter k p q = set p (linkAt k p q).child (linkAt k p q).root
+enter k p q = set p (link_at k p q).child (link_at k p q).root
 
 -- those with all pairs of a list, in order, after k others
-unfoldable pub enterAll : ℕ → List ℕ → List Pair → List ℕ
-enterAll k p [] = p
-enterAll k p (q ∷ qs) = enterAll (suc k) (enter k p q) qs
+unfoldable pub enter_all : ℕ → List ℕ → List Pair → List ℕ
+enter_all k p [] = p
+enter_all k p (q ∷ qs) = enter_all (suc k) (enter k p q) qs
 
 -- n symbols from s on, each its own parent
 unfoldable pub selves : ℕ → ℕ → List ℕ
@@ -64,13 +64,13 @@ selves s zero = []
 selves s (suc n) = s ∷ selves (suc s) n
 
 -- the parents of n symbols "just as the pairs give them"
-unfoldable pub parentsOf : ℕ → List Pair → List ℕ
-parentsOf n ps = enterAll 0 (selves 0 n) ps
+unfoldable pub parents_of : ℕ → List Pair → List ℕ
+parents_of n ps = enter_all 0 (selves 0 n) ps
 
 -- each of n symbols has one of them as its parent
 abbrev pub Below : ℕ → List ℕ → Type 0
 Below n p = (s : ℕ) → s < n → get_or p s 0 < n
 
 -- the root of a symbol: no walk has more steps than there are pairs
-unfoldable pub rootOf : ℕ → List Pair → ℕ → ℕ
-rootOf n ps s = walk (length ps) (parentsOf n ps) s
+unfoldable pub root_of : ℕ → List Pair → ℕ → ℕ
+root_of n ps s = walk (length ps) (parents_of n ps) s

@@ -3,8 +3,8 @@
 #![tactic(auto)]
 
 ghost use Rattle.std.specs.Prelude.{◌≡◌, get_or, set};
-ghost use Rattle.names.specs.Table.{namesMax};
-ghost use Rattle.groups.specs.Groups.{pair, linkOf, walk, enter, selves};
+ghost use Rattle.names.specs.Table.{names_max};
+ghost use Rattle.groups.specs.Groups.{pair, link_of, walk, enter, selves};
 
 use names::{NAMES, Symbol, symbol_index};
 
@@ -20,14 +20,14 @@ pub struct Link {
 
 // Which root stays a root, of a, the root of a pair's symbol, and b, that of its base.
 fn linked(a: Symbol, b: Symbol) -> Link
-    ensures { result ≡ linkOf a b }
+    ensures { result ≡ link_of a b }
 {
     Link { root: a, child: b }
 }
 
 // Each symbol its own parent.
 pub fn own_parents() -> Parents
-    ensures { result ≡ selves 0 namesMax }
+    ensures { result ≡ selves 0 names_max }
 {
     let mut parents = [0; NAMES];
     let mut i: usize = 0;

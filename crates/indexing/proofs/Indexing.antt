@@ -6,97 +6,97 @@ use Prim.Native.Nat.{ℕ, ◌<◌}
 use native.Mathlib.Omega.{arith}
 use lib.Dec.{eqb}
 use Rattle.refusals.specs.declared.Refusal.{Refusal}
-use Rattle.kinds.specs.Kinds.{isUnion}
+use Rattle.kinds.specs.Kinds.{is_union}
 use Rattle.types.specs.Store.{Formed}
-use Rattle.types.specs.Types.{typesIn, kindOf}
-use Rattle.matching.specs.Matching.{inUse}
+use Rattle.types.specs.Types.{types_in, kind_of}
+use Rattle.matching.specs.Matching.{in_use}
 use Rattle.matching.specs.declared.Checked.{Checked}
 use Rattle.matching.specs.declared.Checked.TheVariants.{Known, Unknown, Function}
-use Rattle.matching.proofs.Matching.{known-in-use}
-use Rattle.operators.specs.Outcome.{noError, oneError, outcome, notIndexable}
-use Rattle.members.specs.Members.{sizeOf, unionOf, concluded, conclude}
-use Rattle.members.specs.Trials.{Tried, errorsIn, settled}
+use Rattle.matching.proofs.Matching.{known_in_use}
+use Rattle.operators.specs.Outcome.{no_error, one_error, outcome, not_indexable}
+use Rattle.members.specs.Members.{size_of, union_of, concluded, conclude}
+use Rattle.members.specs.Trials.{Tried, errors_in, settled}
 use Rattle.members.specs.declared.Conclusion.{Conclusion}
-use Rattle.members.proofs.Unions.{union-sound, union-refused}
-use Rattle.members.proofs.Kept.{Kept, unknown-used, kept-same, kept-entered, refused-made}
-use Rattle.indexing.specs.Indexing.{indexTarget, membersTried, indexAny, checkIndex}
-use Rattle.indexing.proofs.Targets.{target-in-use}
-use Rattle.indexing.proofs.Trying.{tried-used}
+use Rattle.members.proofs.Unions.{union_sound, union_refused}
+use Rattle.members.proofs.Kept.{Kept, unknown_used, kept_same, kept_entered, refused_made}
+use Rattle.indexing.specs.Indexing.{index_target, members_tried, index_any, check_index}
+use Rattle.indexing.proofs.Targets.{target_in_use}
+use Rattle.indexing.proofs.Trying.{tried_used}
 
 -- ---- what is answered
 
 module _ (page : List ℕ) (key : Checked) where
-  pub index-unknown : concluded (Conclusion.Is (outcome Unknown noError)) page ≡ checkIndex page key Unknown
-  unfolding checkIndex
-  index-unknown = refl
+  pub index_unknown : concluded (Conclusion.Is (outcome Unknown no_error)) page ≡ check_index page key Unknown
+  unfolding check_index
+  index_unknown = refl
 
-  pub index-function : (f : ℕ) → concluded (Conclusion.Is (outcome Unknown (oneError notIndexable))) page ≡ checkIndex page key (Function f)
-  unfolding checkIndex
-  index-function f = refl
+  pub index_function : (f : ℕ) → concluded (Conclusion.Is (outcome Unknown (one_error not_indexable))) page ≡ check_index page key (Function f)
+  unfolding check_index
+  index_function f = refl
 
-  pub index-union : (t : ℕ) → isUnion (kindOf page t) ≡ true → indexAny page key t ≡ checkIndex page key (Known t)
-  unfolding checkIndex
-  index-union t u = rw u refl
+  pub index_union : (t : ℕ) → is_union (kind_of page t) ≡ true → index_any page key t ≡ check_index page key (Known t)
+  unfolding check_index
+  index_union t u = rw u refl
 
-  pub index-other : (t : ℕ) → isUnion (kindOf page t) ≡ false
-      → concluded (Conclusion.Is (indexTarget page key t)) page ≡ checkIndex page key (Known t)
-  unfolding checkIndex
-  index-other t u = rw u refl
+  pub index_other : (t : ℕ) → is_union (kind_of page t) ≡ false
+      → concluded (Conclusion.Is (index_target page key t)) page ≡ check_index page key (Known t)
+  unfolding check_index
+  index_other t u = rw u refl
 
 -- ---- the store afterwards
 
 module _ (page : List ℕ) (f : Formed page) (key : Checked) where
-  any-kept : (t : ℕ) → t < typesIn page → Kept page (indexAny page key t)
-  unfolding indexAny settled
-  any-kept t u = go (eqb (errorsIn q).count 0)
+  any_kept : (t : ℕ) → t < types_in page → Kept page (index_any page key t)
+  unfolding index_any settled
+  any_kept t u = go (eqb (errors_in q).count 0)
     where
       q : Tried
-      q = membersTried page key t (sizeOf page t)
+      q = members_tried page key t (size_of page t)
 
-      go : (b : Bool) → Kept page (cond b (concluded (conclude (unionOf page q.results).made) (unionOf page q.results).store)
-          (concluded (Conclusion.Is (outcome Unknown (errorsIn q))) page))
+      go : (b : Bool) → Kept page (cond b (concluded (conclude (union_of page q.results).made) (union_of page q.results).store)
+          (concluded (Conclusion.Is (outcome Unknown (errors_in q))) page))
       go true =
-          kept-entered page (unionOf page q.results)
-          (union-sound page f q.results (tried-used page key t f u (sizeOf page t) (omega arith)))
-      go false = kept-same page f (outcome Unknown (errorsIn q)) (unknown-used page)
+          kept_entered page (union_of page q.results)
+          (union_sound page f q.results (tried_used page key t f u (size_of page t) (omega arith)))
+      go false = kept_same page f (outcome Unknown (errors_in q)) (unknown_used page)
 
-  pub index-kept : (target : Checked) → inUse page target ≡ true → Kept page (checkIndex page key target)
-  unfolding checkIndex
-  index-kept Unknown h = kept-same page f (outcome Unknown noError) (unknown-used page)
-  index-kept (Function g) h = kept-same page f (outcome Unknown (oneError notIndexable)) (unknown-used page)
-  index-kept (Known t) h = go (isUnion (kindOf page t))
+  pub index_kept : (target : Checked) → in_use page target ≡ true → Kept page (check_index page key target)
+  unfolding check_index
+  index_kept Unknown h = kept_same page f (outcome Unknown no_error) (unknown_used page)
+  index_kept (Function g) h = kept_same page f (outcome Unknown (one_error not_indexable)) (unknown_used page)
+  index_kept (Known t) h = go (is_union (kind_of page t))
     where
-      u : t < typesIn page
-      u = known-in-use page t h
+      u : t < types_in page
+      u = known_in_use page t h
 
-      go : (b : Bool) → Kept page (cond b (indexAny page key t) (concluded (Conclusion.Is (indexTarget page key t)) page))
-      go true = any-kept t u
-      go false = kept-same page f (indexTarget page key t) (target-in-use page f t u key)
+      go : (b : Bool) → Kept page (cond b (index_any page key t) (concluded (Conclusion.Is (index_target page key t)) page))
+      go true = any_kept t u
+      go false = kept_same page f (index_target page key t) (target_in_use page f t u key)
 
   -- a refusal leaves the store as it was
-  any-refused : (t : ℕ) (r : Refusal) → (indexAny page key t).conclusion ≡ Conclusion.Refused r → (indexAny page key t).store ≡ page
-  unfolding indexAny settled
-  any-refused t r = go (eqb (errorsIn q).count 0)
+  any_refused : (t : ℕ) (r : Refusal) → (index_any page key t).conclusion ≡ Conclusion.Refused r → (index_any page key t).store ≡ page
+  unfolding index_any settled
+  any_refused t r = go (eqb (errors_in q).count 0)
     where
       q : Tried
-      q = membersTried page key t (sizeOf page t)
+      q = members_tried page key t (size_of page t)
 
       go : (b : Bool)
-          → (cond b (concluded (conclude (unionOf page q.results).made) (unionOf page q.results).store)
-          (concluded (Conclusion.Is (outcome Unknown (errorsIn q))) page)).conclusion ≡ Conclusion.Refused r
-          → (cond b (concluded (conclude (unionOf page q.results).made) (unionOf page q.results).store)
-          (concluded (Conclusion.Is (outcome Unknown (errorsIn q))) page)).store ≡ page
-      go true e = union-refused page q.results r (refused-made (unionOf page q.results).made r e)
+          → (cond b (concluded (conclude (union_of page q.results).made) (union_of page q.results).store)
+          (concluded (Conclusion.Is (outcome Unknown (errors_in q))) page)).conclusion ≡ Conclusion.Refused r
+          → (cond b (concluded (conclude (union_of page q.results).made) (union_of page q.results).store)
+          (concluded (Conclusion.Is (outcome Unknown (errors_in q))) page)).store ≡ page
+      go true e = union_refused page q.results r (refused_made (union_of page q.results).made r e)
       go false e = refl
 
-  pub index-refused : (target : Checked) (r : Refusal) → (checkIndex page key target).conclusion ≡ Conclusion.Refused r
-      → (checkIndex page key target).store ≡ page
-  unfolding checkIndex
-  index-refused Unknown r e = refl
-  index-refused (Function g) r e = refl
-  index-refused (Known t) r e = go (isUnion (kindOf page t)) e
+  pub index_refused : (target : Checked) (r : Refusal) → (check_index page key target).conclusion ≡ Conclusion.Refused r
+      → (check_index page key target).store ≡ page
+  unfolding check_index
+  index_refused Unknown r e = refl
+  index_refused (Function g) r e = refl
+  index_refused (Known t) r e = go (is_union (kind_of page t)) e
     where
-      go : (b : Bool) → (cond b (indexAny page key t) (concluded (Conclusion.Is (indexTarget page key t)) page)).conclusion ≡ Conclusion.Refused r
-          → (cond b (indexAny page key t) (concluded (Conclusion.Is (indexTarget page key t)) page)).store ≡ page
-      go true e = any-refused t r e
+      go : (b : Bool) → (cond b (index_any page key t) (concluded (Conclusion.Is (index_target page key t)) page)).conclusion ≡ Conclusion.Refused r
+          → (cond b (index_any page key t) (concluded (Conclusion.Is (index_target page key t)) page)).store ≡ page
+      go true e = any_refused t r e
       go false e = refl

@@ -2,16 +2,16 @@
 #![tactic(auto)]
 
 ghost use Rattle.std.specs.Prelude.{◌≡◌, true, ◌||◌, ◌+◌, ◌≤◌, ◌<◌, eqb, length};
-ghost use Rattle.kinds.specs.Kinds.{null, isArray, isSet, isTuple};
-ghost use Rattle.types.specs.Store.{typesMax};
-ghost use Rattle.types.specs.Types.{typesIn, Held, Measured};
-ghost use Rattle.matching.specs.Matching.{inUse};
+ghost use Rattle.kinds.specs.Kinds.{null, is_array, is_set, is_tuple};
+ghost use Rattle.types.specs.Store.{types_max};
+ghost use Rattle.types.specs.Types.{types_in, Held, Measured};
+ghost use Rattle.matching.specs.Matching.{in_use};
 ghost use Rattle.marks.specs.Marks.{Noted};
 ghost use Rattle.matching.specs.Memo.{Found};
-ghost use Rattle.operators.specs.Outcome.{numberOf};
-ghost use Rattle.members.specs.Members.{membersMax, sizeOf, concluded};
+ghost use Rattle.operators.specs.Outcome.{number_of};
+ghost use Rattle.members.specs.Members.{members_max, size_of, concluded};
 ghost use Rattle.members.specs.Trials.{joined};
-ghost use Rattle.indexing.specs.Indexing.{indexTarget, membersTried, triedOf, indexAny, checkIndex};
+ghost use Rattle.indexing.specs.Indexing.{index_target, members_tried, tried_of, index_any, check_index};
 
 use kinds::Kind;
 use matching::Checked;
@@ -21,14 +21,14 @@ use types::{NULL, child_of, kind_of};
 
 // Whether a kind's values have one sort of element: arrays and sets.
 fn has_elements(k: Kind) -> bool
-    ensures { result ≡ (isArray k || isSet k) }
+    ensures { result ≡ (is_array k || is_set k) }
 {
     kinds::is_array(k) | kinds::is_set(k)
 }
 
 // Whether a kind indexes to Unknown: Null and tuples.
 fn is_unknown(k: Kind) -> bool
-    ensures { result ≡ (eqb k null || isTuple k) }
+    ensures { result ≡ (eqb k null || is_tuple k) }
 {
     (k == NULL as Kind) | kinds::is_tuple(k)
 }
@@ -42,9 +42,9 @@ pub fn check_index_target(
     t: usize,
 ) -> Outcome
     requires held { Held page.now offsets.now }
-    requires t_bound { (t < typesIn page.now) × (inUse page.now key ≡ true) }
+    requires t_bound { (t < types_in page.now) × (in_use page.now key ≡ true) }
     requires noted { Noted (Found page.now) memo.old }
-    ensures value { (result ≡ indexTarget page.now key t) × (numberOf result.checked < typesIn page.now) }
+    ensures value { (result ≡ index_target page.now key t) × (number_of result.checked < types_in page.now) }
     ensures noted_2 { Noted (Found page.now) memo.new }
 {
     let kind = kind_of(page, offsets, t);
@@ -78,10 +78,10 @@ struct Trials {
 
 // One more trial, of member x. The results are merged.
 fn join(results: &mut [u16], trials: Trials, o: Outcome, x: usize) -> Trials
-    requires results_len { (length results.old ≡ membersMax) × (trials.merged < membersMax) }
-    requires failing_lt_members_max { (trials.failing < membersMax) × (numberOf o.checked < typesMax) }
-    ensures result_after { triedOf results.new result ≡ joined x 0 o (triedOf results.old trials) }
-    ensures results_len_2 { (length results.new ≡ membersMax) × (result.merged ≤ trials.merged + 1) × (result.failing ≤ trials.failing + 1) }
+    requires results_len { (length results.old ≡ members_max) × (trials.merged < members_max) }
+    requires failing_lt_members_max { (trials.failing < members_max) × (number_of o.checked < types_max) }
+    ensures result_after { tried_of results.new result ≡ joined x 0 o (tried_of results.old trials) }
+    ensures results_len_2 { (length results.new ≡ members_max) × (result.merged ≤ trials.merged + 1) × (result.failing ≤ trials.failing + 1) }
 {
     if operators::does_pass(o) {
         let checked = o.checked;
@@ -115,10 +115,10 @@ fn try_members(
     results: &mut [u16],
 ) -> Trials
     requires held { Held page.now offsets.now }
-    requires t_bound { (t < typesIn page.now) × (inUse page.now key ≡ true) × (length results.old ≡ membersMax) }
+    requires t_bound { (t < types_in page.now) × (in_use page.now key ≡ true) × (length results.old ≡ members_max) }
     requires noted { Noted (Found page.now) memo.old }
-    ensures result_after { triedOf results.new result ≡ membersTried page.now key t (sizeOf page.now t) }
-    ensures results_len { (length results.new ≡ membersMax) × (result.merged ≤ membersMax) × Noted (Found page.now) memo.new }
+    ensures result_after { tried_of results.new result ≡ members_tried page.now key t (size_of page.now t) }
+    ensures results_len { (length results.new ≡ members_max) × (result.merged ≤ members_max) × Noted (Found page.now) memo.new }
 {
     let mut types = no_members();
     let n = flatten(page, offsets, t, &mut types);
@@ -147,9 +147,9 @@ pub fn check_index_any(
     t: usize,
 ) -> Conclusion
     requires measured { Measured page.old offsets.old depths.old }
-    requires t_bound { (t < typesIn page.old) × (inUse page.old key ≡ true) }
+    requires t_bound { (t < types_in page.old) × (in_use page.old key ≡ true) }
     requires noted { Noted (Found page.old) memo.old }
-    ensures page_after { concluded result page.new ≡ indexAny page.old key t }
+    ensures page_after { concluded result page.new ≡ index_any page.old key t }
     ensures measured_2 { Measured page.new offsets.new depths.new }
     ensures noted_2 { Noted (Found page.new) memo.new }
 {
@@ -179,9 +179,9 @@ pub fn check_index(
     key: Checked,
 ) -> Conclusion
     requires measured { Measured page.old offsets.old depths.old }
-    requires target_value { (inUse page.old target ≡ true) × (inUse page.old key ≡ true) }
+    requires target_value { (in_use page.old target ≡ true) × (in_use page.old key ≡ true) }
     requires noted { Noted (Found page.old) memo.old }
-    ensures page_after { concluded result page.new ≡ checkIndex page.old key target }
+    ensures page_after { concluded result page.new ≡ check_index page.old key target }
     ensures measured_2 { Measured page.new offsets.new depths.new }
     ensures noted_2 { Noted (Found page.new) memo.new }
 {

@@ -3,7 +3,7 @@
 
 ghost use Rattle.std.specs.Prelude.{◌≡◌, ◌≤◌};
 ghost use Rattle.pages.specs.Bytes.{within};
-ghost use Rattle.kinds.specs.Kinds.{childrenMax, isInt, isByte, isArray, isSet, isResult, isMap, isTuple, isRecord, isEnum, isBuilt, isUnion, isNamed, isStored, fewest, most, isPlain, constVariant, constMatches};
+ghost use Rattle.kinds.specs.Kinds.{children_max, is_int, is_byte, is_array, is_set, is_result, is_map, is_tuple, is_record, is_enum, is_built, is_union, is_named, is_stored, fewest, most, is_plain, const_variant, const_matches};
 
 // The code of a kind.
 pub type Kind = u8;
@@ -75,91 +75,91 @@ fn is_within(k: Kind, a: Kind, b: Kind) -> bool
 
 // Whether a kind is that of an Int or a CInt.
 pub fn is_int(k: Kind) -> bool
-    ensures { result ≡ isInt k }
+    ensures { result ≡ is_int k }
 {
     is_within(k, INT, CINT)
 }
 
 // Whether a kind is that of a Byte or a CByte.
 pub fn is_byte(k: Kind) -> bool
-    ensures { result ≡ isByte k }
+    ensures { result ≡ is_byte k }
 {
     is_within(k, BYTE, CBYTE)
 }
 
 // Whether a kind is that of an Array or a CArray.
 pub fn is_array(k: Kind) -> bool
-    ensures { result ≡ isArray k }
+    ensures { result ≡ is_array k }
 {
     is_within(k, ARRAY, CARRAY)
 }
 
 // Whether a kind is that of a Set or a CSet.
 pub fn is_set(k: Kind) -> bool
-    ensures { result ≡ isSet k }
+    ensures { result ≡ is_set k }
 {
     is_within(k, SET, CSET)
 }
 
 // Whether a kind is that of a Result or a CResult.
 pub fn is_result(k: Kind) -> bool
-    ensures { result ≡ isResult k }
+    ensures { result ≡ is_result k }
 {
     is_within(k, RESULT, CRESULT)
 }
 
 // Whether a kind is that of a Map or a CMap.
 pub fn is_map(k: Kind) -> bool
-    ensures { result ≡ isMap k }
+    ensures { result ≡ is_map k }
 {
     is_within(k, MAP, CMAP)
 }
 
 // Whether a kind is that of a Tuple or a CTuple.
 pub fn is_tuple(k: Kind) -> bool
-    ensures { result ≡ isTuple k }
+    ensures { result ≡ is_tuple k }
 {
     is_within(k, TUPLE, CTUPLE)
 }
 
 // Whether a kind is that of a Record or a CRecord.
 pub fn is_record(k: Kind) -> bool
-    ensures { result ≡ isRecord k }
+    ensures { result ≡ is_record k }
 {
     is_within(k, RECORD, CRECORD)
 }
 
 // Whether a kind is that of an Enum or a CEnum.
 pub fn is_enum(k: Kind) -> bool
-    ensures { result ≡ isEnum k }
+    ensures { result ≡ is_enum k }
 {
     is_within(k, ENUM, CENUM)
 }
 
 // Whether a kind is one from Array to CTuple.
 pub fn is_built(k: Kind) -> bool
-    ensures { result ≡ isBuilt k }
+    ensures { result ≡ is_built k }
 {
     is_within(k, ARRAY, CTUPLE)
 }
 
 // Whether a kind is that of a union.
 pub fn is_union(k: Kind) -> bool
-    ensures { result ≡ isUnion k }
+    ensures { result ≡ is_union k }
 {
     is_within(k, ANY, CANY)
 }
 
 // Whether a kind has a name, and no child.
 pub fn is_named(k: Kind) -> bool
-    ensures { result ≡ isNamed k }
+    ensures { result ≡ is_named k }
 {
     is_within(k, RECORD, GENERIC)
 }
 
 // Whether a store holds types of this kind: those that are not fixed.
 pub fn is_stored(k: Kind) -> bool
-    ensures { result ≡ isStored k }
+    ensures { result ≡ is_stored k }
 {
     is_within(k, ARRAY, GENERIC)
 }
@@ -182,7 +182,7 @@ pub fn fewest(k: Kind) -> usize
 
 // How many children a kind has at most.
 pub fn most(k: Kind) -> usize
-    ensures { (result ≡ most k) × (result ≤ childrenMax) }
+    ensures { (result ≡ most k) × (result ≤ children_max) }
 {
     if is_within(k, MAP, CMAP) {
         return 2;
@@ -198,14 +198,14 @@ pub fn most(k: Kind) -> usize
 
 // Whether a kind is the plain one of two, the const one having the next code.
 fn is_plain(k: Kind) -> bool
-    ensures { result ≡ isPlain k }
+    ensures { result ≡ is_plain k }
 {
     (k % 2 == 1) & (is_within(k, INT, ERROR) | is_within(k, ARRAY, TUPLE))
 }
 
 // The const form of a kind, or itself where it has none: `const_variant` of the source.
 pub fn const_variant(k: Kind) -> Kind
-    ensures { result ≡ constVariant k }
+    ensures { result ≡ const_variant k }
 {
     if is_plain(k) {
         return k + 1;
@@ -221,7 +221,7 @@ pub fn const_variant(k: Kind) -> Kind
 
 // Whether a kind stands against another as its const form or, for some, as its plain one: `const_matches` of the source.
 pub fn const_matches(a: Kind, b: Kind) -> bool
-    ensures { result ≡ constMatches a b }
+    ensures { result ≡ const_matches a b }
 {
     if a > b {
         return is_plain(b) & (a - b == 1);

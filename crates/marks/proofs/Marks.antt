@@ -13,19 +13,19 @@ use lib.Pow.{pow-add, pow_pos, pow-lt, shl_exact}
 use lib.ListN.{length, get_or, set, replicate, length-set, length-replicate, get_or-eq_default}
 use lib.Seq.{get_or-set_same, get_or-set_other, set_out}
 use borrow.Author.Tests.{eqb-true, eq-eqb, ltb-true, ltb-false, lt-ltb, le-ltb}
-use Rattle.pages.proofs.Quant.{and-true}
-use Rattle.pages.proofs.Bytes.{and-false, made-at}
-use Rattle.marks.specs.Marks.{bits, small, smallBytes, room, columns, place, isSet, isSetAt, setAt, isMarked, marking, Noted}
+use Rattle.pages.proofs.Quant.{and_true}
+use Rattle.pages.proofs.Bytes.{and_false, made_at}
+use Rattle.marks.specs.Marks.{bits, small, small_bytes, room, columns, place, is_set, is_set_at, set_at, is_marked, marking, Noted}
 
 -- ---- one byte
 
 -- the lowest digit of an or
-lowest-or : (a b : ℕ) → bit_or a b % 2 ≡ max (a % 2) (b % 2)
-lowest-or a b = ap (λ (n : ℕ). n % 2) (or_step a b) ∙ omega arith
+lowest_or : (a b : ℕ) → bit_or a b % 2 ≡ max (a % 2) (b % 2)
+lowest_or a b = ap (λ (n : ℕ). n % 2) (or_step a b) ∙ omega arith
 
 -- a power of two has one digit
-one-digit : (k j : ℕ) → (j ≡ k → ⊥) → 2 ^ k / 2 ^ j % 2 ≡ 0
-one-digit k j ne = go (ltb j k) refl
+one_digit : (k j : ℕ) → (j ≡ k → ⊥) → 2 ^ k / 2 ^ j % 2 ≡ 0
+one_digit k j ne = go (ltb j k) refl
   where
     even : (n : ℕ) → 0 < n → 2 ^ n % 2 ≡ 0
     even n h =
@@ -42,34 +42,34 @@ one-digit k j ne = go (ltb j k) refl
         ⊎_elim (λ x. absurd (ne (sym x))) (λ x. ap (λ (m : ℕ). m % 2) (div-eq_of_lt (pow-lt x))) (eq-or-lt_of_le l)
 
 module _ (n k : ℕ) where
-  digit-or : (j : ℕ) → bit_or n (2 ^ k) / 2 ^ j % 2 ≡ max (n / 2 ^ j % 2) (2 ^ k / 2 ^ j % 2)
-  digit-or j = ap (λ (m : ℕ). m % 2) (or_shr n (2 ^ k) j) ∙ lowest-or (n / 2 ^ j) (2 ^ k / 2 ^ j)
+  digit_or : (j : ℕ) → bit_or n (2 ^ k) / 2 ^ j % 2 ≡ max (n / 2 ^ j % 2) (2 ^ k / 2 ^ j % 2)
+  digit_or j = ap (λ (m : ℕ). m % 2) (or_shr n (2 ^ k) j) ∙ lowest_or (n / 2 ^ j) (2 ^ k / 2 ^ j)
 
   -- a bit that is set was the one, or was set before
-  or-more : (j : ℕ) → isSet (bit_or n (2 ^ k)) j ≡ true → (j ≡ k) ⊎ (isSet n j ≡ true)
-  unfolding isSet
-  or-more j h = go (ℕ_discrete j k)
+  or_more : (j : ℕ) → is_set (bit_or n (2 ^ k)) j ≡ true → (j ≡ k) ⊎ (is_set n j ≡ true)
+  unfolding is_set
+  or_more j h = go (ℕ_discrete j k)
     where
       go : Dec (j ≡ k) → (j ≡ k) ⊎ (eqb (n / 2 ^ j % 2) 1 ≡ true)
       go (yes e) = inl e
       go (no ne) =
-          let same : bit_or n (2 ^ k) / 2 ^ j % 2 ≡ n / 2 ^ j % 2 = digit-or j ∙ ap (λ (m : ℕ). max (n / 2 ^ j % 2) m) (one-digit k j ne) ∙ max-zero (n / 2 ^ j % 2) in
+          let same : bit_or n (2 ^ k) / 2 ^ j % 2 ≡ n / 2 ^ j % 2 = digit_or j ∙ ap (λ (m : ℕ). max (n / 2 ^ j % 2) m) (one_digit k j ne) ∙ max-zero (n / 2 ^ j % 2) in
           inr (rw (← same) h)
 
   -- a bit that was set still is
-  or-still : (j : ℕ) → isSet n j ≡ true → isSet (bit_or n (2 ^ k)) j ≡ true
-  unfolding isSet
-  or-still j h =
+  or_still : (j : ℕ) → is_set n j ≡ true → is_set (bit_or n (2 ^ k)) j ≡ true
+  unfolding is_set
+  or_still j h =
       let one = eqb-true (n / 2 ^ j % 2) 1 h in
       let most : max (n / 2 ^ j % 2) (2 ^ k / 2 ^ j % 2) ≡ 1 = omega (arith, one) in
-      eq-eqb _ 1 (digit-or j ∙ most)
+      eq-eqb _ 1 (digit_or j ∙ most)
 
   -- and the one is set
-  or-set : isSet (bit_or n (2 ^ k)) k ≡ true
-  unfolding isSet
-  or-set =
+  or_set : is_set (bit_or n (2 ^ k)) k ≡ true
+  unfolding is_set
+  or_set =
       let one : max (n / 2 ^ k % 2) 1 ≡ 1 = omega arith in
-      eq-eqb _ 1 (digit-or k ∙ ap (λ (m : ℕ). max (n / 2 ^ k % 2) (m % 2)) (div_self (pow_pos k)) ∙ one)
+      eq-eqb _ 1 (digit_or k ∙ ap (λ (m : ℕ). max (n / 2 ^ k % 2) (m % 2)) (div_self (pow_pos k)) ∙ one)
 
 -- ---- a table
 
@@ -78,36 +78,36 @@ pieces : (x p : ℕ) → x / bits ≡ p / bits → x % bits ≡ p % bits → x �
 pieces x p d m = omega (arith, d, m)
 
 module _ (table : List ℕ) (p : ℕ) where
-  set-more : (x : ℕ) → isSetAt (setAt table p) x ≡ true → (x ≡ p) ⊎ (isSetAt table x ≡ true)
-  set-more x h = go (ℕ_discrete (x / bits) (p / bits)) (ltb (p / bits) (length table)) refl
+  set_more : (x : ℕ) → is_set_at (set_at table p) x ≡ true → (x ≡ p) ⊎ (is_set_at table x ≡ true)
+  set_more x h = go (ℕ_discrete (x / bits) (p / bits)) (ltb (p / bits) (length table)) refl
     where
       byte : ℕ
       byte = bit_or (get_or table (p / bits) 0) (2 ^ (p % bits))
 
-      go : Dec (x / bits ≡ p / bits) → (r : Bool) → ltb (p / bits) (length table) ≡ r → (x ≡ p) ⊎ (isSetAt table x ≡ true)
+      go : Dec (x / bits ≡ p / bits) → (r : Bool) → ltb (p / bits) (length table) ≡ r → (x ≡ p) ⊎ (is_set_at table x ≡ true)
       go (yes d) true l =
-          let same = ap (λ (i : ℕ). get_or (setAt table p) i 0) d ∙ get_or-set_same table (p / bits) byte 0 (ltb-true (p / bits) (length table) l) in
-          let k : isSet byte (x % bits) ≡ true = rw (← same) h in
-          ⊎_elim (λ e. inl (pieces x p d e)) (λ e. inr (rw d e)) (or-more (get_or table (p / bits) 0) (p % bits) (x % bits) k)
+          let same = ap (λ (i : ℕ). get_or (set_at table p) i 0) d ∙ get_or-set_same table (p / bits) byte 0 (ltb-true (p / bits) (length table) l) in
+          let k : is_set byte (x % bits) ≡ true = rw (← same) h in
+          ⊎_elim (λ e. inl (pieces x p d e)) (λ e. inr (rw d e)) (or_more (get_or table (p / bits) 0) (p % bits) (x % bits) k)
       go (yes d) false l = inr (rw (← set_out table (p / bits) byte (ltb-false (p / bits) (length table) l)) h)
       go (no ne) r l = inr (rw (← get_or-set_other table (p / bits) (x / bits) byte 0 ne) h)
 
-  set-still : (x : ℕ) → isSetAt table x ≡ true → isSetAt (setAt table p) x ≡ true
-  set-still x h = go (ℕ_discrete (x / bits) (p / bits)) (ltb (p / bits) (length table)) refl
+  set_still : (x : ℕ) → is_set_at table x ≡ true → is_set_at (set_at table p) x ≡ true
+  set_still x h = go (ℕ_discrete (x / bits) (p / bits)) (ltb (p / bits) (length table)) refl
     where
       byte : ℕ
       byte = bit_or (get_or table (p / bits) 0) (2 ^ (p % bits))
 
-      go : Dec (x / bits ≡ p / bits) → (r : Bool) → ltb (p / bits) (length table) ≡ r → isSetAt (setAt table p) x ≡ true
+      go : Dec (x / bits ≡ p / bits) → (r : Bool) → ltb (p / bits) (length table) ≡ r → is_set_at (set_at table p) x ≡ true
       go (yes d) true l =
-          let same = ap (λ (i : ℕ). get_or (setAt table p) i 0) d ∙ get_or-set_same table (p / bits) byte 0 (ltb-true (p / bits) (length table) l) in
-          let k : isSet (get_or table (p / bits) 0) (x % bits) ≡ true = rw (← d) h in
-          rw same (or-still (get_or table (p / bits) 0) (p % bits) (x % bits) k)
+          let same = ap (λ (i : ℕ). get_or (set_at table p) i 0) d ∙ get_or-set_same table (p / bits) byte 0 (ltb-true (p / bits) (length table) l) in
+          let k : is_set (get_or table (p / bits) 0) (x % bits) ≡ true = rw (← d) h in
+          rw same (or_still (get_or table (p / bits) 0) (p % bits) (x % bits) k)
       go (yes d) false l = rw (set_out table (p / bits) byte (ltb-false (p / bits) (length table) l)) h
       go (no ne) r l = rw (get_or-set_other table (p / bits) (x / bits) byte 0 ne) h
 
-  set-set : p / bits < length table → isSetAt (setAt table p) p ≡ true
-  set-set l = rw (get_or-set_same table (p / bits) (bit_or (get_or table (p / bits) 0) (2 ^ (p % bits))) 0 l) (or-set (get_or table (p / bits) 0) (p % bits))
+  set_set : p / bits < length table → is_set_at (set_at table p) p ≡ true
+  set_set l = rw (get_or-set_same table (p / bits) (bit_or (get_or table (p / bits) 0) (2 ^ (p % bits))) 0 l) (or_set (get_or table (p / bits) 0) (p % bits))
 
 -- places are distinct
 places : (n r c x y : ℕ) → c < columns n → y < columns n → place n x y ≡ place n r c → (x ≡ r) × (y ≡ c)
@@ -121,124 +121,124 @@ places n r c x y u v e =
 -- ---- marks
 
 module _ (table : List ℕ) (row column : ℕ) where
-  pub length-marking : length (marking table row column) ≡ length table
+  pub length_marking : length (marking table row column) ≡ length table
   unfolding marking
-  length-marking = go (ltb column (columns (room (length table))))
+  length_marking = go (ltb column (columns (room (length table))))
     where
-      go : (r : Bool) → length (cond r (setAt table (place (room (length table)) row column)) table) ≡ length table
+      go : (r : Bool) → length (cond r (set_at table (place (room (length table)) row column)) table) ≡ length table
       go true = length-set table _ _
       go false = refl
 
   -- what is marked was marked now, or before
-  pub marked-more : (x y : ℕ) → isMarked (marking table row column) x y ≡ true → ((x ≡ row) × (y ≡ column)) ⊎ (isMarked table x y ≡ true)
-  unfolding isMarked marking
-  marked-more x y h = go (ltb column (columns (room (length table)))) refl
+  pub marked_more : (x y : ℕ) → is_marked (marking table row column) x y ≡ true → ((x ≡ row) × (y ≡ column)) ⊎ (is_marked table x y ≡ true)
+  unfolding is_marked marking
+  marked_more x y h = go (ltb column (columns (room (length table)))) refl
     where
       n : ℕ
       n = room (length table)
 
-      go : (r : Bool) → ltb column (columns n) ≡ r → ((x ≡ row) × (y ≡ column)) ⊎ (isMarked table x y ≡ true)
+      go : (r : Bool) → ltb column (columns n) ≡ r → ((x ≡ row) × (y ≡ column)) ⊎ (is_marked table x y ≡ true)
       go false e = inr (rw e at h)
       go true e =
-          let k : (ltb y (columns n) && isSetAt (setAt table (place n row column)) (place n x y)) ≡ true = rw (length-set table (place n row column / bits) _) at (rw e at h) in
-          let d = and-true (ltb y (columns n)) (isSetAt (setAt table (place n row column)) (place n x y)) k in
+          let k : (ltb y (columns n) && is_set_at (set_at table (place n row column)) (place n x y)) ≡ true = rw (length-set table (place n row column / bits) _) at (rw e at h) in
+          let d = and_true (ltb y (columns n)) (is_set_at (set_at table (place n row column)) (place n x y)) k in
           ⊎_elim
           (λ s. inl (places n row column x y (ltb-true column (columns n) e) (ltb-true y (columns n) d.0) s))
           (λ s. inr (rw d.0 s))
-          (set-more table (place n row column) (place n x y) d.1)
+          (set_more table (place n row column) (place n x y) d.1)
 
   -- where the table has room, what is marked is found marked
-  pub marked-now : column < columns (room (length table)) → place (room (length table)) row column / bits < length table → isMarked (marking table row column) row column ≡ true
-  unfolding isMarked marking
-  marked-now u l =
+  pub marked_now : column < columns (room (length table)) → place (room (length table)) row column / bits < length table → is_marked (marking table row column) row column ≡ true
+  unfolding is_marked marking
+  marked_now u l =
       let e = lt-ltb column (columns (room (length table))) u in
-      rw (e, length-set table (place (room (length table)) row column / bits) (bit_or (get_or table (place (room (length table)) row column / bits) 0) (2 ^ (place (room (length table)) row column % bits))), e, set-set table (place (room (length table)) row column) l) refl
+      rw (e, length-set table (place (room (length table)) row column / bits) (bit_or (get_or table (place (room (length table)) row column / bits) 0) (2 ^ (place (room (length table)) row column % bits))), e, set_set table (place (room (length table)) row column) l) refl
 
 -- ---- what the functions meet: a column beyond the table's, a place behind its end, and one within it
 
 module _ (table : List ℕ) (row column n : ℕ) (e : n ≡ room (length table)) where
-  pub unmarked-beyond : 2 * n ≤ column → isMarked table row column ≡ false
-  unfolding isMarked
-  unmarked-beyond l = rw (← e, le-ltb column (columns n) l) refl
+  pub unmarked_beyond : 2 * n ≤ column → is_marked table row column ≡ false
+  unfolding is_marked
+  unmarked_beyond l = rw (← e, le-ltb column (columns n) l) refl
 
-  pub marking-beyond : 2 * n ≤ column → marking table row column ≡ table
+  pub marking_beyond : 2 * n ≤ column → marking table row column ≡ table
   unfolding marking
-  marking-beyond l = rw (← e, le-ltb column (columns n) l) refl
+  marking_beyond l = rw (← e, le-ltb column (columns n) l) refl
 
   module _ (p : ℕ) (d : p ≡ place n row column) where
-    pub unmarked-behind : length table ≤ p / bits → isMarked table row column ≡ false
-    unfolding isMarked isSet
-    unmarked-behind l =
-        let zero-byte = ap (λ (m : ℕ). m / 2 ^ (p % bits) % 2) (get_or-eq_default table 0 l) ∙ ap (λ (m : ℕ). m % 2) (zero-div (2 ^ (p % bits))) in
-        rw (← e, ← d, zero-byte) (and-false (ltb column (columns n)))
+    pub unmarked_behind : length table ≤ p / bits → is_marked table row column ≡ false
+    unfolding is_marked is_set
+    unmarked_behind l =
+        let zero_byte = ap (λ (m : ℕ). m / 2 ^ (p % bits) % 2) (get_or-eq_default table 0 l) ∙ ap (λ (m : ℕ). m % 2) (zero-div (2 ^ (p % bits))) in
+        rw (← e, ← d, zero_byte) (and_false (ltb column (columns n)))
 
-    pub marking-behind : length table ≤ p / bits → marking table row column ≡ table
+    pub marking_behind : length table ≤ p / bits → marking table row column ≡ table
     unfolding marking
-    marking-behind l = rw (← e, ← d, set_out table (p / bits) (bit_or (get_or table (p / bits) 0) (2 ^ (p % bits))) l) (go (ltb column (columns n)))
+    marking_behind l = rw (← e, ← d, set_out table (p / bits) (bit_or (get_or table (p / bits) 0) (2 ^ (p % bits))) l) (go (ltb column (columns n)))
       where
         go : (r : Bool) → cond r table table ≡ table
         go true = refl
         go false = refl
 
     module _ (l : column < 2 * n) where
-      pub marked-at : eqb (get_or table (p / bits) 0 / 2 ^ (p % bits) % 2) 1 ≡ isMarked table row column
-      unfolding isMarked isSet
-      marked-at = rw (← e, ← d, lt-ltb column (columns n) l) refl
+      pub marked_at : eqb (get_or table (p / bits) 0 / 2 ^ (p % bits) % 2) 1 ≡ is_marked table row column
+      unfolding is_marked is_set
+      marked_at = rw (← e, ← d, lt-ltb column (columns n) l) refl
 
-      pub marking-at : set table (p / bits) (bit_or (get_or table (p / bits) 0) (1 * 2 ^ (p % bits) % 256)) ≡ marking table row column
+      pub marking_at : set table (p / bits) (bit_or (get_or table (p / bits) 0) (1 * 2 ^ (p % bits) % 256)) ≡ marking table row column
       unfolding marking
-      marking-at =
+      marking_at =
           let one : 1 * 2 ^ (p % bits) % 256 ≡ 2 ^ (p % bits) = shl_exact 1 (p % bits) 8 (omega arith) (omega arith) ∙ one-mul (2 ^ (p % bits)) in
           rw (← e, ← d, lt-ltb column (columns n) l, one) refl
 
 -- what was marked still is
-pub marked-still : (table : List ℕ) (row column x y : ℕ) → isMarked table x y ≡ true → isMarked (marking table row column) x y ≡ true
-unfolding isMarked marking
-marked-still table row column x y h = go (ltb column (columns (room (length table)))) refl
+pub marked_still : (table : List ℕ) (row column x y : ℕ) → is_marked table x y ≡ true → is_marked (marking table row column) x y ≡ true
+unfolding is_marked marking
+marked_still table row column x y h = go (ltb column (columns (room (length table)))) refl
   where
     n : ℕ
     n = room (length table)
 
-    go : (r : Bool) → ltb column (columns n) ≡ r → isMarked (cond r (setAt table (place n row column)) table) x y ≡ true
+    go : (r : Bool) → ltb column (columns n) ≡ r → is_marked (cond r (set_at table (place n row column)) table) x y ≡ true
     go false e = h
     go true e =
-        let d = and-true (ltb y (columns n)) (isSetAt table (place n x y)) h in
+        let d = and_true (ltb y (columns n)) (is_set_at table (place n x y)) h in
         rw (length-set table (place n row column / bits) (bit_or (get_or table (place n row column / bits) 0) (2 ^ (place n row column % bits))), d.0)
-        (set-still table (place n row column) (place n x y) d.1)
+        (set_still table (place n row column) (place n x y) d.1)
 
 -- ---- what is noted holds
 
 module _ (holds : List ℕ → ℕ → ℕ → Type 0) where
-  pub noted-none : (n : ℕ) → Noted holds (replicate n 0)
-  unfolding isMarked isSet
-  noted-none n = record { right = λ r c h. absurd (none r c h) }
+  pub noted_none : (n : ℕ) → Noted holds (replicate n 0)
+  unfolding is_marked is_set
+  noted_none n = record { right = λ r c h. absurd (none r c h) }
     where
-      none : (r c : ℕ) → isMarked (replicate n 0) r c ≡ true → ⊥
+      none : (r c : ℕ) → is_marked (replicate n 0) r c ≡ true → ⊥
       none r c h =
           let w = room (length {A = ℕ} (replicate n 0)) in
-          let d = (and-true (ltb c (columns w)) (eqb (get_or {A = ℕ} (replicate n 0) (place w r c / bits) 0 / 2 ^ (place w r c % bits) % 2) 1) h).1 in
-          let zero-byte : get_or {A = ℕ} (replicate n 0) (place w r c / bits) 0 / 2 ^ (place w r c % bits) % 2 ≡ 0 = ap (λ (m : ℕ). m / 2 ^ (place w r c % bits) % 2) (made-at n (place w r c / bits)) ∙ ap (λ (m : ℕ). m % 2) (zero-div (2 ^ (place w r c % bits))) in
+          let d = (and_true (ltb c (columns w)) (eqb (get_or {A = ℕ} (replicate n 0) (place w r c / bits) 0 / 2 ^ (place w r c % bits) % 2) 1) h).1 in
+          let zero_byte : get_or {A = ℕ} (replicate n 0) (place w r c / bits) 0 / 2 ^ (place w r c % bits) % 2 ≡ 0 = ap (λ (m : ℕ). m / 2 ^ (place w r c % bits) % 2) (made_at n (place w r c / bits)) ∙ ap (λ (m : ℕ). m % 2) (zero-div (2 ^ (place w r c % bits))) in
           let one = eqb-true (get_or {A = ℕ} (replicate n 0) (place w r c / bits) 0 / 2 ^ (place w r c % bits) % 2) 1 d in
-          omega (arith, zero-byte, one)
+          omega (arith, zero_byte, one)
 
   -- nothing is marked in a fresh table
-  pub noted-fresh : (table : List ℕ) (n : ℕ) → table ≡ replicate n 0 → Noted holds table
-  noted-fresh table n e = rw e (noted-none n)
+  pub noted_fresh : (table : List ℕ) (n : ℕ) → table ≡ replicate n 0 → Noted holds table
+  noted_fresh table n e = rw e (noted_none n)
 
   -- one mark more, where what holds goes by the marks alone
   module _ (table : List ℕ) (n : Noted holds table) (row column : ℕ) (goes : (other : List ℕ) (x y : ℕ) → holds table x y → holds other x y) where
-    pub noted-more : holds table row column → Noted holds (marking table row column)
-    noted-more h = record { right = right }
+    pub noted_more : holds table row column → Noted holds (marking table row column)
+    noted_more h = record { right = right }
       where
-        right : (x y : ℕ) → isMarked (marking table row column) x y ≡ true → holds (marking table row column) x y
+        right : (x y : ℕ) → is_marked (marking table row column) x y ≡ true → holds (marking table row column) x y
         right x y m =
-            ⊎_elim (λ e. goes (marking table row column) x y (rw (e.0, e.1) h)) (λ e. goes (marking table row column) x y (n.right x y e)) (marked-more table row column x y m)
+            ⊎_elim (λ e. goes (marking table row column) x y (rw (e.0, e.1) h)) (λ e. goes (marking table row column) x y (n.right x y e)) (marked_more table row column x y m)
 
 -- what holds of all that is marked holds of it in another way, if the one follows from the other
-pub noted-as : (holds also : List ℕ → ℕ → ℕ → Type 0) (table : List ℕ) → ((row column : ℕ) → holds table row column → also table row column) → Noted holds table → Noted also table
-noted-as holds also table f n = record { right = λ r c h. f r c (n.right r c h) }
+pub noted_as : (holds also : List ℕ → ℕ → ℕ → Type 0) (table : List ℕ) → ((row column : ℕ) → holds table row column → also table row column) → Noted holds table → Noted also table
+noted_as holds also table f n = record { right = λ r c h. f r c (n.right r c h) }
 
 -- a small table has room for that many types
-pub small-room : (table : List ℕ) → table ≡ replicate (2 * smallBytes) 0 → room (length table) ≡ small
+pub small_room : (table : List ℕ) → table ≡ replicate (2 * small_bytes) 0 → room (length table) ≡ small
 unfolding room
-small-room table e = ap (λ (t : List ℕ). room (length t)) e ∙ ap room (length-replicate {A = ℕ} (2 * smallBytes) 0)
+small_room table e = ap (λ (t : List ℕ). room (length t)) e ∙ ap room (length-replicate {A = ℕ} (2 * small_bytes) 0)

@@ -3,8 +3,8 @@
 #![tactic(auto)]
 
 ghost use Rattle.std.specs.Prelude.{◌≡◌, ◌≤◌, ◌<◌, length};
-ghost use Rattle.types.specs.Store.{typesMax};
-ghost use Rattle.marks.specs.Marks.{room, columns, place, isMarked, marking};
+ghost use Rattle.types.specs.Store.{types_max};
+ghost use Rattle.marks.specs.Marks.{room, columns, place, is_marked, marking};
 
 use types::TYPES;
 
@@ -25,7 +25,7 @@ pub const LARGE_BYTES: usize = TYPES * TYPES / BITS;
 
 // For how many types a table has room.
 pub fn room(table: &[u8]) -> usize
-    ensures { (result ≡ room (length table.now)) × (result ≤ typesMax) }
+    ensures { (result ≡ room (length table.now)) × (result ≤ types_max) }
 {
     if table.len() < SMALL_BYTES {
         return TINY;
@@ -39,7 +39,7 @@ pub fn room(table: &[u8]) -> usize
 
 // The place of a mark, in a table with room for n types.
 fn place_of(n: usize, row: usize, column: usize) -> usize
-    requires { (n ≤ typesMax) × (row < typesMax) × (column < columns n) }
+    requires { (n ≤ types_max) × (row < types_max) × (column < columns n) }
     ensures { result ≡ place n row column }
 {
     row * (2 * n) + column
@@ -47,8 +47,8 @@ fn place_of(n: usize, row: usize, column: usize) -> usize
 
 // Whether a row is marked in a column.
 pub fn is_marked(table: &[u8], row: usize, column: usize) -> bool
-    requires { row < typesMax }
-    ensures { result ≡ isMarked table.now row column }
+    requires { row < types_max }
+    ensures { result ≡ is_marked table.now row column }
 {
     let n = room(table);
     if 2 * n <= column {
@@ -64,7 +64,7 @@ pub fn is_marked(table: &[u8], row: usize, column: usize) -> bool
 
 // Marks a row in a column.
 pub fn mark(table: &mut [u8], row: usize, column: usize)
-    requires { row < typesMax }
+    requires { row < types_max }
     ensures { table.new ≡ marking table.old row column }
 {
     let n = room(table);

@@ -7,218 +7,218 @@ use native.Mathlib.Nat.{not-suc-le-zero}
 use native.Mathlib.Omega.{arith}
 use lib.Dec.{ltb, eqb}
 use borrow.Author.Tests.{eqb-true, ltb-true, lt-ltb}
-use Rattle.pages.specs.Quant.{anyTo}
-use Rattle.pages.proofs.Quant.{and-true, any-cong, all-cong}
-use Rattle.kinds.specs.Kinds.{callback, handle, handleInfer, isArray, isSet, isMap, isTuple, isRecord, isEnum, isUnion, isNamed}
+use Rattle.pages.specs.Quant.{any_to}
+use Rattle.pages.proofs.Quant.{and_true, any_cong, all_cong}
+use Rattle.kinds.specs.Kinds.{callback, handle, handle_infer, is_array, is_set, is_map, is_tuple, is_record, is_enum, is_union, is_named}
 use Rattle.types.specs.Store.{Formed}
-use Rattle.types.specs.Types.{typesIn, kindOf, arity, childOf, nameOf}
+use Rattle.types.specs.Types.{types_in, kind_of, arity, child_of, name_of}
 use Rattle.types.specs.Making.{Grows}
-use Rattle.types.proofs.Types.{child-lower}
-use Rattle.types.proofs.Grown.{kind-grown, arity-grown, child-grown, name-grown}
-use Rattle.matching.specs.Matching.{both, isKind, smaller, nullOr, arrayElision, nullArrayElision, mapElision, nullMapElision, recordMatches, enumMatches, setMatches, handleMatches, flatMatches, wild, plainMatches, anyRule, knownMatches, anyMatches, inUse}
+use Rattle.types.proofs.Types.{child_lower}
+use Rattle.types.proofs.Grown.{kind_grown, arity_grown, child_grown, name_grown}
+use Rattle.matching.specs.Matching.{both, is_kind, smaller, null_or, array_elision, null_array_elision, map_elision, null_map_elision, record_matches, enum_matches, set_matches, handle_matches, flat_matches, wild, plain_matches, any_rule, known_matches, any_matches, in_use}
 use Rattle.matching.specs.declared.Checked.{Checked}
 use Rattle.matching.specs.declared.Checked.TheVariants.{Known, Unknown, Function}
 use Rattle.marks.specs.Marks.{Noted}
-use Rattle.marks.proofs.Marks.{noted-as}
-use Rattle.matching.specs.Memo.{hasPartner, found, Says, Found}
-use Rattle.matching.proofs.Parts.{record-named, enum-named, handle-named, one-child, two-children}
-use Rattle.matching.proofs.Elision.{smaller-left, smaller-right, and-cong, cond-cong, elided, partRule, array-eq, map-eq}
-use Rattle.matching.proofs.Matching.{known-eq}
+use Rattle.marks.proofs.Marks.{noted_as}
+use Rattle.matching.specs.Memo.{has_partner, found, Says, Found}
+use Rattle.matching.proofs.Parts.{record_named, enum_named, handle_named, one_child, two_children}
+use Rattle.matching.proofs.Elision.{smaller_left, smaller_right, and_cong, cond_cong, elided, part_rule, array_eq, map_eq}
+use Rattle.matching.proofs.Matching.{known_eq}
 
 module _ (p q : List ℕ) (f : Formed p) (fq : Formed q) (g : Grows p q) where
-  still : (t : ℕ) → t < typesIn p → t < typesIn q
+  still : (t : ℕ) → t < types_in p → t < types_in q
   still t u = omega (arith, g.more)
 
   -- child i of type t, where it has one
   record Child (t i : ℕ) : Type 0 where
-    pub same : childOf q t i ≡ childOf p t i
-    pub low : childOf p t i < t
+    pub same : child_of q t i ≡ child_of p t i
+    pub low : child_of p t i < t
 
-  module _ (t : ℕ) (u : t < typesIn p) where
-    kind : kindOf q t ≡ kindOf p t
-    kind = kind-grown p q f g t u
+  module _ (t : ℕ) (u : t < types_in p) where
+    kind : kind_of q t ≡ kind_of p t
+    kind = kind_grown p q f g t u
 
     children : arity q t ≡ arity p t
-    children = arity-grown p q f g t u
+    children = arity_grown p q f g t u
 
     child : (i : ℕ) → i < arity p t → Child t i
-    child i l = record { same = child-grown p q f g t u i l; low = child-lower p f t u i l }
+    child i l = record { same = child_grown p q f g t u i l; low = child_lower p f t u i l }
 
   -- a checked type stays in use
-  pub in-use-grown : (c : Checked) → inUse p c ≡ true → inUse q c ≡ true
-  unfolding inUse
-  in-use-grown Unknown h = refl
-  in-use-grown (Known t) h = lt-ltb t (typesIn q) (still t (ltb-true t (typesIn p) h))
-  in-use-grown (Function t) h =
-      let d = and-true (ltb t (typesIn p)) (isKind callback p t) h in
-      let u = ltb-true t (typesIn p) d.0 in
-      rw (lt-ltb t (typesIn q) (still t u), kind t u) d.1
+  pub in_use_grown : (c : Checked) → in_use p c ≡ true → in_use q c ≡ true
+  unfolding in_use
+  in_use_grown Unknown h = refl
+  in_use_grown (Known t) h = lt-ltb t (types_in q) (still t (ltb-true t (types_in p) h))
+  in_use_grown (Function t) h =
+      let d = and_true (ltb t (types_in p)) (is_kind callback p t) h in
+      let u = ltb-true t (types_in p) d.0 in
+      rw (lt-ltb t (types_in q) (still t u), kind t u) d.1
 
   -- two children are elided by rules that say the same of them
-  elided-grown : (r s : ℕ → ℕ → Bool) (a b i : ℕ) → Child a i → Child b i → r (childOf p a i) (childOf p b i) ≡ s (childOf p a i) (childOf p b i)
+  elided_grown : (r s : ℕ → ℕ → Bool) (a b i : ℕ) → Child a i → Child b i → r (child_of p a i) (child_of p b i) ≡ s (child_of p a i) (child_of p b i)
       → elided q r a b i ≡ elided p s a b i
-  unfolding nullOr
-  elided-grown r s a b i x y h = rw (x.same, y.same, h) refl
+  unfolding null_or
+  elided_grown r s a b i x y h = rw (x.same, y.same, h) refl
 
   -- ---- elision
 
-  module _ (a : ℕ) (u : a < typesIn p) (b : ℕ) (v : b < typesIn p) where
-    module _ (ih : (x y : ℕ) → x < a → y < typesIn p → nullArrayElision q x y ≡ nullArrayElision p x y) where
-      array-child : (i : ℕ) → i < arity p a → i < arity p b
-          → elided q (nullArrayElision q) a b i ≡ elided p (nullArrayElision p) a b i
-      array-child i l m =
+  module _ (a : ℕ) (u : a < types_in p) (b : ℕ) (v : b < types_in p) where
+    module _ (ih : (x y : ℕ) → x < a → y < types_in p → null_array_elision q x y ≡ null_array_elision p x y) where
+      array_child : (i : ℕ) → i < arity p a → i < arity p b
+          → elided q (null_array_elision q) a b i ≡ elided p (null_array_elision p) a b i
+      array_child i l m =
           let x = child a u i l in
           let y = child b v i m in
-          elided-grown (nullArrayElision q) (nullArrayElision p) a b i x y
-          (ih (childOf p a i) (childOf p b i) x.low (omega (arith, y.low)))
+          elided_grown (null_array_elision q) (null_array_elision p) a b i x y
+          (ih (child_of p a i) (child_of p b i) x.low (omega (arith, y.low)))
 
-      array-step : nullArrayElision q a b ≡ nullArrayElision p a b
-      unfolding arrayElision
-      array-step =
-          array-eq q fq a (still a u) b
+      array_step : null_array_elision q a b ≡ null_array_elision p a b
+      unfolding array_elision
+      array_step =
+          array_eq q fq a (still a u) b
           ∙ rw (kind a u, kind b v, children a u, children b v)
-          (cond-cong (both isArray p a b) _ _ _ _
-          (λ e. let d = and-true (isArray (kindOf p a)) (isArray (kindOf p b)) e in
-          array-child 0 (omega (arith, one-child p f a u 19 20 (omega arith) (omega arith) d.0))
-          (omega (arith, one-child p f b v 19 20 (omega arith) (omega arith) d.1)))
-          (ap (λ (r : Bool). both isTuple p a b && r)
-          (all-cong (elided q (nullArrayElision q) a b) (elided p (nullArrayElision p) a b) (smaller (arity p a) (arity p b))
-          (λ i l. array-child i (omega (arith, smaller-left (arity p a) (arity p b))) (omega (arith, smaller-right (arity p a) (arity p b)))))))
-          ∙ sym (array-eq p f a u b)
+          (cond_cong (both is_array p a b) _ _ _ _
+          (λ e. let d = and_true (is_array (kind_of p a)) (is_array (kind_of p b)) e in
+          array_child 0 (omega (arith, one_child p f a u 19 20 (omega arith) (omega arith) d.0))
+          (omega (arith, one_child p f b v 19 20 (omega arith) (omega arith) d.1)))
+          (ap (λ (r : Bool). both is_tuple p a b && r)
+          (all_cong (elided q (null_array_elision q) a b) (elided p (null_array_elision p) a b) (smaller (arity p a) (arity p b))
+          (λ i l. array_child i (omega (arith, smaller_left (arity p a) (arity p b))) (omega (arith, smaller_right (arity p a) (arity p b)))))))
+          ∙ sym (array_eq p f a u b)
 
-  array-below : (m a : ℕ) → a < m → a < typesIn p → (b : ℕ) → b < typesIn p → nullArrayElision q a b ≡ nullArrayElision p a b
-  array-below zero a l u b v = absurd (not-suc-le-zero l)
-  array-below (suc m) a l u b v = array-step a u b v (λ x y k w. array-below m x (omega arith) (omega arith) y w)
+  array_below : (m a : ℕ) → a < m → a < types_in p → (b : ℕ) → b < types_in p → null_array_elision q a b ≡ null_array_elision p a b
+  array_below zero a l u b v = absurd (not-suc-le-zero l)
+  array_below (suc m) a l u b v = array_step a u b v (λ x y k w. array_below m x (omega arith) (omega arith) y w)
 
-  pub array-grown : (a b : ℕ) → a < typesIn p → b < typesIn p → nullArrayElision q a b ≡ nullArrayElision p a b
-  array-grown a b u v = array-below (suc a) a (omega arith) u b v
+  pub array_grown : (a b : ℕ) → a < types_in p → b < types_in p → null_array_elision q a b ≡ null_array_elision p a b
+  array_grown a b u v = array_below (suc a) a (omega arith) u b v
 
-  module _ (a : ℕ) (u : a < typesIn p) (b : ℕ) (v : b < typesIn p) where
-    module _ (ih : (x y : ℕ) → x < a → y < typesIn p → nullMapElision q x y ≡ nullMapElision p x y) where
-      map-child : (i : ℕ) → i < arity p a → i < arity p b
-          → elided q (partRule q (nullMapElision q)) a b i ≡ elided p (partRule p (nullMapElision p)) a b i
-      map-child i l m =
+  module _ (a : ℕ) (u : a < types_in p) (b : ℕ) (v : b < types_in p) where
+    module _ (ih : (x y : ℕ) → x < a → y < types_in p → null_map_elision q x y ≡ null_map_elision p x y) where
+      map_child : (i : ℕ) → i < arity p a → i < arity p b
+          → elided q (part_rule q (null_map_elision q)) a b i ≡ elided p (part_rule p (null_map_elision p)) a b i
+      map_child i l m =
           let x = child a u i l in
           let y = child b v i m in
-          elided-grown (partRule q (nullMapElision q)) (partRule p (nullMapElision p)) a b i x y
-          (ap₂ ◌||◌ (array-grown (childOf p a i) (childOf p b i) (omega (arith, x.low)) (omega (arith, y.low)))
-          (ih (childOf p a i) (childOf p b i) x.low (omega (arith, y.low))))
+          elided_grown (part_rule q (null_map_elision q)) (part_rule p (null_map_elision p)) a b i x y
+          (ap₂ ◌||◌ (array_grown (child_of p a i) (child_of p b i) (omega (arith, x.low)) (omega (arith, y.low)))
+          (ih (child_of p a i) (child_of p b i) x.low (omega (arith, y.low))))
 
-      map-step : nullMapElision q a b ≡ nullMapElision p a b
-      unfolding mapElision
-      map-step =
-          map-eq q fq a (still a u) b
+      map_step : null_map_elision q a b ≡ null_map_elision p a b
+      unfolding map_elision
+      map_step =
+          map_eq q fq a (still a u) b
           ∙ rw (kind a u, kind b v)
-          (and-cong (both isMap p a b) _ _
-          (λ e. let d = and-true (isMap (kindOf p a)) (isMap (kindOf p b)) e in
-          all-cong (elided q (partRule q (nullMapElision q)) a b) (elided p (partRule p (nullMapElision p)) a b) 2
-          (λ i l. map-child i (omega (arith, two-children p f a u d.0)) (omega (arith, two-children p f b v d.1)))))
-          ∙ sym (map-eq p f a u b)
+          (and_cong (both is_map p a b) _ _
+          (λ e. let d = and_true (is_map (kind_of p a)) (is_map (kind_of p b)) e in
+          all_cong (elided q (part_rule q (null_map_elision q)) a b) (elided p (part_rule p (null_map_elision p)) a b) 2
+          (λ i l. map_child i (omega (arith, two_children p f a u d.0)) (omega (arith, two_children p f b v d.1)))))
+          ∙ sym (map_eq p f a u b)
 
-  map-below : (m a : ℕ) → a < m → a < typesIn p → (b : ℕ) → b < typesIn p → nullMapElision q a b ≡ nullMapElision p a b
-  map-below zero a l u b v = absurd (not-suc-le-zero l)
-  map-below (suc m) a l u b v = map-step a u b v (λ x y k w. map-below m x (omega arith) (omega arith) y w)
+  map_below : (m a : ℕ) → a < m → a < types_in p → (b : ℕ) → b < types_in p → null_map_elision q a b ≡ null_map_elision p a b
+  map_below zero a l u b v = absurd (not-suc-le-zero l)
+  map_below (suc m) a l u b v = map_step a u b v (λ x y k w. map_below m x (omega arith) (omega arith) y w)
 
-  pub map-grown : (a b : ℕ) → a < typesIn p → b < typesIn p → nullMapElision q a b ≡ nullMapElision p a b
-  map-grown a b u v = map-below (suc a) a (omega arith) u b v
+  pub map_grown : (a b : ℕ) → a < types_in p → b < types_in p → null_map_elision q a b ≡ null_map_elision p a b
+  map_grown a b u v = map_below (suc a) a (omega arith) u b v
 
   -- ---- the rules that look at no child's children
 
-  module _ (a : ℕ) (u : a < typesIn p) (b : ℕ) (v : b < typesIn p) where
-    names-grown : isNamed (kindOf p a) ≡ true → isNamed (kindOf p b) ≡ true → eqb (nameOf q a) (nameOf q b) ≡ eqb (nameOf p a) (nameOf p b)
-    names-grown h k = rw (name-grown p q f g a u h, name-grown p q f g b v k) refl
+  module _ (a : ℕ) (u : a < types_in p) (b : ℕ) (v : b < types_in p) where
+    names_grown : is_named (kind_of p a) ≡ true → is_named (kind_of p b) ≡ true → eqb (name_of q a) (name_of q b) ≡ eqb (name_of p a) (name_of p b)
+    names_grown h k = rw (name_grown p q f g a u h, name_grown p q f g b v k) refl
 
-    record-grown : recordMatches q a b ≡ recordMatches p a b
-    unfolding recordMatches
-    record-grown =
+    record_grown : record_matches q a b ≡ record_matches p a b
+    unfolding record_matches
+    record_grown =
         rw (kind a u, kind b v)
-        (and-cong (both isRecord p a b) _ _
-        (λ e. let d = and-true (isRecord (kindOf p a)) (isRecord (kindOf p b)) e in
-        names-grown (record-named (kindOf p a) d.0) (record-named (kindOf p b) d.1)))
+        (and_cong (both is_record p a b) _ _
+        (λ e. let d = and_true (is_record (kind_of p a)) (is_record (kind_of p b)) e in
+        names_grown (record_named (kind_of p a) d.0) (record_named (kind_of p b) d.1)))
 
-    enum-grown : enumMatches q a b ≡ enumMatches p a b
-    unfolding enumMatches
-    enum-grown =
+    enum_grown : enum_matches q a b ≡ enum_matches p a b
+    unfolding enum_matches
+    enum_grown =
         rw (kind a u, kind b v)
-        (and-cong (both isEnum p a b) _ _
-        (λ e. let d = and-true (isEnum (kindOf p a)) (isEnum (kindOf p b)) e in
-        names-grown (enum-named (kindOf p a) d.0) (enum-named (kindOf p b) d.1)))
+        (and_cong (both is_enum p a b) _ _
+        (λ e. let d = and_true (is_enum (kind_of p a)) (is_enum (kind_of p b)) e in
+        names_grown (enum_named (kind_of p a) d.0) (enum_named (kind_of p b) d.1)))
 
-    set-grown : setMatches q a b ≡ setMatches p a b
-    unfolding setMatches
-    set-grown =
+    set_grown : set_matches q a b ≡ set_matches p a b
+    unfolding set_matches
+    set_grown =
         rw (kind a u, kind b v)
-        (and-cong (both isSet p a b) _ _
-        (λ e. let d = and-true (isSet (kindOf p a)) (isSet (kindOf p b)) e in
-        ap₂ eqb (child a u 0 (omega (arith, one-child p f a u 21 22 (omega arith) (omega arith) d.0))).same
-        (child b v 0 (omega (arith, one-child p f b v 21 22 (omega arith) (omega arith) d.1))).same))
+        (and_cong (both is_set p a b) _ _
+        (λ e. let d = and_true (is_set (kind_of p a)) (is_set (kind_of p b)) e in
+        ap₂ eqb (child a u 0 (omega (arith, one_child p f a u 21 22 (omega arith) (omega arith) d.0))).same
+        (child b v 0 (omega (arith, one_child p f b v 21 22 (omega arith) (omega arith) d.1))).same))
 
-    handle-grown : handleMatches q a b ≡ handleMatches p a b
-    unfolding handleMatches
-    handle-grown =
+    handle_grown : handle_matches q a b ≡ handle_matches p a b
+    unfolding handle_matches
+    handle_grown =
         rw (kind a u, kind b v)
-        (cond-cong (isKind handle p a) _ _ _ _
-        (λ d. cond-cong (isKind handle p b) _ _ (isKind handleInfer p b) (isKind handleInfer p b)
-        (λ e. names-grown (handle-named (kindOf p a) (eqb-true (kindOf p a) handle d)) (handle-named (kindOf p b) (eqb-true (kindOf p b) handle e)))
+        (cond_cong (is_kind handle p a) _ _ _ _
+        (λ d. cond_cong (is_kind handle p b) _ _ (is_kind handle_infer p b) (is_kind handle_infer p b)
+        (λ e. names_grown (handle_named (kind_of p a) (eqb-true (kind_of p a) handle d)) (handle_named (kind_of p b) (eqb-true (kind_of p b) handle e)))
         refl)
         refl)
 
-    flat-grown : flatMatches q a b ≡ flatMatches p a b
-    unfolding flatMatches
-    flat-grown = rw (record-grown, enum-grown, set-grown, handle-grown, kind a u, kind b v) refl
+    flat_grown : flat_matches q a b ≡ flat_matches p a b
+    unfolding flat_matches
+    flat_grown = rw (record_grown, enum_grown, set_grown, handle_grown, kind a u, kind b v) refl
 
-    plain-grown : plainMatches q a b ≡ plainMatches p a b
-    unfolding plainMatches wild
-    plain-grown = rw (array-grown a b u v, map-grown a b u v, flat-grown, kind a u, kind b v) refl
+    plain_grown : plain_matches q a b ≡ plain_matches p a b
+    unfolding plain_matches wild
+    plain_grown = rw (array_grown a b u v, map_grown a b u v, flat_grown, kind a u, kind b v) refl
 
     -- ---- unions
 
-    module _ (ih : (x y : ℕ) → x < typesIn p → y < b → knownMatches q x y ≡ knownMatches p x y) where
-      stands-grown : (x j : ℕ) → x < typesIn p → j < arity p b → knownMatches q x (childOf q b j) ≡ knownMatches p x (childOf p b j)
-      stands-grown x j w l = let y = child b v j l in ap (knownMatches q x) y.same ∙ ih x (childOf p b j) w y.low
+    module _ (ih : (x y : ℕ) → x < types_in p → y < b → known_matches q x y ≡ known_matches p x y) where
+      stands_grown : (x j : ℕ) → x < types_in p → j < arity p b → known_matches q x (child_of q b j) ≡ known_matches p x (child_of p b j)
+      stands_grown x j w l = let y = child b v j l in ap (known_matches q x) y.same ∙ ih x (child_of p b j) w y.low
 
-      partner-grown : (i : ℕ) → i < arity p a
-          → anyTo (arity p b) (λ j. knownMatches q (childOf q a i) (childOf q b j)) ≡ anyTo (arity p b) (λ j. knownMatches p (childOf p a i) (childOf p b j))
-      partner-grown i l =
+      partner_grown : (i : ℕ) → i < arity p a
+          → any_to (arity p b) (λ j. known_matches q (child_of q a i) (child_of q b j)) ≡ any_to (arity p b) (λ j. known_matches p (child_of p a i) (child_of p b j))
+      partner_grown i l =
           let x = child a u i l in
-          any-cong _ _ (arity p b)
-          (λ j m. ap (λ (y : ℕ). knownMatches q y (childOf q b j)) x.same ∙ stands-grown (childOf p a i) j (omega (arith, x.low)) m)
+          any_cong _ _ (arity p b)
+          (λ j m. ap (λ (y : ℕ). known_matches q y (child_of q b j)) x.same ∙ stands_grown (child_of p a i) j (omega (arith, x.low)) m)
 
-      any-step : anyMatches q a b ≡ anyMatches p a b
-      unfolding anyMatches anyRule
-      any-step =
+      any_step : any_matches q a b ≡ any_matches p a b
+      unfolding any_matches any_rule
+      any_step =
           rw (kind a u, kind b v, children a u, children b v)
-          (ap (λ (r : Bool). isUnion (kindOf p b) && r)
-          (ap₂ (λ (r s : Bool). cond (isUnion (kindOf p a)) r s)
-          (all-cong _ _ (arity p a) partner-grown)
-          (any-cong _ _ (arity p b) (λ j l. stands-grown a j u l))))
+          (ap (λ (r : Bool). is_union (kind_of p b) && r)
+          (ap₂ (λ (r s : Bool). cond (is_union (kind_of p a)) r s)
+          (all_cong _ _ (arity p a) partner_grown)
+          (any_cong _ _ (arity p b) (λ j l. stands_grown a j u l))))
 
-      known-step : knownMatches q a b ≡ knownMatches p a b
-      known-step = known-eq q fq b (still b v) a ∙ ap₂ ◌||◌ plain-grown any-step ∙ sym (known-eq p f b v a)
+      known_step : known_matches q a b ≡ known_matches p a b
+      known_step = known_eq q fq b (still b v) a ∙ ap₂ ◌||◌ plain_grown any_step ∙ sym (known_eq p f b v a)
 
-  known-below : (m b : ℕ) → b < m → b < typesIn p → (a : ℕ) → a < typesIn p → knownMatches q a b ≡ knownMatches p a b
-  known-below zero b l v a u = absurd (not-suc-le-zero l)
-  known-below (suc m) b l v a u = known-step a u b v (λ x y w k. known-below m y (omega arith) (omega arith) x w)
+  known_below : (m b : ℕ) → b < m → b < types_in p → (a : ℕ) → a < types_in p → known_matches q a b ≡ known_matches p a b
+  known_below zero b l v a u = absurd (not-suc-le-zero l)
+  known_below (suc m) b l v a u = known_step a u b v (λ x y w k. known_below m y (omega arith) (omega arith) x w)
 
   -- one type stands for another as before
-  pub known-grown : (a b : ℕ) → a < typesIn p → b < typesIn p → knownMatches q a b ≡ knownMatches p a b
-  known-grown a b u v = known-below (suc b) b (omega arith) v a u
+  pub known_grown : (a b : ℕ) → a < types_in p → b < types_in p → known_matches q a b ≡ known_matches p a b
+  known_grown a b u v = known_below (suc b) b (omega arith) v a u
 
-  pub any-grown : (a b : ℕ) → a < typesIn p → b < typesIn p → anyMatches q a b ≡ anyMatches p a b
-  any-grown a b u v = any-step a u b v (λ x y w k. known-grown x y w (omega arith))
+  pub any_grown : (a b : ℕ) → a < types_in p → b < types_in p → any_matches q a b ≡ any_matches p a b
+  any_grown a b u v = any_step a u b v (λ x y w k. known_grown x y w (omega arith))
 
   -- ---- what a call has in mind
 
-  found-grown : (a b : ℕ) → a < typesIn p → b < typesIn p → found q a b ≡ found p a b
-  unfolding found hasPartner
-  found-grown a b u v =
-      rw (kind a u, kind b v, children b v, array-grown a b u v, map-grown a b u v, flat-grown a u b v)
-      (ap (λ (r : Bool). cond (both isArray p a b || both isTuple p a b) (nullArrayElision p a b) (cond (both isMap p a b) (nullMapElision p a b) (cond (isUnion (kindOf p b)) r (flatMatches p a b))))
-      (any-cong _ _ (arity p b) (λ j l. stands-grown a u b v (λ x y w k. known-grown x y w (omega arith)) a j u l)))
+  found_grown : (a b : ℕ) → a < types_in p → b < types_in p → found q a b ≡ found p a b
+  unfolding found has_partner
+  found_grown a b u v =
+      rw (kind a u, kind b v, children b v, array_grown a b u v, map_grown a b u v, flat_grown a u b v)
+      (ap (λ (r : Bool). cond (both is_array p a b || both is_tuple p a b) (null_array_elision p a b) (cond (both is_map p a b) (null_map_elision p a b) (cond (is_union (kind_of p b)) r (flat_matches p a b))))
+      (any_cong _ _ (arity p b) (λ j l. stands_grown a u b v (λ x y w k. known_grown x y w (omega arith)) a j u l)))
 
-  says-grown : (memo : List ℕ) (a b : ℕ) → a < typesIn p → b < typesIn p → (answer : Bool) → Says p memo a b answer → Says q memo a b answer
-  says-grown memo a b u v true h = λ k. found-grown a b u v ∙ h k
-  says-grown memo a b u v false h = (found-grown a b u v ∙ h.0, λ k. known-grown a b u v ∙ h.1 k)
+  says_grown : (memo : List ℕ) (a b : ℕ) → a < types_in p → b < types_in p → (answer : Bool) → Says p memo a b answer → Says q memo a b answer
+  says_grown memo a b u v true h = λ k. found_grown a b u v ∙ h k
+  says_grown memo a b u v false h = (found_grown a b u v ∙ h.0, λ k. known_grown a b u v ∙ h.1 k)
 
-  pub noted-grown : (memo : List ℕ) → Noted (Found p) memo → Noted (Found q) memo
-  noted-grown memo = noted-as (Found p) (Found q) memo (λ a c h. (still a h.0, still (c / 2) h.1, says-grown memo a (c / 2) h.0 h.1 (eqb (c % 2) 1) h.2))
+  pub noted_grown : (memo : List ℕ) → Noted (Found p) memo → Noted (Found q) memo
+  noted_grown memo = noted_as (Found p) (Found q) memo (λ a c h. (still a h.0, still (c / 2) h.1, says_grown memo a (c / 2) h.0 h.1 (eqb (c % 2) 1) h.2))

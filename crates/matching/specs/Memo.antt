@@ -1,75 +1,75 @@
 -- What a call finds of pairs of types and keeps in mind, so that no pair is examined again: a mark for each pair and answer. What is
--- found goes by the kinds of the two; whether one stands for the other follows from it (`known-plain`, `known-any`, `known-refuted` in
+-- found goes by the kinds of the two; whether one stands for the other follows from it (`known_plain`, `known_any`, `known_refuted` in
 -- proofs/Matching.antt).
 use Rattle.std.specs.Prelude.{◌≡◌, Bool, not, true, false, ◌&&◌, ◌||◌, cond, List, ℕ, ◌+◌, ◌*◌, ◌/◌, ◌%◌, ◌<◌, ltb, eqb}
-use Rattle.pages.specs.Quant.{anyTo}
-use Rattle.kinds.specs.Kinds.{null, isArray, isTuple, isMap, isUnion, constMatches}
-use Rattle.types.specs.Types.{typesIn, kindOf, arity, childOf}
-use Rattle.marks.specs.Marks.{isMarked, marking}
-use Rattle.matching.specs.Matching.{both, wild, nullArrayElision, nullMapElision, flatMatches, knownMatches}
+use Rattle.pages.specs.Quant.{any_to}
+use Rattle.kinds.specs.Kinds.{null, is_array, is_tuple, is_map, is_union, const_matches}
+use Rattle.types.specs.Types.{types_in, kind_of, arity, child_of}
+use Rattle.marks.specs.Marks.{is_marked, marking}
+use Rattle.matching.specs.Matching.{both, wild, null_array_elision, null_map_elision, flat_matches, known_matches}
 use Rattle.matching.specs.declared.Checked.{Checked}
 use Rattle.matching.specs.declared.Checked.TheVariants.{Known, Unknown, Function}
 
 -- does a type stand for some member of a union
-unfoldable pub hasPartner : List ℕ → ℕ → ℕ → Bool
-hasPartner page a b = anyTo (arity page b) (λ j. knownMatches page a (childOf page b j))
+unfoldable pub has_partner : List ℕ → ℕ → ℕ → Bool
+has_partner page a b = any_to (arity page b) (λ j. known_matches page a (child_of page b j))
 
 -- what is found of a pair: of two arrays, two tuples or two maps whether they are elided; where a union is expected, whether one of its
 -- members is met; else by the rules that look at no child's children
 unfoldable pub found : List ℕ → ℕ → ℕ → Bool
 found page a b =
-    cond (both isArray page a b || both isTuple page a b) (nullArrayElision page a b)
-    (cond (both isMap page a b) (nullMapElision page a b) (cond (isUnion (kindOf page b)) (hasPartner page a b) (flatMatches page a b)))
+    cond (both is_array page a b || both is_tuple page a b) (null_array_elision page a b)
+    (cond (both is_map page a b) (null_map_elision page a b) (cond (is_union (kind_of page b)) (has_partner page a b) (flat_matches page a b)))
 
 -- does a type stand for another whatever their children are
-unfoldable pub isFree : List ℕ → ℕ → ℕ → Bool
-isFree page a b = eqb a b || (wild page a b || constMatches (kindOf page a) (kindOf page b))
+unfoldable pub is_free : List ℕ → ℕ → ℕ → Bool
+is_free page a b = eqb a b || (wild page a b || const_matches (kind_of page a) (kind_of page b))
 
 -- the column of a type and an answer; its row is the other type
-unfoldable pub columnOf : ℕ → Bool → ℕ
-columnOf b answer = 2 * b + cond answer 1 0
+unfoldable pub column_of : ℕ → Bool → ℕ
+column_of b answer = 2 * b + cond answer 1 0
 
 -- is an answer kept in mind: a no by its mark, a yes by its mark alone; both marks say that a type does not stand for a union
 unfoldable pub keeps : List ℕ → ℕ → ℕ → Bool → Bool
-keeps memo a b true = isMarked memo a (columnOf b true) && not (isMarked memo a (columnOf b false))
-keeps memo a b false = isMarked memo a (columnOf b false)
+keeps memo a b true = is_marked memo a (column_of b true) && not (is_marked memo a (column_of b false))
+keeps memo a b false = is_marked memo a (column_of b false)
 
 -- so what a mark says
 abbrev pub Says : List ℕ → List ℕ → ℕ → ℕ → Bool → Type 0
-Says page memo a b true = isMarked memo a (columnOf b false) ≡ false → found page a b ≡ true
-Says page memo a b false = (found page a b ≡ false) × (isMarked memo a (columnOf b true) ≡ true → knownMatches page a b ≡ false)
+Says page memo a b true = is_marked memo a (column_of b false) ≡ false → found page a b ≡ true
+Says page memo a b false = (found page a b ≡ false) × (is_marked memo a (column_of b true) ≡ true → known_matches page a b ≡ false)
 
--- a mark says it of two types in use, and so in every store that grows out of this one (`noted-grown` in proofs/Grown.antt)
+-- a mark says it of two types in use, and so in every store that grows out of this one (`noted_grown` in proofs/Grown.antt)
 abbrev pub Found : List ℕ → List ℕ → ℕ → ℕ → Type 0
-Found page memo a column = (a < typesIn page) × (column / 2 < typesIn page) × Says page memo a (column / 2) (eqb (column % 2) 1)
+Found page memo a column = (a < types_in page) × (column / 2 < types_in page) × Says page memo a (column / 2) (eqb (column % 2) 1)
 
 -- the table with it marked that a type does not stand for a union, where it has room
 unfoldable pub refuting : List ℕ → ℕ → ℕ → List ℕ
 refuting memo a b =
-    cond (isMarked (marking memo a (columnOf b false)) a (columnOf b false)) (marking (marking memo a (columnOf b false)) a (columnOf b true)) (marking memo a (columnOf b false))
+    cond (is_marked (marking memo a (column_of b false)) a (column_of b false)) (marking (marking memo a (column_of b false)) a (column_of b true)) (marking memo a (column_of b false))
 
 -- the number of a checked type, 0 where none is known
-unfoldable pub typeNumber : Checked → ℕ
-typeNumber Unknown = 0
-typeNumber (Known t) = t
-typeNumber (Function t) = t
+unfoldable pub type_number : Checked → ℕ
+type_number Unknown = 0
+type_number (Known t) = t
+type_number (Function t) = t
 
 -- are two checked types, and with them all that they are made of, numbered below n
 unfoldable pub fits : ℕ → Checked → Checked → Bool
-fits n a b = ltb (typeNumber a) n && ltb (typeNumber b) n
+fits n a b = ltb (type_number a) n && ltb (type_number b) n
 
 -- are two children known to be elided
-unfoldable pub isElided : List ℕ → List ℕ → ℕ → ℕ → Bool
-isElided page memo x y = (eqb x null || eqb y null) || (keeps memo x y true && (both isArray page x y || both isTuple page x y))
+unfoldable pub is_elided : List ℕ → List ℕ → ℕ → ℕ → Bool
+is_elided page memo x y = (eqb x null || eqb y null) || (keeps memo x y true && (both is_array page x y || both is_tuple page x y))
 
 -- is it marked that a type does not stand for another
-unfoldable pub isRefuted : List ℕ → List ℕ → ℕ → ℕ → Bool
-isRefuted page memo a b =
-    isMarked memo a (columnOf b false) && (not (isFree page a b) && (not (both isUnion page a b) || isMarked memo a (columnOf b true)))
+unfoldable pub is_refuted : List ℕ → List ℕ → ℕ → ℕ → Bool
+is_refuted page memo a b =
+    is_marked memo a (column_of b false) && (not (is_free page a b) && (not (both is_union page a b) || is_marked memo a (column_of b true)))
 
 -- the members of a type on the actual side: what is no union is its own one member
-unfoldable pub membersOf : List ℕ → ℕ → ℕ
-membersOf page a = cond (isUnion (kindOf page a)) (arity page a) 1
+unfoldable pub members_of : List ℕ → ℕ → ℕ
+members_of page a = cond (is_union (kind_of page a)) (arity page a) 1
 
-unfoldable pub memberOf : List ℕ → ℕ → ℕ → ℕ
-memberOf page a i = cond (isUnion (kindOf page a)) (childOf page a i) a
+unfoldable pub member_of : List ℕ → ℕ → ℕ → ℕ
+member_of page a i = cond (is_union (kind_of page a)) (child_of page a i) a

@@ -3,12 +3,12 @@
 #![tactic(auto)]
 
 ghost use Rattle.std.specs.Prelude.{◌≡◌, true, false, ◌||◌, ◌*◌, ◌≤◌, ◌<◌, replicate};
-ghost use Rattle.types.specs.Store.{typesMax};
-ghost use Rattle.kinds.specs.Kinds.{isArray, isMap, isTuple, isUnion, constMatches};
-ghost use Rattle.marks.specs.Marks.{tinyBytes, smallBytes, largeBytes, isMarked, marking, Noted};
-ghost use Rattle.types.specs.Types.{typesIn, kindOf, Held};
-ghost use Rattle.matching.specs.Matching.{both, smaller, nullArrayElision, nullMapElision, recordMatches, enumMatches, setMatches, handleMatches, wild, flatMatches, anyMatches, knownForFunction, functionMatches, matches, inUse};
-ghost use Rattle.matching.specs.Memo.{typeNumber, fits, columnOf, keeps, refuting, isElided, isFree, isRefuted, membersOf, memberOf, found, Found};
+ghost use Rattle.types.specs.Store.{types_max};
+ghost use Rattle.kinds.specs.Kinds.{is_array, is_map, is_tuple, is_union, const_matches};
+ghost use Rattle.marks.specs.Marks.{tiny_bytes, small_bytes, large_bytes, is_marked, marking, Noted};
+ghost use Rattle.types.specs.Types.{types_in, kind_of, Held};
+ghost use Rattle.matching.specs.Matching.{both, smaller, null_array_elision, null_map_elision, record_matches, enum_matches, set_matches, handle_matches, wild, flat_matches, any_matches, known_for_function, function_matches, matches, in_use};
+ghost use Rattle.matching.specs.Memo.{type_number, fits, column_of, keeps, refuting, is_elided, is_free, is_refuted, members_of, member_of, found, Found};
 
 use kinds::{FN, GENERIC, HANDLE, HANDLE_INFER};
 use marks::{LARGE_BYTES, SMALL_BYTES, TINY_BYTES};
@@ -31,26 +31,26 @@ type LargeMemo = [u8; 2 * LARGE_BYTES];
 
 // Nothing found yet.
 pub fn tiny_memo() -> TinyMemo
-    ensures { result ≡ replicate (2 * tinyBytes) 0 }
+    ensures { result ≡ replicate (2 * tiny_bytes) 0 }
 {
     [0; 2 * TINY_BYTES]
 }
 
 pub fn small_memo() -> SmallMemo
-    ensures { result ≡ replicate (2 * smallBytes) 0 }
+    ensures { result ≡ replicate (2 * small_bytes) 0 }
 {
     [0; 2 * SMALL_BYTES]
 }
 
 pub fn large_memo() -> LargeMemo
-    ensures { result ≡ replicate (2 * largeBytes) 0 }
+    ensures { result ≡ replicate (2 * large_bytes) 0 }
 {
     [0; 2 * LARGE_BYTES]
 }
 
 // The number of a checked type, 0 where none is known.
 fn type_number(c: Checked) -> usize
-    ensures { result ≡ typeNumber c }
+    ensures { result ≡ type_number c }
 {
     match c {
         Checked::Known(t) => t,
@@ -68,15 +68,15 @@ pub fn fits(n: usize, a: Checked, b: Checked) -> bool
 
 // The column of a type and an answer.
 fn column_of(b: usize, answer: bool) -> usize
-    requires { b < typesMax }
-    ensures { result ≡ columnOf b answer }
+    requires { b < types_max }
+    ensures { result ≡ column_of b answer }
 {
     if answer { 2 * b + 1 } else { 2 * b }
 }
 
 // Whether an answer for a pair is kept in mind.
-fn recalls(memo: &[u8], a: usize, b: usize, answer: bool) -> bool
-    requires { (a < typesMax) × (b < typesMax) }
+pub fn recalls(memo: &[u8], a: usize, b: usize, answer: bool) -> bool
+    requires { (a < types_max) × (b < types_max) }
     ensures { result ≡ keeps memo.now a b answer }
 {
     if answer {
@@ -87,16 +87,16 @@ fn recalls(memo: &[u8], a: usize, b: usize, answer: bool) -> bool
 }
 
 // Keeps the answer for a pair in mind.
-fn note(memo: &mut [u8], a: usize, b: usize, answer: bool)
-    requires { (a < typesMax) × (b < typesMax) }
-    ensures { memo.new ≡ marking memo.old a (columnOf b answer) }
+pub fn note(memo: &mut [u8], a: usize, b: usize, answer: bool)
+    requires { (a < types_max) × (b < types_max) }
+    ensures { memo.new ≡ marking memo.old a (column_of b answer) }
 {
     marks::mark(memo, a, column_of(b, answer));
 }
 
 // Keeps in mind that a type does not stand for a union.
 fn refute(memo: &mut [u8], a: usize, b: usize)
-    requires { (a < typesMax) × (b < typesMax) }
+    requires { (a < types_max) × (b < types_max) }
     ensures { memo.new ≡ refuting memo.old a b }
 {
     note(memo, a, b, false);
@@ -115,8 +115,8 @@ fn smaller_of(m: usize, n: usize) -> usize
 // Whether children can be elided in two types: both arrays, or both tuples.
 fn are_sequences(page: &[u8], offsets: &[usize], a: usize, b: usize) -> bool
     requires held { Held page.now offsets.now }
-    requires a_bound { (a < typesIn page.now) × (b < typesIn page.now) }
-    ensures { result ≡ (both isArray page.now a b || both isTuple page.now a b) }
+    requires a_bound { (a < types_in page.now) × (b < types_in page.now) }
+    ensures { result ≡ (both is_array page.now a b || both is_tuple page.now a b) }
 {
     let ka = kind_of(page, offsets, a);
     let kb = kind_of(page, offsets, b);
@@ -126,8 +126,8 @@ fn are_sequences(page: &[u8], offsets: &[usize], a: usize, b: usize) -> bool
 // Whether two types are both maps.
 fn are_maps(page: &[u8], offsets: &[usize], a: usize, b: usize) -> bool
     requires held { Held page.now offsets.now }
-    requires a_bound { (a < typesIn page.now) × (b < typesIn page.now) }
-    ensures { result ≡ both isMap page.now a b }
+    requires a_bound { (a < types_in page.now) × (b < types_in page.now) }
+    ensures { result ≡ both is_map page.now a b }
 {
     kinds::is_map(kind_of(page, offsets, a)) & kinds::is_map(kind_of(page, offsets, b))
 }
@@ -135,8 +135,8 @@ fn are_maps(page: &[u8], offsets: &[usize], a: usize, b: usize) -> bool
 // Whether two types are both unions.
 fn are_unions(page: &[u8], offsets: &[usize], a: usize, b: usize) -> bool
     requires held { Held page.now offsets.now }
-    requires a_bound { (a < typesIn page.now) × (b < typesIn page.now) }
-    ensures { result ≡ both isUnion page.now a b }
+    requires a_bound { (a < types_in page.now) × (b < types_in page.now) }
+    ensures { result ≡ both is_union page.now a b }
 {
     kinds::is_union(kind_of(page, offsets, a)) & kinds::is_union(kind_of(page, offsets, b))
 }
@@ -144,8 +144,8 @@ fn are_unions(page: &[u8], offsets: &[usize], a: usize, b: usize) -> bool
 // Whether two children are known to be elided: one is Null, or they are arrays or tuples of which it was found.
 fn is_elided(page: &[u8], offsets: &[usize], memo: &[u8], x: usize, y: usize) -> bool
     requires held { Held page.now offsets.now }
-    requires x_bound { (x < typesIn page.now) × (y < typesIn page.now) }
-    ensures { result ≡ isElided page.now memo.now x y }
+    requires x_bound { (x < types_in page.now) × (y < types_in page.now) }
+    ensures { result ≡ is_elided page.now memo.now x y }
 {
     if (x == NULL) | (y == NULL) {
         return true;
@@ -166,9 +166,9 @@ pub fn null_array_elision(
     b: usize,
 ) -> bool
     requires held { Held page.now offsets.now }
-    requires a_bound { (a < typesIn page.now) × (b < typesIn page.now) }
+    requires a_bound { (a < types_in page.now) × (b < types_in page.now) }
     requires noted { Noted (Found page.now) memo.old }
-    ensures value { result ≡ nullArrayElision page.now a b }
+    ensures value { result ≡ null_array_elision page.now a b }
     ensures noted_2 { Noted (Found page.now) memo.new }
 {
     if !are_sequences(page, offsets, a, b) {
@@ -200,9 +200,9 @@ pub fn null_array_elision(
 // Whether of two maps the keys, and the values, have Null on a side, or are arrays, tuples or maps of which the same holds.
 pub fn null_map_elision(page: &[u8], offsets: &[usize], memo: &mut [u8], a: usize, b: usize) -> bool
     requires held { Held page.now offsets.now }
-    requires a_bound { (a < typesIn page.now) × (b < typesIn page.now) }
+    requires a_bound { (a < types_in page.now) × (b < types_in page.now) }
     requires noted { Noted (Found page.now) memo.old }
-    ensures value { result ≡ nullMapElision page.now a b }
+    ensures value { result ≡ null_map_elision page.now a b }
     ensures noted_2 { Noted (Found page.now) memo.new }
 {
     if !are_maps(page, offsets, a, b) {
@@ -235,8 +235,8 @@ pub fn null_map_elision(page: &[u8], offsets: &[usize], memo: &mut [u8], a: usiz
 // Whether a kind is const and the other its plain form, or for some the other way round; no child is looked at.
 pub fn const_matches(page: &[u8], offsets: &[usize], a: usize, b: usize) -> bool
     requires held { Held page.now offsets.now }
-    requires a_bound { (a < typesIn page.now) × (b < typesIn page.now) }
-    ensures { result ≡ constMatches (kindOf page.now a) (kindOf page.now b) }
+    requires a_bound { (a < types_in page.now) × (b < types_in page.now) }
+    ensures { result ≡ const_matches (kind_of page.now a) (kind_of page.now b) }
 {
     kinds::const_matches(kind_of(page, offsets, a), kind_of(page, offsets, b))
 }
@@ -244,8 +244,8 @@ pub fn const_matches(page: &[u8], offsets: &[usize], a: usize, b: usize) -> bool
 // Whether two records have the same name, const or not.
 pub fn record_matches(page: &[u8], offsets: &[usize], a: usize, b: usize) -> bool
     requires held { Held page.now offsets.now }
-    requires a_bound { (a < typesIn page.now) × (b < typesIn page.now) }
-    ensures { result ≡ recordMatches page.now a b }
+    requires a_bound { (a < types_in page.now) × (b < types_in page.now) }
+    ensures { result ≡ record_matches page.now a b }
 {
     if !kinds::is_record(kind_of(page, offsets, a)) {
         return false;
@@ -259,8 +259,8 @@ pub fn record_matches(page: &[u8], offsets: &[usize], a: usize, b: usize) -> boo
 // Whether two enums have the same name, const or not.
 pub fn enum_matches(page: &[u8], offsets: &[usize], a: usize, b: usize) -> bool
     requires held { Held page.now offsets.now }
-    requires a_bound { (a < typesIn page.now) × (b < typesIn page.now) }
-    ensures { result ≡ enumMatches page.now a b }
+    requires a_bound { (a < types_in page.now) × (b < types_in page.now) }
+    ensures { result ≡ enum_matches page.now a b }
 {
     if !kinds::is_enum(kind_of(page, offsets, a)) {
         return false;
@@ -274,8 +274,8 @@ pub fn enum_matches(page: &[u8], offsets: &[usize], a: usize, b: usize) -> bool
 // Whether two sets have equal elements, const or not.
 pub fn set_matches(page: &[u8], offsets: &[usize], a: usize, b: usize) -> bool
     requires held { Held page.now offsets.now }
-    requires a_bound { (a < typesIn page.now) × (b < typesIn page.now) }
-    ensures { result ≡ setMatches page.now a b }
+    requires a_bound { (a < types_in page.now) × (b < types_in page.now) }
+    ensures { result ≡ set_matches page.now a b }
 {
     if !kinds::is_set(kind_of(page, offsets, a)) {
         return false;
@@ -289,8 +289,8 @@ pub fn set_matches(page: &[u8], offsets: &[usize], a: usize, b: usize) -> bool
 // Whether two handles have the same name, or either is HandleInfer.
 pub fn handle_matches(page: &[u8], offsets: &[usize], a: usize, b: usize) -> bool
     requires held { Held page.now offsets.now }
-    requires a_bound { (a < typesIn page.now) × (b < typesIn page.now) }
-    ensures { result ≡ handleMatches page.now a b }
+    requires a_bound { (a < types_in page.now) × (b < types_in page.now) }
+    ensures { result ≡ handle_matches page.now a b }
 {
     let ka = kind_of(page, offsets, a);
     let kb = kind_of(page, offsets, b);
@@ -306,7 +306,7 @@ pub fn handle_matches(page: &[u8], offsets: &[usize], a: usize, b: usize) -> boo
 // Whether a type is Null, or either is a Generic.
 fn is_wild(page: &[u8], offsets: &[usize], a: usize, b: usize) -> bool
     requires held { Held page.now offsets.now }
-    requires a_bound { (a < typesIn page.now) × (b < typesIn page.now) }
+    requires a_bound { (a < types_in page.now) × (b < types_in page.now) }
     ensures { result ≡ wild page.now a b }
 {
     if a == NULL {
@@ -318,8 +318,8 @@ fn is_wild(page: &[u8], offsets: &[usize], a: usize, b: usize) -> bool
 // Whether a type stands for another by a rule that looks at no child's children.
 fn flat_matches(page: &[u8], offsets: &[usize], a: usize, b: usize) -> bool
     requires held { Held page.now offsets.now }
-    requires a_bound { (a < typesIn page.now) × (b < typesIn page.now) }
-    ensures { result ≡ flatMatches page.now a b }
+    requires a_bound { (a < types_in page.now) × (b < types_in page.now) }
+    ensures { result ≡ flat_matches page.now a b }
 {
     if const_matches(page, offsets, a, b) {
         return true;
@@ -339,8 +339,8 @@ fn flat_matches(page: &[u8], offsets: &[usize], a: usize, b: usize) -> bool
 // Whether a Known type stands for a Function: Null, a Generic, or Fn.
 fn known_for_function(page: &[u8], offsets: &[usize], a: usize) -> bool
     requires held { Held page.now offsets.now }
-    requires a_bound { a < typesIn page.now }
-    ensures { result ≡ knownForFunction page.now a }
+    requires a_bound { a < types_in page.now }
+    ensures { result ≡ known_for_function page.now a }
 {
     let k = kind_of(page, offsets, a);
     (a == NULL) | ((k == GENERIC) | (k == FN))
@@ -349,8 +349,8 @@ fn known_for_function(page: &[u8], offsets: &[usize], a: usize) -> bool
 // Whether a Function stands for a checked type: Unknown, a Generic, Fn, or a Function with the same parameters and return.
 fn function_matches(page: &[u8], offsets: &[usize], f: usize, expected: Checked) -> bool
     requires held { Held page.now offsets.now }
-    requires expected_value { inUse page.now expected ≡ true }
-    ensures { result ≡ functionMatches page.now f expected }
+    requires expected_value { in_use page.now expected ≡ true }
+    ensures { result ≡ function_matches page.now f expected }
 {
     match expected {
         Checked::Unknown => true,
@@ -365,8 +365,8 @@ fn function_matches(page: &[u8], offsets: &[usize], f: usize, expected: Checked)
 // Whether a type stands for another whatever their children are: they are equal, one of them is wild, or one is const.
 fn is_free(page: &[u8], offsets: &[usize], a: usize, b: usize) -> bool
     requires held { Held page.now offsets.now }
-    requires a_bound { (a < typesIn page.now) × (b < typesIn page.now) }
-    ensures { result ≡ isFree page.now a b }
+    requires a_bound { (a < types_in page.now) × (b < types_in page.now) }
+    ensures { result ≡ is_free page.now a b }
 {
     if a == b {
         return true;
@@ -377,7 +377,7 @@ fn is_free(page: &[u8], offsets: &[usize], a: usize, b: usize) -> bool
 // What is found of a pair whose expected type is no union: by elision, or by a rule that looks at no child's children.
 fn find(page: &[u8], offsets: &[usize], memo: &mut [u8], a: usize, b: usize) -> bool
     requires held { Held page.now offsets.now }
-    requires a_bound { (a < typesIn page.now) × (b < typesIn page.now) × (isUnion (kindOf page.now b) ≡ false) }
+    requires a_bound { (a < types_in page.now) × (b < types_in page.now) × (is_union (kind_of page.now b) ≡ false) }
     requires noted { Noted (Found page.now) memo.old }
     ensures value { result ≡ found page.now a b }
     ensures noted_2 { Noted (Found page.now) memo.new }
@@ -396,8 +396,8 @@ fn find(page: &[u8], offsets: &[usize], memo: &mut [u8], a: usize, b: usize) -> 
 // Whether it is known already that a type does not stand for another.
 fn is_refuted(page: &[u8], offsets: &[usize], memo: &[u8], a: usize, b: usize) -> bool
     requires held { Held page.now offsets.now }
-    requires a_bound { (a < typesIn page.now) × (b < typesIn page.now) }
-    ensures { result ≡ isRefuted page.now memo.now a b }
+    requires a_bound { (a < types_in page.now) × (b < types_in page.now) }
+    ensures { result ≡ is_refuted page.now memo.now a b }
 {
     if !recalls(memo, a, b, false) {
         return false;
@@ -421,7 +421,7 @@ pub fn matches(
     expected: Checked,
 ) -> bool
     requires held { Held page.now offsets.now }
-    requires actual_value { (inUse page.now actual ≡ true) × (inUse page.now expected ≡ true) }
+    requires actual_value { (in_use page.now actual ≡ true) × (in_use page.now expected ≡ true) }
     requires noted { Noted (Found page.now) memo.old }
     ensures value { result ≡ matches page.now actual expected }
     ensures noted_2 { Noted (Found page.now) memo.new }
@@ -454,8 +454,8 @@ pub fn matches(
 // How many members a type has on the actual side, a union or not; what is no union is its own one member.
 fn members_of(page: &[u8], offsets: &[usize], a: usize, union: bool) -> usize
     requires held { Held page.now offsets.now }
-    requires a_bound { (a < typesIn page.now) × (union ≡ isUnion (kindOf page.now a)) }
-    ensures { result ≡ membersOf page.now a }
+    requires a_bound { (a < types_in page.now) × (union ≡ is_union (kind_of page.now a)) }
+    ensures { result ≡ members_of page.now a }
 {
     if union { arity(page, offsets, a) } else { 1 }
 }
@@ -463,8 +463,8 @@ fn members_of(page: &[u8], offsets: &[usize], a: usize, union: bool) -> usize
 // Member i of a type on the actual side.
 fn member_of(page: &[u8], offsets: &[usize], a: usize, union: bool, i: usize) -> usize
     requires held { Held page.now offsets.now }
-    requires a_bound { (a < typesIn page.now) × (union ≡ isUnion (kindOf page.now a)) × (i < membersOf page.now a) }
-    ensures { (result ≡ memberOf page.now a i) × (result ≤ a) }
+    requires a_bound { (a < types_in page.now) × (union ≡ is_union (kind_of page.now a)) × (i < members_of page.now a) }
+    ensures { (result ≡ member_of page.now a i) × (result ≤ a) }
 {
     if union {
         child_of(page, offsets, a, i)
@@ -477,8 +477,8 @@ fn member_of(page: &[u8], offsets: &[usize], a: usize, union: bool, i: usize) ->
 #[cycle(any_matches_matches)]
 pub fn any_matches(page: &[u8], offsets: &[usize], memo: &mut [u8], a: usize, b: usize) -> bool
     requires held { Held page.now offsets.now × Noted (Found page.now) memo.old }
-    requires a_bound { (a < typesIn page.now) × (b < typesIn page.now) }
-    ensures { (result ≡ anyMatches page.now a b) × Noted (Found page.now) memo.new }
+    requires a_bound { (a < types_in page.now) × (b < types_in page.now) }
+    ensures { (result ≡ any_matches page.now a b) × Noted (Found page.now) memo.new }
 {
     if !kinds::is_union(kind_of(page, offsets, b)) {
         return false;

@@ -1,4 +1,4 @@
--- A check that concludes with Unknown answers no Known type (`unknown-not`). Assumes nothing.
+-- A check that concludes with Unknown answers no Known type (`unknown_not`). Assumes nothing.
 use mathlib.Core.Path.{◌≡◌, sym, ap, ◌∙◌}
 use Prim.Native.Nat.{ℕ}
 use native.Mathlib.Omega.{arith}
@@ -8,8 +8,8 @@ use Rattle.operators.specs.declared.Outcome.{Outcome}
 use Rattle.members.specs.declared.Conclusion.{Conclusion}
 
 -- a conclusion that is Unknown is no other that answers a Known type
-pub unknown-not : (o p : Outcome) → o.checked ≡ Unknown → Conclusion.Is o ≡ Conclusion.Is p → (t : ℕ) → p.checked ≡ Known t → ⊥
-unknown-not o p u e t k =
+pub unknown_not : (o p : Outcome) → o.checked ≡ Unknown → Conclusion.Is o ≡ Conclusion.Is p → (t : ℕ) → p.checked ≡ Known t → ⊥
+unknown_not o p u e t k =
     let same : o ≡ p = cc in
     let z : ◌≡◌ {A = Checked} Unknown (Known t) = sym u ∙ ap (λ (q : Outcome). q.checked) same ∙ k in
     let w : ◌≡◌ {A = ℕ} 0 1 = cc in

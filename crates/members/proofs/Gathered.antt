@@ -11,20 +11,20 @@ use lib.ListN.{length, get_or, length-append, get_or-append}
 use lib.Seq.{get_or-append-add}
 use borrow.Author.Tests.{ltb-true, ltb-false}
 use Rattle.pages.specs.Bytes.{put}
-use Rattle.pages.proofs.Put.{put-append}
+use Rattle.pages.proofs.Put.{put_append}
 use Rattle.members.specs.Members.{gather}
 
 module _ (f : ℕ → List ℕ) where
-  pub gather-next : (n : ℕ) → gather (n + 1) f ≡ gather n f ++ f n
+  pub gather_next : (n : ℕ) → gather (n + 1) f ≡ gather n f ++ f n
   unfolding gather
-  gather-next n = rw (add-one n) refl
+  gather_next n = rw (add-one n) refl
 
   -- what holds of the elements of each piece holds of all
-  pub gather-each : (P : ℕ → Type 0) (n : ℕ) → ((k i : ℕ) → k < n → i < length (f k) → P (get_or (f k) i 0))
+  pub gather_each : (P : ℕ → Type 0) (n : ℕ) → ((k i : ℕ) → k < n → i < length (f k) → P (get_or (f k) i 0))
       → (i : ℕ) → i < length (gather n f) → P (get_or (gather n f) i 0)
   unfolding gather
-  gather-each P zero h i l = absurd (not-suc-le-zero l)
-  gather-each P (suc n) h i l = go (ltb i (length (gather n f))) refl (gather-each P n (λ k j p q. h k j (omega arith) q) i)
+  gather_each P zero h i l = absurd (not-suc-le-zero l)
+  gather_each P (suc n) h i l = go (ltb i (length (gather n f))) refl (gather_each P n (λ k j p q. h k j (omega arith) q) i)
     where
       go : (b : Bool) → ltb i (length (gather n f)) ≡ b → (i < length (gather n f) → P (get_or (gather n f) i 0))
           → P (get_or (gather n f ++ f n) i 0)
@@ -37,17 +37,17 @@ module _ (f : ℕ → List ℕ) where
           (h n (i - length (gather n f)) (omega arith) (omega (arith, length-append (gather n f) (f n)))))
 
   -- n pieces of at most m elements
-  pub gather-few : (n m : ℕ) → ((k : ℕ) → k < n → length (f k) ≤ m) → length (gather n f) ≤ n * m
+  pub gather_few : (n m : ℕ) → ((k : ℕ) → k < n → length (f k) ≤ m) → length (gather n f) ≤ n * m
   unfolding gather
-  gather-few zero m h = omega arith
-  gather-few (suc n) m h =
-      omega (arith, length-append (gather n f) (f n), gather-few n m (λ k l. h k (omega arith)), h n (omega arith))
+  gather_few zero m h = omega arith
+  gather_few (suc n) m h =
+      omega (arith, length-append (gather n f) (f n), gather_few n m (λ k l. h k (omega arith)), h n (omega arith))
 
   -- the pieces before one, and that one, are no longer than all
-  pub gather-fits : (n k : ℕ) → k < n → length (gather k f) + length (f k) ≤ length (gather n f)
+  pub gather_fits : (n k : ℕ) → k < n → length (gather k f) + length (f k) ≤ length (gather n f)
   unfolding gather
-  gather-fits zero k h = absurd (not-suc-le-zero h)
-  gather-fits (suc n) k h = go (ltb k n) refl (gather-fits n k)
+  gather_fits zero k h = absurd (not-suc-le-zero h)
+  gather_fits (suc n) k h = go (ltb k n) refl (gather_fits n k)
     where
       go : (b : Bool) → ltb k n ≡ b → (k < n → length (gather k f) + length (f k) ≤ length (gather n f))
           → length (gather k f) + length (f k) ≤ length (gather n f ++ f n)
@@ -55,19 +55,19 @@ module _ (f : ℕ → List ℕ) where
       go false e before = let s : k ≡ n = omega (arith, ltb-false k n e) in rw s (omega (arith, length-append (gather n f) (f n)))
 
   -- one more piece, behind those before it
-  pub gather-put : (l : List ℕ) (at i m : ℕ) → m ≡ at + length (gather i f) → m + length (f i) ≤ length l
+  pub gather_put : (l : List ℕ) (at i m : ℕ) → m ≡ at + length (gather i f) → m + length (f i) ≤ length l
       → put (put l at (gather i f)) m (f i) ≡ put l at (gather (i + 1) f)
-  gather-put l at i m e h =
+  gather_put l at i m e h =
       ap (λ (k : ℕ). put (put l at (gather i f)) k (f i)) e
-      ∙ put-append l at (gather i f) (f i) (omega arith) ∙ ap (put l at) (sym (gather-next i))
+      ∙ put_append l at (gather i f) (f i) (omega arith) ∙ ap (put l at) (sym (gather_next i))
 
-pub gather-same : (f g : ℕ → List ℕ) (n : ℕ) → ((i : ℕ) → i < n → f i ≡ g i) → gather n f ≡ gather n g
+pub gather_same : (f g : ℕ → List ℕ) (n : ℕ) → ((i : ℕ) → i < n → f i ≡ g i) → gather n f ≡ gather n g
 unfolding gather
-gather-same f g zero h = refl
-gather-same f g (suc n) h = ap₂ (λ (x y : List ℕ). x ++ y) (gather-same f g n (λ i l. h i (omega arith))) (h n (omega arith))
+gather_same f g zero h = refl
+gather_same f g (suc n) h = ap₂ (λ (x y : List ℕ). x ++ y) (gather_same f g n (λ i l. h i (omega arith))) (h n (omega arith))
 
 -- one element a piece
-pub ones-length : (x : ℕ → ℕ) (n : ℕ) → length (gather n (λ i. x i ∷ [])) ≡ n
+pub ones_length : (x : ℕ → ℕ) (n : ℕ) → length (gather n (λ i. x i ∷ [])) ≡ n
 unfolding gather
-ones-length x zero = refl
-ones-length x (suc n) = length-append (gather n (λ i. x i ∷ [])) (x n ∷ []) ∙ omega (arith, ones-length x n)
+ones_length x zero = refl
+ones_length x (suc n) = length-append (gather n (λ i. x i ∷ [])) (x n ∷ []) ∙ omega (arith, ones_length x n)

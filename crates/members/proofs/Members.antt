@@ -6,114 +6,114 @@ use mathlib.Core.List.{List, [], ◌∷◌}
 use Prim.Native.Nat.{ℕ, zero, suc, ◌<◌, ◌≤◌}
 use native.Mathlib.Omega.{arith}
 use lib.ListN.{length, get_or}
-use Rattle.kinds.specs.Kinds.{childrenMax, isUnion}
+use Rattle.kinds.specs.Kinds.{children_max, is_union}
 use Rattle.types.specs.Store.{Formed}
-use Rattle.types.specs.Types.{typesIn, kindOf, arity, childOf}
+use Rattle.types.specs.Types.{types_in, kind_of, arity, child_of}
 use Rattle.types.specs.Making.{Grows}
-use Rattle.types.proofs.Types.{few-children, child-lower}
-use Rattle.types.proofs.Grown.{kind-grown, arity-grown, child-grown}
-use Rattle.members.specs.Members.{membersMax, gather, shareOf, membersOf, sizeOf, member}
-use Rattle.members.proofs.Gathered.{gather-each, gather-few, gather-same, ones-length}
+use Rattle.types.proofs.Types.{few_children, child_lower}
+use Rattle.types.proofs.Grown.{kind_grown, arity_grown, child_grown}
+use Rattle.members.specs.Members.{members_max, gather, share_of, members_of, size_of, member}
+use Rattle.members.proofs.Gathered.{gather_each, gather_few, gather_same, ones_length}
 
 -- an element of a list that has one
-pub one-at : (l : List ℕ) (x i : ℕ) → l ≡ x ∷ [] → i < length l → get_or l i 0 ≡ x
-one-at l x zero e h = rw e refl
-one-at l x (suc i) e h = absurd (omega (arith, ap length e))
+pub one_at : (l : List ℕ) (x i : ℕ) → l ≡ x ∷ [] → i < length l → get_or l i 0 ≡ x
+one_at l x zero e h = rw e refl
+one_at l x (suc i) e h = absurd (omega (arith, ap length e))
 
 module _ (page : List ℕ) (t : ℕ) where
-  module _ (u : isUnion (kindOf page t) ≡ true) where
-    pub share-union : shareOf page t ≡ gather (arity page t) (λ i. childOf page t i ∷ [])
-    unfolding shareOf
-    share-union = rw u refl
+  module _ (u : is_union (kind_of page t) ≡ true) where
+    pub share_union : share_of page t ≡ gather (arity page t) (λ i. child_of page t i ∷ [])
+    unfolding share_of
+    share_union = rw u refl
 
-    pub members-union : membersOf page t ≡ gather (arity page t) (λ i. shareOf page (childOf page t i))
-    unfolding membersOf
-    members-union = rw u refl
+    pub members_union : members_of page t ≡ gather (arity page t) (λ i. share_of page (child_of page t i))
+    unfolding members_of
+    members_union = rw u refl
 
-  module _ (u : isUnion (kindOf page t) ≡ false) where
-    pub share-one : shareOf page t ≡ t ∷ []
-    unfolding shareOf
-    share-one = rw u refl
+  module _ (u : is_union (kind_of page t) ≡ false) where
+    pub share_one : share_of page t ≡ t ∷ []
+    unfolding share_of
+    share_one = rw u refl
 
     -- a type that is no union has one member, itself
-    pub members-one : membersOf page t ≡ t ∷ []
-    unfolding membersOf
-    members-one = rw u refl
+    pub members_one : members_of page t ≡ t ∷ []
+    unfolding members_of
+    members_one = rw u refl
 
-    pub size-one : sizeOf page t ≡ 1
-    size-one = ap length members-one
+    pub size_one : size_of page t ≡ 1
+    size_one = ap length members_one
 
-    pub member-one : (i : ℕ) → i < sizeOf page t → member page t i ≡ t
-    member-one i h = one-at (membersOf page t) t i members-one h
+    pub member_one : (i : ℕ) → i < size_of page t → member page t i ≡ t
+    member_one i h = one_at (members_of page t) t i members_one h
 
-module _ (page : List ℕ) (f : Formed page) (t : ℕ) (u : t < typesIn page) where
+module _ (page : List ℕ) (f : Formed page) (t : ℕ) (u : t < types_in page) where
   -- what a union's child gives
-  pub share-few : length (shareOf page t) ≤ childrenMax
-  share-few = go (isUnion (kindOf page t)) refl
+  pub share_few : length (share_of page t) ≤ children_max
+  share_few = go (is_union (kind_of page t)) refl
     where
-      go : (b : Bool) → isUnion (kindOf page t) ≡ b → length (shareOf page t) ≤ childrenMax
-      go true e = rw (share-union page t e, ones-length (childOf page t) (arity page t)) (few-children page f t u)
-      go false e = rw (share-one page t e) (omega arith)
+      go : (b : Bool) → is_union (kind_of page t) ≡ b → length (share_of page t) ≤ children_max
+      go true e = rw (share_union page t e, ones_length (child_of page t) (arity page t)) (few_children page f t u)
+      go false e = rw (share_one page t e) (omega arith)
 
-  pub share-low : (i : ℕ) → i < length (shareOf page t) → get_or (shareOf page t) i 0 ≤ t
-  share-low i h = go (isUnion (kindOf page t)) refl
+  pub share_low : (i : ℕ) → i < length (share_of page t) → get_or (share_of page t) i 0 ≤ t
+  share_low i h = go (is_union (kind_of page t)) refl
     where
-      go : (b : Bool) → isUnion (kindOf page t) ≡ b → get_or (shareOf page t) i 0 ≤ t
+      go : (b : Bool) → is_union (kind_of page t) ≡ b → get_or (share_of page t) i 0 ≤ t
       go true e =
-          rw (share-union page t e)
-          (gather-each (λ k. childOf page t k ∷ []) (λ y. y ≤ t) (arity page t)
-          (λ k j p q. rw (one-at (childOf page t k ∷ []) (childOf page t k) j refl q) (omega (arith, child-lower page f t u k p)))
-          i (rw (share-union page t e) at h))
-      go false e = rw (one-at (shareOf page t) t i (share-one page t e) h) (omega arith)
+          rw (share_union page t e)
+          (gather_each (λ k. child_of page t k ∷ []) (λ y. y ≤ t) (arity page t)
+          (λ k j p q. rw (one_at (child_of page t k ∷ []) (child_of page t k) j refl q) (omega (arith, child_lower page f t u k p)))
+          i (rw (share_union page t e) at h))
+      go false e = rw (one_at (share_of page t) t i (share_one page t e) h) (omega arith)
 
-module _ (page : List ℕ) (f : Formed page) (t : ℕ) (u : t < typesIn page) where
+module _ (page : List ℕ) (f : Formed page) (t : ℕ) (u : t < types_in page) where
   -- a type has few members
-  pub size-few : sizeOf page t ≤ membersMax
-  size-few = go (isUnion (kindOf page t)) refl
+  pub size_few : size_of page t ≤ members_max
+  size_few = go (is_union (kind_of page t)) refl
     where
-      go : (b : Bool) → isUnion (kindOf page t) ≡ b → sizeOf page t ≤ membersMax
+      go : (b : Bool) → is_union (kind_of page t) ≡ b → size_of page t ≤ members_max
       go true e =
-          let n = gather-few (λ i. shareOf page (childOf page t i)) (arity page t) childrenMax
-          (λ k l. let c = child-lower page f t u k l in share-few page f (childOf page t k) (omega arith)) in
-          rw (members-union page t e) (omega (arith, n, few-children page f t u))
-      go false e = rw (members-one page t e) (omega arith)
+          let n = gather_few (λ i. share_of page (child_of page t i)) (arity page t) children_max
+          (λ k l. let c = child_lower page f t u k l in share_few page f (child_of page t k) (omega arith)) in
+          rw (members_union page t e) (omega (arith, n, few_children page f t u))
+      go false e = rw (members_one page t e) (omega arith)
 
   -- a member of a union is numbered below it
-  pub member-lower : isUnion (kindOf page t) ≡ true → (i : ℕ) → i < sizeOf page t → member page t i < t
-  member-lower e i h =
-      rw (members-union page t e)
-      (gather-each (λ k. shareOf page (childOf page t k)) (λ y. y < t) (arity page t)
-      (λ k j p q. let c = child-lower page f t u k p in omega (arith, share-low page f (childOf page t k) (omega arith) j q))
-      i (rw (members-union page t e) at h))
+  pub member_lower : is_union (kind_of page t) ≡ true → (i : ℕ) → i < size_of page t → member page t i < t
+  member_lower e i h =
+      rw (members_union page t e)
+      (gather_each (λ k. share_of page (child_of page t k)) (λ y. y < t) (arity page t)
+      (λ k j p q. let c = child_lower page f t u k p in omega (arith, share_low page f (child_of page t k) (omega arith) j q))
+      i (rw (members_union page t e) at h))
 
   -- a member of a type is not numbered above it
-  pub member-low : (i : ℕ) → i < sizeOf page t → member page t i ≤ t
-  member-low i h = go (isUnion (kindOf page t)) refl
+  pub member_low : (i : ℕ) → i < size_of page t → member page t i ≤ t
+  member_low i h = go (is_union (kind_of page t)) refl
     where
-      go : (b : Bool) → isUnion (kindOf page t) ≡ b → member page t i ≤ t
-      go true e = omega (arith, member-lower e i h)
-      go false e = rw (member-one page t e i h) (omega arith)
+      go : (b : Bool) → is_union (kind_of page t) ≡ b → member page t i ≤ t
+      go true e = omega (arith, member_lower e i h)
+      go false e = rw (member_one page t e i h) (omega arith)
 
   -- and is in use
-  pub member-used : (i : ℕ) → i < sizeOf page t → member page t i < typesIn page
-  member-used i h = omega (arith, member-low i h)
+  pub member_used : (i : ℕ) → i < size_of page t → member page t i < types_in page
+  member_used i h = omega (arith, member_low i h)
 
 -- ---- a store that has grown
 
 module _ (p q : List ℕ) (f : Formed p) (g : Grows p q) where
-  pub share-grown : (t : ℕ) → t < typesIn p → shareOf q t ≡ shareOf p t
-  unfolding shareOf
-  share-grown t u =
-      rw (kind-grown p q f g t u, arity-grown p q f g t u)
-      (ap (λ (l : List ℕ). cond (isUnion (kindOf p t)) l (t ∷ []))
-      (gather-same (λ i. childOf q t i ∷ []) (λ i. childOf p t i ∷ []) (arity p t)
-      (λ i l. ap (λ (x : ℕ). x ∷ []) (child-grown p q f g t u i l))))
+  pub share_grown : (t : ℕ) → t < types_in p → share_of q t ≡ share_of p t
+  unfolding share_of
+  share_grown t u =
+      rw (kind_grown p q f g t u, arity_grown p q f g t u)
+      (ap (λ (l : List ℕ). cond (is_union (kind_of p t)) l (t ∷ []))
+      (gather_same (λ i. child_of q t i ∷ []) (λ i. child_of p t i ∷ []) (arity p t)
+      (λ i l. ap (λ (x : ℕ). x ∷ []) (child_grown p q f g t u i l))))
 
-  pub members-grown : (t : ℕ) → t < typesIn p → membersOf q t ≡ membersOf p t
-  unfolding membersOf
-  members-grown t u =
-      rw (kind-grown p q f g t u, arity-grown p q f g t u)
-      (ap (λ (l : List ℕ). cond (isUnion (kindOf p t)) l (t ∷ []))
-      (gather-same (λ i. shareOf q (childOf q t i)) (λ i. shareOf p (childOf p t i)) (arity p t)
-      (λ i l. ap (shareOf q) (child-grown p q f g t u i l)
-      ∙ share-grown (childOf p t i) (let c = child-lower p f t u i l in omega arith))))
+  pub members_grown : (t : ℕ) → t < types_in p → members_of q t ≡ members_of p t
+  unfolding members_of
+  members_grown t u =
+      rw (kind_grown p q f g t u, arity_grown p q f g t u)
+      (ap (λ (l : List ℕ). cond (is_union (kind_of p t)) l (t ∷ []))
+      (gather_same (λ i. share_of q (child_of q t i)) (λ i. share_of p (child_of p t i)) (arity p t)
+      (λ i l. ap (share_of q) (child_grown p q f g t u i l)
+      ∙ share_grown (child_of p t i) (let c = child_lower p f t u i l in omega arith))))

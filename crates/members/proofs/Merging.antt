@@ -11,35 +11,35 @@ use lib.ListN.{length, get_or, set, take, length-append, length-set}
 use lib.Seq.{take-suc, take-suc-set, length-take-le}
 use borrow.Author.Tests.{eq-eqb, ne_eqb, lt-ltb, le-ltb}
 use Rattle.refusals.specs.declared.Refusal.TheVariants.{Width}
-use Rattle.kinds.specs.Kinds.{childrenMax, any}
-use Rattle.types.specs.Types.{typesIn, Measured}
-use Rattle.types.specs.Making.{entryOf, Ready, enterAnswer, enterPage}
-use Rattle.types.specs.Calls.{allBelow}
+use Rattle.kinds.specs.Kinds.{children_max, any}
+use Rattle.types.specs.Types.{types_in, Measured}
+use Rattle.types.specs.Making.{entry_of, Ready, enter_answer, enter_page}
+use Rattle.types.specs.Calls.{all_below}
 use Rattle.types.specs.declared.Made.{Made}
-use Rattle.members.specs.Members.{membersMax, has, merged, entered, unionOf}
-use Rattle.members.proofs.Unions.{union-enterable}
+use Rattle.members.specs.Members.{members_max, has, merged, entered, union_of}
+use Rattle.members.proofs.Unions.{union_enterable}
 
 -- ---- is a type among results
 
-pub has-none : (t : ℕ) → has t [] ≡ false
+pub has_none : (t : ℕ) → has t [] ≡ false
 unfolding has
-has-none t = refl
+has_none t = refl
 
-pub has-found : (t : ℕ) (xs : List ℕ) (i n : ℕ) → i < n → n ≤ length xs → get_or xs i 0 ≡ t → true ≡ has t (take n xs)
+pub has_found : (t : ℕ) (xs : List ℕ) (i n : ℕ) → i < n → n ≤ length xs → get_or xs i 0 ≡ t → true ≡ has t (take n xs)
 unfolding has
-has-found t [] i n h l e = absurd (omega arith)
-has-found t (x ∷ xs) i zero h l e = absurd (not-suc-le-zero h)
-has-found t (x ∷ xs) zero (suc n) h l e = rw (eq-eqb x t e) refl
-has-found t (x ∷ xs) (suc i) (suc n) h l e = rw (← has-found t xs i n (le_of_suc-le-suc h) (le_of_suc-le-suc l) e) (go (eqb x t))
+has_found t [] i n h l e = absurd (omega arith)
+has_found t (x ∷ xs) i zero h l e = absurd (not-suc-le-zero h)
+has_found t (x ∷ xs) zero (suc n) h l e = rw (eq-eqb x t e) refl
+has_found t (x ∷ xs) (suc i) (suc n) h l e = rw (← has_found t xs i n (le_of_suc-le-suc h) (le_of_suc-le-suc l) e) (go (eqb x t))
   where
     go : (b : Bool) → true ≡ (b || true)
     go true = refl
     go false = refl
 
-pub has-more : (t : ℕ) (xs : List ℕ) (i : ℕ) → i < length xs → has t (take i xs) ≡ false → (get_or xs i 0 ≡ t → ⊥)
+pub has_more : (t : ℕ) (xs : List ℕ) (i : ℕ) → i < length xs → has t (take i xs) ≡ false → (get_or xs i 0 ≡ t → ⊥)
     → has t (take (i + 1) xs) ≡ false
 unfolding has
-has-more t xs i l h ne = rw (add-one i, take-suc xs i 0 l) (last (take i xs) h)
+has_more t xs i l h ne = rw (add-one i, take-suc xs i 0 l) (last (take i xs) h)
   where
     last : (ys : List ℕ) → has t ys ≡ false → has t (ys ++ (get_or xs i 0 ∷ [])) ≡ false
     last [] e = rw (ne_eqb (get_or xs i 0) t ne) refl
@@ -55,16 +55,16 @@ has-more t xs i l h ne = rw (add-one i, take-suc xs i 0 l) (last (take i xs) h)
 -- what `merge` promises
 abbrev pub Merges : (types after : List ℕ) (n t r : ℕ) → Type 0
 Merges types after n t r =
-    (r ≤ n + 1) × (take r after ≡ merged t (take n types)) × (length after ≡ membersMax) × (r ≡ length (merged t (take n types)))
+    (r ≤ n + 1) × (take r after ≡ merged t (take n types)) × (length after ≡ members_max) × (r ≡ length (merged t (take n types)))
 
-module _ (types : List ℕ) (n t : ℕ) (size : length types ≡ membersMax) (l : n < membersMax) where
-  pub merge-there : has t (take n types) ≡ true → Merges types types n t n
+module _ (types : List ℕ) (n t : ℕ) (size : length types ≡ members_max) (l : n < members_max) where
+  pub merge_there : has t (take n types) ≡ true → Merges types types n t n
   unfolding merged
-  merge-there h = rw h (omega arith, refl, size, sym (length-take-le n types (omega arith)))
+  merge_there h = rw h (omega arith, refl, size, sym (length-take-le n types (omega arith)))
 
-  pub merge-new : has t (take n types) ≡ false → Merges types (set types n t) n t (n + 1)
+  pub merge_new : has t (take n types) ≡ false → Merges types (set types n t) n t (n + 1)
   unfolding merged
-  merge-new h =
+  merge_new h =
       rw h (
         omega arith,
         rw (add-one n) (take-suc-set types n t (omega arith)),
@@ -75,25 +75,25 @@ module _ (types : List ℕ) (n t : ℕ) (size : length types ≡ membersMax) (l 
 -- ---- the union of results
 
 module _ (page : List ℕ) where
-  pub union-one : (types : List ℕ) (n : ℕ) → n ≡ 1 → n ≤ length types → entered (Made.At (get_or types 0 0)) page ≡ unionOf page (take n types)
-  unfolding unionOf
-  union-one [] n e l = absurd (omega arith)
-  union-one (t ∷ types) n e l = rw e refl
+  pub union_one : (types : List ℕ) (n : ℕ) → n ≡ 1 → n ≤ length types → entered (Made.At (get_or types 0 0)) page ≡ union_of page (take n types)
+  unfolding union_of
+  union_one [] n e l = absurd (omega arith)
+  union_one (t ∷ types) n e l = rw e refl
 
-  pub union-wide : (ts : List ℕ) → childrenMax < length ts → entered (Made.Refused Width) page ≡ unionOf page ts
-  unfolding unionOf
-  union-wide [] h = absurd (omega arith)
-  union-wide (t ∷ []) h = absurd (omega arith)
-  union-wide (t ∷ u ∷ ts) h = rw (lt-ltb childrenMax (length (t ∷ u ∷ ts)) h) refl
+  pub union_wide : (ts : List ℕ) → children_max < length ts → entered (Made.Refused Width) page ≡ union_of page ts
+  unfolding union_of
+  union_wide [] h = absurd (omega arith)
+  union_wide (t ∷ []) h = absurd (omega arith)
+  union_wide (t ∷ u ∷ ts) h = rw (lt-ltb children_max (length (t ∷ u ∷ ts)) h) refl
 
-  pub union-several : (ts : List ℕ) → 1 < length ts → length ts ≤ childrenMax
-      → entered (enterAnswer page (entryOf any ts 0)) (enterPage page (entryOf any ts 0)) ≡ unionOf page ts
-  unfolding unionOf
-  union-several [] h l = absurd (omega arith)
-  union-several (t ∷ []) h l = absurd (omega arith)
-  union-several (t ∷ u ∷ ts) h l = rw (le-ltb childrenMax (length (t ∷ u ∷ ts)) l) refl
+  pub union_several : (ts : List ℕ) → 1 < length ts → length ts ≤ children_max
+      → entered (enter_answer page (entry_of any ts 0)) (enter_page page (entry_of any ts 0)) ≡ union_of page ts
+  unfolding union_of
+  union_several [] h l = absurd (omega arith)
+  union_several (t ∷ []) h l = absurd (omega arith)
+  union_several (t ∷ u ∷ ts) h l = rw (le-ltb children_max (length (t ∷ u ∷ ts)) l) refl
 
   -- it can be entered
-  pub union-ready : (os ds ts : List ℕ) → Measured page os ds → allBelow (typesIn page) ts ≡ true → length ts ≤ childrenMax
-      → Ready page os ds (entryOf any ts 0)
-  union-ready os ds ts m b l = record { measured = m; enterable = union-enterable page ts m.held.sound l b }
+  pub union_ready : (os ds ts : List ℕ) → Measured page os ds → all_below (types_in page) ts ≡ true → length ts ≤ children_max
+      → Ready page os ds (entry_of any ts 0)
+  union_ready os ds ts m b l = record { measured = m; enterable = union_enterable page ts m.held.sound l b }

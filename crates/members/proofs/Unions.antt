@@ -1,5 +1,5 @@
--- The union of results: it leaves a store in form that has grown (`union-sound`), and a union made once is found again in every
--- store that grows out of the one it left (`union-again`). Assumes nothing.
+-- The union of results: it leaves a store in form that has grown (`union_sound`), and a union made once is found again in every
+-- store that grows out of the one it left (`union_again`). Assumes nothing.
 use mathlib.Core.Path.{◌≡◌, refl, ap, ap₂}
 use mathlib.Core.Bool.{Bool, true, false, cond}
 use mathlib.Core.List.{List, [], ◌∷◌, ◌++◌}
@@ -10,49 +10,49 @@ use lib.ListN.{length}
 use borrow.Author.Tests.{lt-ltb, ltb-true, ltb-false, le-leb}
 use Rattle.refusals.specs.declared.Refusal.{Refusal}
 use Rattle.refusals.specs.declared.Refusal.TheVariants.{Width}
-use Rattle.refusals.specs.Lowest.{unlessRefused}
+use Rattle.refusals.specs.Lowest.{unless_refused}
 use Rattle.refusals.specs.declared.Verdict.{Verdict}
-use Rattle.pages.specs.Bytes.{countOf}
-use Rattle.pages.proofs.Quant.{and-true}
-use Rattle.kinds.specs.Kinds.{fixedMax, childrenMax, any, fewest, most}
-use Rattle.types.specs.Store.{equalTo, Formed}
-use Rattle.types.specs.Types.{typesIn}
-use Rattle.types.specs.Making.{entryOf, isMade, Enterable, enterVerdict, numbered, enterAnswer, withEntry, enterPage, Grows}
-use Rattle.types.specs.Calls.{allBelow}
+use Rattle.pages.specs.Bytes.{count_of}
+use Rattle.pages.proofs.Quant.{and_true}
+use Rattle.kinds.specs.Kinds.{fixed_max, children_max, any, fewest, most}
+use Rattle.types.specs.Store.{equal_to, Formed}
+use Rattle.types.specs.Types.{types_in}
+use Rattle.types.specs.Making.{entry_of, is_made, Enterable, enter_verdict, numbered, enter_answer, with_entry, enter_page, Grows}
+use Rattle.types.specs.Calls.{all_below}
 use Rattle.types.specs.declared.Made.{Made}
-use Rattle.types.proofs.Grown.{grows-refl}
-use Rattle.types.proofs.Entries.{entry-whole, entry-parts}
-use Rattle.types.proofs.Again.{at-inj, enter-grows, enter-used, enter-again}
-use Rattle.members.specs.Members.{has, merged, Entered, entered, unionOf}
+use Rattle.types.proofs.Grown.{grows_refl}
+use Rattle.types.proofs.Entries.{entry_whole, entry_parts}
+use Rattle.types.proofs.Again.{at_inj, enter_grows, enter_used, enter_again}
+use Rattle.members.specs.Members.{has, merged, Entered, entered, union_of}
 
 -- ---- numbers below a bound
 
-pub below-more : (t u : ℕ) (rs : List ℕ) → t ≤ u → allBelow t rs ≡ true → allBelow u rs ≡ true
-below-more t u [] h e = refl
-below-more t u (r ∷ rs) h e =
-    let z = and-true (ltb r t) (allBelow t rs) e in
+pub below_more : (t u : ℕ) (rs : List ℕ) → t ≤ u → all_below t rs ≡ true → all_below u rs ≡ true
+below_more t u [] h e = refl
+below_more t u (r ∷ rs) h e =
+    let z = and_true (ltb r t) (all_below t rs) e in
     let l : r < u = omega (arith, ltb-true r t z.0) in
-    rw (lt-ltb r u l) (below-more t u rs h z.1)
+    rw (lt-ltb r u l) (below_more t u rs h z.1)
 
-below-last : (t : ℕ) (rs : List ℕ) (r : ℕ) → allBelow t rs ≡ true → r < t → allBelow t (rs ++ (r ∷ [])) ≡ true
-below-last t [] r e l = rw (lt-ltb r t l) refl
-below-last t (x ∷ rs) r e l = let z = and-true (ltb x t) (allBelow t rs) e in rw z.0 (below-last t rs r z.1 l)
+below_last : (t : ℕ) (rs : List ℕ) (r : ℕ) → all_below t rs ≡ true → r < t → all_below t (rs ++ (r ∷ [])) ≡ true
+below_last t [] r e l = rw (lt-ltb r t l) refl
+below_last t (x ∷ rs) r e l = let z = and_true (ltb x t) (all_below t rs) e in rw z.0 (below_last t rs r z.1 l)
 
 -- one more result
 module _ (r : ℕ) (rs : List ℕ) where
-  pub merged-below : (t : ℕ) → allBelow t rs ≡ true → r < t → allBelow t (merged r rs) ≡ true
+  pub merged_below : (t : ℕ) → all_below t rs ≡ true → r < t → all_below t (merged r rs) ≡ true
   unfolding merged
-  merged-below t e l = go (has r rs)
+  merged_below t e l = go (has r rs)
     where
-      go : (b : Bool) → allBelow t (cond b rs (rs ++ (r ∷ []))) ≡ true
+      go : (b : Bool) → all_below t (cond b rs (rs ++ (r ∷ []))) ≡ true
       go true = e
-      go false = below-last t rs r e l
+      go false = below_last t rs r e l
 
 -- and then there is one
-pub merged-some : (r : ℕ) (rs : List ℕ) → 0 < length (merged r rs)
+pub merged_some : (r : ℕ) (rs : List ℕ) → 0 < length (merged r rs)
 unfolding merged has
-merged-some r [] = omega arith
-merged-some r (x ∷ rs) = go (has r (x ∷ rs))
+merged_some r [] = omega arith
+merged_some r (x ∷ rs) = go (has r (x ∷ rs))
   where
     go : (b : Bool) → 0 < length (cond b (x ∷ rs) ((x ∷ rs) ++ (r ∷ [])))
     go true = omega arith
@@ -62,14 +62,14 @@ merged-some r (x ∷ rs) = go (has r (x ∷ rs))
 pub record Sound (page : List ℕ) (o : Entered) : Type 0 where
   pub grown : Grows page o.store
   pub form : Formed o.store
-  pub used : (r : ℕ) → o.made ≡ Made.At r → r < typesIn o.store
+  pub used : (r : ℕ) → o.made ≡ Made.At r → r < types_in o.store
 
 -- what was refused has no number
-pub refused-not : (q : Refusal) (r : ℕ) → Made.Refused q ≡ Made.At r → ⊥
-refused-not q r e = let z : ◌≡◌ {A = ℕ} 0 1 = cc in omega arith
+pub refused_not : (q : Refusal) (r : ℕ) → Made.Refused q ≡ Made.At r → ⊥
+refused_not q r e = let z : ◌≡◌ {A = ℕ} 0 1 = cc in omega arith
 
-pub itself : (page : List ℕ) (x : ℕ) → Formed page → x < typesIn page → Sound page (entered (Made.At x) page)
-itself page x f l = record { grown = grows-refl page; form = f; used = λ r e. rw (← at-inj x r e) l }
+pub itself : (page : List ℕ) (x : ℕ) → Formed page → x < types_in page → Sound page (entered (Made.At x) page)
+itself page x f l = record { grown = grows_refl page; form = f; used = λ r e. rw (← at_inj x r e) l }
 
 -- what a check came to in a store s is found again, under its number, in every store that grows out of the one it left
 abbrev pub Again : (List ℕ → Entered) → List ℕ → Type 0
@@ -77,74 +77,74 @@ Again f s = (r : ℕ) → (f s).made ≡ Made.At r → (q : List ℕ) → Grows 
 
 -- ---- a union of results
 
-pub union-enterable : (s rs : List ℕ) (f : Formed s) → length rs ≤ childrenMax → allBelow (typesIn s) rs ≡ true
-    → Enterable s (entryOf any rs 0) f
+pub union_enterable : (s rs : List ℕ) (f : Formed s) → length rs ≤ children_max → all_below (types_in s) rs ≡ true
+    → Enterable s (entry_of any rs 0) f
 unfolding fewest most
-union-enterable s rs f l u = record {
-  whole = entry-whole any rs 0;
+union_enterable s rs f l u = record {
+  whole = entry_whole any rs 0;
   parts =
-      entry-parts any rs 0 f.names (typesIn s) refl u refl
-      (rw (le-leb 0 (length rs) (omega arith), le-leb (length rs) childrenMax l) refl);
+      entry_parts any rs 0 f.names (types_in s) refl u refl
+      (rw (le-leb 0 (length rs) (omega arith), le-leb (length rs) children_max l) refl);
 }
 
 module _ (s : List ℕ) (f : Formed s) where
-  pub union-sound : (rs : List ℕ) → allBelow (typesIn s) rs ≡ true → Sound s (unionOf s rs)
-  unfolding unionOf
-  union-sound [] u = itself s 0 f (omega arith)
-  union-sound (x ∷ []) u = itself s x f (ltb-true x (typesIn s) (and-true (ltb x (typesIn s)) true u).0)
-  union-sound (x ∷ y ∷ rs) u = go (ltb childrenMax (length (x ∷ y ∷ rs))) refl
+  pub union_sound : (rs : List ℕ) → all_below (types_in s) rs ≡ true → Sound s (union_of s rs)
+  unfolding union_of
+  union_sound [] u = itself s 0 f (omega arith)
+  union_sound (x ∷ []) u = itself s x f (ltb-true x (types_in s) (and_true (ltb x (types_in s)) true u).0)
+  union_sound (x ∷ y ∷ rs) u = go (ltb children_max (length (x ∷ y ∷ rs))) refl
     where
       entry : List ℕ
-      entry = entryOf any (x ∷ y ∷ rs) 0
+      entry = entry_of any (x ∷ y ∷ rs) 0
 
-      go : (b : Bool) → ltb childrenMax (length (x ∷ y ∷ rs)) ≡ b
-          → Sound s (cond b (entered (Made.Refused Width) s) (entered (enterAnswer s entry) (enterPage s entry)))
-      go true e = record { grown = grows-refl s; form = f; used = λ r h. absurd (refused-not Width r h) }
+      go : (b : Bool) → ltb children_max (length (x ∷ y ∷ rs)) ≡ b
+          → Sound s (cond b (entered (Made.Refused Width) s) (entered (enter_answer s entry) (enter_page s entry)))
+      go true e = record { grown = grows_refl s; form = f; used = λ r h. absurd (refused_not Width r h) }
       go false e =
-          let n = union-enterable s (x ∷ y ∷ rs) f (ltb-false childrenMax (length (x ∷ y ∷ rs)) e) u in
-          let g = enter-grows s entry f n in
-          record { grown = g.0; form = g.1; used = λ r h. enter-used s entry f n r h }
+          let n = union_enterable s (x ∷ y ∷ rs) f (ltb-false children_max (length (x ∷ y ∷ rs)) e) u in
+          let g = enter_grows s entry f n in
+          record { grown = g.0; form = g.1; used = λ r h. enter_used s entry f n r h }
 
-  pub union-again : (rs : List ℕ) → allBelow (typesIn s) rs ≡ true → Again (λ x. unionOf x rs) s
-  unfolding unionOf
-  union-again [] u r h q g fq = ap (λ (x : Made). entered x q) h
-  union-again (x ∷ []) u r h q g fq = ap (λ (m : Made). entered m q) h
-  union-again (x ∷ y ∷ rs) u r h q g fq = go (ltb childrenMax (length (x ∷ y ∷ rs))) refl h g
+  pub union_again : (rs : List ℕ) → all_below (types_in s) rs ≡ true → Again (λ x. union_of x rs) s
+  unfolding union_of
+  union_again [] u r h q g fq = ap (λ (x : Made). entered x q) h
+  union_again (x ∷ []) u r h q g fq = ap (λ (m : Made). entered m q) h
+  union_again (x ∷ y ∷ rs) u r h q g fq = go (ltb children_max (length (x ∷ y ∷ rs))) refl h g
     where
       entry : List ℕ
-      entry = entryOf any (x ∷ y ∷ rs) 0
+      entry = entry_of any (x ∷ y ∷ rs) 0
 
-      go : (b : Bool) → ltb childrenMax (length (x ∷ y ∷ rs)) ≡ b
-          → (cond b (entered (Made.Refused Width) s) (entered (enterAnswer s entry) (enterPage s entry))).made ≡ Made.At r
-          → Grows (cond b (entered (Made.Refused Width) s) (entered (enterAnswer s entry) (enterPage s entry))).store q
-          → cond b (entered (Made.Refused Width) q) (entered (enterAnswer q entry) (enterPage q entry)) ≡ entered (Made.At r) q
-      go true e k w = absurd (refused-not Width r k)
+      go : (b : Bool) → ltb children_max (length (x ∷ y ∷ rs)) ≡ b
+          → (cond b (entered (Made.Refused Width) s) (entered (enter_answer s entry) (enter_page s entry))).made ≡ Made.At r
+          → Grows (cond b (entered (Made.Refused Width) s) (entered (enter_answer s entry) (enter_page s entry))).store q
+          → cond b (entered (Made.Refused Width) q) (entered (enter_answer q entry) (enter_page q entry)) ≡ entered (Made.At r) q
+      go true e k w = absurd (refused_not Width r k)
       go false e k w =
-          let n = union-enterable s (x ∷ y ∷ rs) f (ltb-false childrenMax (length (x ∷ y ∷ rs)) e) u in
-          let a = enter-again s entry f n r k q w fq in
+          let n = union_enterable s (x ∷ y ∷ rs) f (ltb-false children_max (length (x ∷ y ∷ rs)) e) u in
+          let a = enter_again s entry f n r k q w fq in
           ap₂ entered a.0 a.1
 
 -- ---- a union that is refused changes nothing
 
-enter-refused : (s entry : List ℕ) (q : Refusal) → enterAnswer s entry ≡ Made.Refused q → enterPage s entry ≡ s
-unfolding enterAnswer enterPage
-enter-refused s entry q = go (enterVerdict s entry)
+enter_refused : (s entry : List ℕ) (q : Refusal) → enter_answer s entry ≡ Made.Refused q → enter_page s entry ≡ s
+unfolding enter_answer enter_page
+enter_refused s entry q = go (enter_verdict s entry)
   where
-    go : (v : Verdict) → numbered v (fixedMax + equalTo s (countOf s) entry) ≡ Made.Refused q
-        → unlessRefused v (cond (isMade s entry) s (withEntry s entry)) s ≡ s
+    go : (v : Verdict) → numbered v (fixed_max + equal_to s (count_of s) entry) ≡ Made.Refused q
+        → unless_refused v (cond (is_made s entry) s (with_entry s entry)) s ≡ s
     go Verdict.Passed e = absurd (let z : ◌≡◌ {A = ℕ} 0 1 = cc in omega arith)
     go (Verdict.Refused r) e = refl
 
-pub union-refused : (s rs : List ℕ) (q : Refusal) → (unionOf s rs).made ≡ Made.Refused q → (unionOf s rs).store ≡ s
-unfolding unionOf
-union-refused s [] q e = refl
-union-refused s (x ∷ []) q e = refl
-union-refused s (x ∷ y ∷ rs) q e = go (ltb childrenMax (length (x ∷ y ∷ rs))) e
+pub union_refused : (s rs : List ℕ) (q : Refusal) → (union_of s rs).made ≡ Made.Refused q → (union_of s rs).store ≡ s
+unfolding union_of
+union_refused s [] q e = refl
+union_refused s (x ∷ []) q e = refl
+union_refused s (x ∷ y ∷ rs) q e = go (ltb children_max (length (x ∷ y ∷ rs))) e
   where
     entry : List ℕ
-    entry = entryOf any (x ∷ y ∷ rs) 0
+    entry = entry_of any (x ∷ y ∷ rs) 0
 
-    go : (b : Bool) → (cond b (entered (Made.Refused Width) s) (entered (enterAnswer s entry) (enterPage s entry))).made ≡ Made.Refused q
-        → (cond b (entered (Made.Refused Width) s) (entered (enterAnswer s entry) (enterPage s entry))).store ≡ s
+    go : (b : Bool) → (cond b (entered (Made.Refused Width) s) (entered (enter_answer s entry) (enter_page s entry))).made ≡ Made.Refused q
+        → (cond b (entered (Made.Refused Width) s) (entered (enter_answer s entry) (enter_page s entry))).store ≡ s
     go true k = refl
-    go false k = enter-refused s entry q k
+    go false k = enter_refused s entry q k

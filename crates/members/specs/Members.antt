@@ -2,17 +2,17 @@
 -- "Answers"); and the union of several types.
 use Rattle.std.specs.Prelude.{Bool, false, ◌||◌, cond, List, [], ◌∷◌, ◌++◌, ℕ, zero, suc, ◌*◌, eqb, ltb, length, get_or}
 use Rattle.refusals.specs.declared.Refusal.TheVariants.{Width}
-use Rattle.kinds.specs.Kinds.{childrenMax, any, isUnion}
-use Rattle.types.specs.Types.{kindOf, arity, childOf}
-use Rattle.types.specs.Making.{entryOf, enterAnswer, enterPage}
+use Rattle.kinds.specs.Kinds.{children_max, any, is_union}
+use Rattle.types.specs.Types.{kind_of, arity, child_of}
+use Rattle.types.specs.Making.{entry_of, enter_answer, enter_page}
 use Rattle.types.specs.declared.Made.{Made}
 use Rattle.matching.specs.declared.Checked.TheVariants.{Known}
-use Rattle.operators.specs.Outcome.{noError, outcome}
+use Rattle.operators.specs.Outcome.{no_error, outcome}
 use Rattle.members.specs.declared.Conclusion.{Conclusion}
 
 -- how many members a type has at most
-abbrev pub membersMax : ℕ
-membersMax = childrenMax * childrenMax
+abbrev pub members_max : ℕ
+members_max = children_max * children_max
 
 -- the lists f 0, f 1, up to n of them, one after the other
 unfoldable pub gather : ℕ → (ℕ → List ℕ) → List ℕ
@@ -20,20 +20,20 @@ gather zero f = []
 gather (suc n) f = gather n f ++ f n
 
 -- what child x of a union gives: if it is a union itself, its children
-unfoldable pub shareOf : List ℕ → ℕ → List ℕ
-shareOf page x = cond (isUnion (kindOf page x)) (gather (arity page x) (λ i. childOf page x i ∷ [])) (x ∷ [])
+unfoldable pub share_of : List ℕ → ℕ → List ℕ
+share_of page x = cond (is_union (kind_of page x)) (gather (arity page x) (λ i. child_of page x i ∷ [])) (x ∷ [])
 
 -- the members of type t, which is its only one where it is no union
-unfoldable pub membersOf : List ℕ → ℕ → List ℕ
-membersOf page t = cond (isUnion (kindOf page t)) (gather (arity page t) (λ i. shareOf page (childOf page t i))) (t ∷ [])
+unfoldable pub members_of : List ℕ → ℕ → List ℕ
+members_of page t = cond (is_union (kind_of page t)) (gather (arity page t) (λ i. share_of page (child_of page t i))) (t ∷ [])
 
 -- how many they are
-abbrev pub sizeOf : List ℕ → ℕ → ℕ
-sizeOf page t = length (membersOf page t)
+abbrev pub size_of : List ℕ → ℕ → ℕ
+size_of page t = length (members_of page t)
 
 -- member i
 abbrev pub member : List ℕ → ℕ → ℕ → ℕ
-member page t i = get_or (membersOf page t) i 0
+member page t i = get_or (members_of page t) i 0
 
 -- ---- "Equal result types merge"
 
@@ -58,12 +58,12 @@ entered m s = record { made = m; store = s }
 
 -- one result stays itself; several make a union, refused where it is "wider than 16". Where there is none nothing is entered: a check
 -- without a result has an error
-unfoldable pub unionOf : List ℕ → List ℕ → Entered
-unionOf store [] = entered (Made.At 0) store
-unionOf store (t ∷ []) = entered (Made.At t) store
-unionOf store (t ∷ u ∷ ts) =
-    cond (ltb childrenMax (length (t ∷ u ∷ ts))) (entered (Made.Refused Width) store)
-    (entered (enterAnswer store (entryOf any (t ∷ u ∷ ts) 0)) (enterPage store (entryOf any (t ∷ u ∷ ts) 0)))
+unfoldable pub union_of : List ℕ → List ℕ → Entered
+union_of store [] = entered (Made.At 0) store
+union_of store (t ∷ []) = entered (Made.At t) store
+union_of store (t ∷ u ∷ ts) =
+    cond (ltb children_max (length (t ∷ u ∷ ts))) (entered (Made.Refused Width) store)
+    (entered (enter_answer store (entry_of any (t ∷ u ∷ ts) 0)) (enter_page store (entry_of any (t ∷ u ∷ ts) 0)))
 
 -- ---- a check's conclusion, and the store afterwards
 
@@ -76,5 +76,5 @@ concluded c s = record { conclusion = c; store = s }
 
 -- the type that was entered, without an error, or the refusal
 abbrev pub conclude : Made → Conclusion
-conclude (Made.At t) = Conclusion.Is (outcome (Known t) noError)
+conclude (Made.At t) = Conclusion.Is (outcome (Known t) no_error)
 conclude (Made.Refused r) = Conclusion.Refused r

@@ -3,11 +3,11 @@
 
 ghost use Rattle.std.specs.Prelude.{◌≡◌, true, ◌+◌, ◌≤◌, ◌<◌, length, get_or, take, drop, replicate};
 ghost use Rattle.pages.specs.Bytes.{put};
-ghost use Rattle.types.specs.Store.{typesMax};
-ghost use Rattle.types.specs.Types.{typesIn, Held, Measured};
-ghost use Rattle.types.specs.Calls.{allBelow};
-ghost use Rattle.members.specs.Members.{membersMax, shareOf, membersOf, has, merged, entered, unionOf, conclude};
-ghost use Rattle.members.specs.Leaves.{keyOf, keyIn, leafOf, Leaves};
+ghost use Rattle.types.specs.Store.{types_max};
+ghost use Rattle.types.specs.Types.{types_in, Held, Measured};
+ghost use Rattle.types.specs.Calls.{all_below};
+ghost use Rattle.members.specs.Members.{members_max, share_of, members_of, has, merged, entered, union_of, conclude};
+ghost use Rattle.members.specs.Leaves.{key_of, key_in, leaf_of, Leaves};
 
 use kinds::{ANY, CHILDREN, Kind};
 use operators::Outcome;
@@ -29,7 +29,7 @@ type Members = [u16; MEMBERS];
 
 // No member yet.
 pub fn no_members() -> Members
-    ensures { result ≡ replicate membersMax 0 }
+    ensures { result ≡ replicate members_max 0 }
 {
     [0; MEMBERS]
 }
@@ -45,9 +45,9 @@ pub fn member_at(types: &[u16], i: usize) -> usize
 // Writes down, from place n on, what child x of a union gives. Says where that ends.
 fn add_share(page: &[u8], offsets: &[usize], x: usize, types: &mut [u16], n: usize) -> usize
     requires held { Held page.now offsets.now }
-    requires x_bound { x < typesIn page.now }
-    requires x_in_bounds { n + length (shareOf page.now x) ≤ length types.old }
-    ensures { (result ≡ n + length (shareOf page.now x)) × (types.new ≡ put types.old n (shareOf page.now x)) }
+    requires x_bound { x < types_in page.now }
+    requires x_in_bounds { n + length (share_of page.now x) ≤ length types.old }
+    ensures { (result ≡ n + length (share_of page.now x)) × (types.new ≡ put types.old n (share_of page.now x)) }
 {
     if !kinds::is_union(kind_of(page, offsets, x)) {
         set_type(types, n, x);
@@ -65,8 +65,8 @@ fn add_share(page: &[u8], offsets: &[usize], x: usize, types: &mut [u16], n: usi
 // Writes down the members of a type, and says how many they are; what stands after them is left free.
 pub fn flatten(page: &[u8], offsets: &[usize], t: usize, types: &mut [u16]) -> usize
     requires held { Held page.now offsets.now }
-    requires t_bound { (t < typesIn page.now) × (length types.old ≡ membersMax) }
-    ensures { (result ≡ length (membersOf page.now t)) × (result ≤ membersMax) × (take result types.new ≡ membersOf page.now t) × (length types.new ≡ membersMax) }
+    requires t_bound { (t < types_in page.now) × (length types.old ≡ members_max) }
+    ensures { (result ≡ length (members_of page.now t)) × (result ≤ members_max) × (take result types.new ≡ members_of page.now t) × (length types.new ≡ members_max) }
 {
     if !kinds::is_union(kind_of(page, offsets, t)) {
         set_type(types, 0, t);
@@ -100,8 +100,8 @@ fn is_among(types: &[u16], n: usize, t: usize) -> bool
 
 // Merges a result with the n before it, and says how many there are now; what stands after them is left free.
 pub fn merge(types: &mut [u16], n: usize, t: usize) -> usize
-    requires { (length types.old ≡ membersMax) × (n < membersMax) × (t < typesMax) }
-    ensures { (result ≤ n + 1) × (take result types.new ≡ merged t (take n types.old)) × (length types.new ≡ membersMax) × (result ≡ length (merged t (take n types.old))) }
+    requires { (length types.old ≡ members_max) × (n < members_max) × (t < types_max) }
+    ensures { (result ≤ n + 1) × (take result types.new ≡ merged t (take n types.old)) × (length types.new ≡ members_max) × (result ≡ length (merged t (take n types.old))) }
 {
     if is_among(types, n, t) {
         return n;
@@ -119,8 +119,8 @@ pub fn enter_union(
     n: usize,
 ) -> Made
     requires measured { Measured page.old offsets.old depths.old }
-    requires n_nonzero { (0 < n) × (n ≤ length types.now) × (allBelow (typesIn page.old) (take n types.now) ≡ true) }
-    ensures page_after { entered result page.new ≡ unionOf page.old (take n types.now) }
+    requires n_nonzero { (0 < n) × (n ≤ length types.now) × (all_below (types_in page.old) (take n types.now) ≡ true) }
+    ensures page_after { entered result page.new ≡ union_of page.old (take n types.now) }
     ensures measured_2 { Measured page.new offsets.new depths.new }
 {
     if n == 1 {
@@ -144,7 +144,7 @@ pub fn conclusion_of(made: Made) -> Conclusion
 
 // The key of a kind.
 fn key_of(unary: bool, k: Kind) -> usize
-    ensures { result ≡ keyOf unary k }
+    ensures { result ≡ key_of unary k }
 {
     if unary {
         return operators::taker_of(k);
@@ -155,8 +155,8 @@ fn key_of(unary: bool, k: Kind) -> usize
 // The key of a type that is no union.
 fn key_in(page: &[u8], offsets: &[usize], unary: bool, t: usize) -> usize
     requires held { Held page.now offsets.now }
-    requires t_bound { t < typesIn page.now }
-    ensures { result ≡ keyIn unary page.now t }
+    requires t_bound { t < types_in page.now }
+    ensures { result ≡ key_in unary page.now t }
 {
     key_of(unary, kind_of(page, offsets, t))
 }
@@ -172,9 +172,9 @@ pub fn leaf_at(leaves: &[u16], t: usize) -> usize
 // The leaf that stands for a type, where the table has those of the types below.
 fn leaf_of(page: &[u8], offsets: &[usize], leaves: &[u16], unary: bool, t: usize) -> usize
     requires held { Held page.now offsets.now }
-    requires t_bound { t < typesIn page.now }
+    requires t_bound { t < types_in page.now }
     requires leaves { Leaves unary page.now leaves.now t }
-    ensures { (result ≡ leafOf unary page.now t) × (result ≤ t) }
+    ensures { (result ≡ leaf_of unary page.now t) × (result ≤ t) }
 {
     if !kinds::is_union(kind_of(page, offsets, t)) {
         return t;
@@ -202,7 +202,7 @@ type LeafTable = [u16; TYPES];
 
 // No leaf yet.
 pub fn no_leaves() -> LeafTable
-    ensures { result ≡ replicate typesMax 0 }
+    ensures { result ≡ replicate types_max 0 }
 {
     [0; TYPES]
 }
@@ -210,9 +210,9 @@ pub fn no_leaves() -> LeafTable
 // Writes down the leaves of all types from `from` on, those below being there; what stands behind them stays.
 pub fn fill_leaves(page: &[u8], offsets: &[usize], leaves: &mut [u16], unary: bool, from: usize)
     requires held { Held page.now offsets.now }
-    requires from_bound { (from ≤ typesIn page.now) × (Leaves unary page.now leaves.old from) }
-    ensures leaves { Leaves unary page.now leaves.new (typesIn page.now) }
-    ensures leaves_unchanged { drop (typesIn page.now) leaves.new ≡ drop (typesIn page.now) leaves.old }
+    requires from_bound { (from ≤ types_in page.now) × (Leaves unary page.now leaves.old from) }
+    ensures leaves { Leaves unary page.now leaves.new (types_in page.now) }
+    ensures leaves_unchanged { drop (types_in page.now) leaves.new ≡ drop (types_in page.now) leaves.old }
 {
     let n = types::count(page);
     let mut t: usize = from;

@@ -13,219 +13,219 @@ use Rattle.refusals.specs.declared.Refusal.{Refusal}
 use Rattle.refusals.specs.declared.Refusal.TheVariants.{Broken, Unused, Malformed, Full}
 use Rattle.refusals.specs.declared.Verdict.TheVariants.{Passed, Refused}
 use Rattle.refusals.specs.Lowest.{◌when◌}
-use Rattle.refusals.proofs.Lowest.{first-holds}
-use Rattle.pages.specs.Quant.{allTo}
-use Rattle.pages.specs.Bytes.{zeros, countBytes, countOf, bytesOf, put}
-use Rattle.pages.proofs.Quant.{all-at, and-true}
-use Rattle.pages.proofs.Put.{put-cons, put-length}
-use Rattle.names.specs.Table.{namesMax, nameMax, wellNamed, offset, nameAt, numberOf, goodAt, formed}
-use Rattle.names.specs.Calls.{lentBroken, usedOf, isUsed, emptyVerdict, emptyPage, isKnown, roomy, withName, addVerdict, addAnswer, pageAfter, findVerdict, findAnswer, readVerdict, readAnswer, nameOf, noName}
+use Rattle.refusals.proofs.Lowest.{first_holds}
+use Rattle.pages.specs.Quant.{all_to}
+use Rattle.pages.specs.Bytes.{zeros, count_bytes, count_of, bytes_of, put}
+use Rattle.pages.proofs.Quant.{all_at, and_true}
+use Rattle.pages.proofs.Put.{put_cons, put_length}
+use Rattle.names.specs.Table.{names_max, name_max, well_named, offset, name_at, number_of, good_at, formed}
+use Rattle.names.specs.Calls.{lent_broken, used_of, is_used, empty_verdict, empty_page, is_known, roomy, with_name, add_verdict, add_answer, page_after, find_verdict, find_answer, read_verdict, read_answer, name_of, no_name}
 use Rattle.names.specs.declared.Added.{Added}
 use Rattle.names.specs.declared.Found.{Found}
 
 -- ---- a table in form
 
 pub record Form (page : List ℕ) : Type 0 where
-  pub two : countBytes ≤ length page
-  pub few : countOf page ≤ namesMax
-  pub each : allTo (countOf page) (goodAt page) ≡ true
-  pub clear : zeros (drop (offset page (countOf page)) page) ≡ true
+  pub two : count_bytes ≤ length page
+  pub few : count_of page ≤ names_max
+  pub each : all_to (count_of page) (good_at page) ≡ true
+  pub clear : zeros (drop (offset page (count_of page)) page) ≡ true
 
 pub form : (page : List ℕ) → formed page ≡ true → Form page
 unfolding formed
 form page h =
-    let a = and-true _ _ h in
-    let b = and-true _ _ a.1 in
-    let d = and-true _ _ b.1 in
+    let a = and_true _ _ h in
+    let b = and_true _ _ a.1 in
+    let d = and_true _ _ b.1 in
     record { two = leb-true _ _ a.0; few = leb-true _ _ b.0; each = d.0; clear = d.1 }
 
-good-in : (page : List ℕ) (n : ℕ) → goodAt page n ≡ true → offset page (suc n) ≤ length page
-unfolding goodAt
-good-in page n g = leb-true _ _ (and-true _ _ g).0
+good_in : (page : List ℕ) (n : ℕ) → good_at page n ≡ true → offset page (suc n) ≤ length page
+unfolding good_at
+good_in page n g = leb-true _ _ (and_true _ _ g).0
 
-good-named : (page : List ℕ) (i : ℕ) → goodAt page i ≡ true → wellNamed (nameAt page i) ≡ true
-unfolding goodAt
-good-named page i g =
-    let a = and-true (leb (offset page (suc i)) (length page)) (wellNamed (nameAt page i) && leb i (numberOf page i (nameAt page i))) g in
-    (and-true (wellNamed (nameAt page i)) (leb i (numberOf page i (nameAt page i))) a.1).0
+good_named : (page : List ℕ) (i : ℕ) → good_at page i ≡ true → well_named (name_at page i) ≡ true
+unfolding good_at
+good_named page i g =
+    let a = and_true (leb (offset page (suc i)) (length page)) (well_named (name_at page i) && leb i (number_of page i (name_at page i))) g in
+    (and_true (well_named (name_at page i)) (leb i (number_of page i (name_at page i))) a.1).0
 
 -- the names up to any in use lie in the page
-pub fits-to : (page : List ℕ) → Form page → (n : ℕ) → n ≤ countOf page → offset page n ≤ length page
+pub fits_to : (page : List ℕ) → Form page → (n : ℕ) → n ≤ count_of page → offset page n ≤ length page
 unfolding offset
-fits-to page f zero h = f.two
-fits-to page f (suc n) h = good-in page n (all-at (goodAt page) (countOf page) n f.each h)
+fits_to page f zero h = f.two
+fits_to page f (suc n) h = good_in page n (all_at (good_at page) (count_of page) n f.each h)
 
-pub name-small : (name : List ℕ) → wellNamed name ≡ true → (1 ≤ length name) × (length name ≤ nameMax)
-unfolding wellNamed
-name-small name w = let a = and-true _ _ (and-true _ _ w).0 in (leb-true _ _ a.0, leb-true _ _ a.1)
+pub name_small : (name : List ℕ) → well_named name ≡ true → (1 ≤ length name) × (length name ≤ name_max)
+unfolding well_named
+name_small name w = let a = and_true _ _ (and_true _ _ w).0 in (leb-true _ _ a.0, leb-true _ _ a.1)
 
 -- a name in use is a name
-pub in-use-named : (page : List ℕ) → Form page → (k : ℕ) → k < countOf page → wellNamed (nameAt page k) ≡ true
-in-use-named page f k h = good-named page k (all-at (goodAt page) (countOf page) k f.each h)
+pub in_use_named : (page : List ℕ) → Form page → (k : ℕ) → k < count_of page → well_named (name_at page k) ≡ true
+in_use_named page f k h = good_named page k (all_at (good_at page) (count_of page) k f.each h)
 
 -- ---- making a table
 
 -- ---- names that are lent or not
 
 module _ (names : List ℕ) (lent : Bool) where
-  pub broken-lent : lent ≡ true → not (formed names) ≡ lentBroken names lent
-  unfolding lentBroken
-  broken-lent e = rw e
+  pub broken_lent : lent ≡ true → not (formed names) ≡ lent_broken names lent
+  unfolding lent_broken
+  broken_lent e = rw e
 
-  pub broken-unlent : lent ≡ false → false ≡ lentBroken names lent
-  unfolding lentBroken
-  broken-unlent e = rw e
+  pub broken_unlent : lent ≡ false → false ≡ lent_broken names lent
+  unfolding lent_broken
+  broken_unlent e = rw e
 
-  lent-formed : lent ≡ true → lentBroken names lent ≡ false → formed names ≡ true
-  unfolding lentBroken
-  lent-formed e h = not-false (formed names) (rw e at h)
+  lent_formed : lent ≡ true → lent_broken names lent ≡ false → formed names ≡ true
+  unfolding lent_broken
+  lent_formed e h = not-false (formed names) (rw e at h)
 
-  pub lent-form : lent ≡ true → lentBroken names lent ≡ false → Form names
-  lent-form e h = form names (lent-formed e h)
+  pub lent_form : lent ≡ true → lent_broken names lent ≡ false → Form names
+  lent_form e h = form names (lent_formed e h)
 
-  pub used-lent : lent ≡ true → lentBroken names lent ≡ false → (n : ℕ) → n ≡ countOf names → (n ≡ usedOf names lent) × (n ≤ namesMax)
-  unfolding usedOf
-  used-lent e h n is = (rw e is, rw is (lent-form e h).few)
+  pub used_lent : lent ≡ true → lent_broken names lent ≡ false → (n : ℕ) → n ≡ count_of names → (n ≡ used_of names lent) × (n ≤ names_max)
+  unfolding used_of
+  used_lent e h n is = (rw e is, rw is (lent_form e h).few)
 
   -- no more numbers are in use than there can be
-  pub used-few : lentBroken names lent ≡ false → usedOf names lent ≤ namesMax
-  unfolding usedOf
-  used-few h = go lent refl
+  pub used_few : lent_broken names lent ≡ false → used_of names lent ≤ names_max
+  unfolding used_of
+  used_few h = go lent refl
     where
-      go : (b : Bool) → lent ≡ b → cond b (countOf names) namesMax ≤ namesMax
-      go true e = (lent-form e h).few
-      go false e = le_refl namesMax
+      go : (b : Bool) → lent ≡ b → cond b (count_of names) names_max ≤ names_max
+      go true e = (lent_form e h).few
+      go false e = le_refl names_max
 
-  pub used-unlent : lent ≡ false → (namesMax ≡ usedOf names lent) × (namesMax ≤ namesMax)
-  unfolding usedOf
-  used-unlent e = (rw e, le_refl namesMax)
+  pub used_unlent : lent ≡ false → (names_max ≡ used_of names lent) × (names_max ≤ names_max)
+  unfolding used_of
+  used_unlent e = (rw e, le_refl names_max)
 
 module _ (page : List ℕ) where
-  pub empty-short : length page < countBytes → (Refused Broken ≡ emptyVerdict page) × (page ≡ emptyPage page)
-  unfolding emptyVerdict emptyPage
-  empty-short h = (rw (lt-ltb (length page) countBytes h), rw (lt-ltb (length page) countBytes h))
+  pub empty_short : length page < count_bytes → (Refused Broken ≡ empty_verdict page) × (page ≡ empty_page page)
+  unfolding empty_verdict empty_page
+  empty_short h = (rw (lt-ltb (length page) count_bytes h), rw (lt-ltb (length page) count_bytes h))
 
-  pub empty-made : countBytes ≤ length page → (Passed ≡ emptyVerdict page) × (replicate (length page) 0 ≡ emptyPage page)
-  unfolding emptyVerdict emptyPage
-  empty-made h = (rw (le-ltb (length page) countBytes h), rw (le-ltb (length page) countBytes h))
+  pub empty_made : count_bytes ≤ length page → (Passed ≡ empty_verdict page) × (replicate (length page) 0 ≡ empty_page page)
+  unfolding empty_verdict empty_page
+  empty_made h = (rw (le-ltb (length page) count_bytes h), rw (le-ltb (length page) count_bytes h))
 
 -- ---- adding a name
 
-one-byte : (l : List ℕ) (at x : ℕ) → at + 1 ≤ length l → set l at x ≡ put l at (x ∷ [])
-one-byte l at x h = ap (λ (r : List ℕ). set r at x) (paste-zero l (at + 1) []) ∙ put-cons l at x [] (omega arith)
+one_byte : (l : List ℕ) (at x : ℕ) → at + 1 ≤ length l → set l at x ≡ put l at (x ∷ [])
+one_byte l at x h = ap (λ (r : List ℕ). set r at x) (paste-zero l (at + 1) []) ∙ put_cons l at x [] (omega arith)
 
 module _ (limit : ℕ) (page name : List ℕ) where
-  refused-add : (r : Refusal) → addVerdict limit page name ≡ Refused r → (Added.Refused r ≡ addAnswer limit page name) × (page ≡ pageAfter limit page name)
-  unfolding addAnswer pageAfter
-  refused-add r v = (rw v, rw v)
+  refused_add : (r : Refusal) → add_verdict limit page name ≡ Refused r → (Added.Refused r ≡ add_answer limit page name) × (page ≡ page_after limit page name)
+  unfolding add_answer page_after
+  refused_add r v = (rw v, rw v)
 
-  passed-add : (known : Bool) → isKnown page name ≡ known → addVerdict limit page name ≡ Passed
-      → (Added.At (numberOf page (countOf page) name) ≡ addAnswer limit page name) × (cond known page (withName page name) ≡ pageAfter limit page name)
-  unfolding addAnswer pageAfter
-  passed-add known k v = (rw v, rw (v, k))
+  passed_add : (known : Bool) → is_known page name ≡ known → add_verdict limit page name ≡ Passed
+      → (Added.At (number_of page (count_of page) name) ≡ add_answer limit page name) × (cond known page (with_name page name) ≡ page_after limit page name)
+  unfolding add_answer page_after
+  passed_add known k v = (rw v, rw (v, k))
 
-  pub add-broken : formed page ≡ false → (Added.Refused Broken ≡ addAnswer limit page name) × (page ≡ pageAfter limit page name)
-  unfolding addVerdict
-  add-broken f = refused-add Broken v
+  pub add_broken : formed page ≡ false → (Added.Refused Broken ≡ add_answer limit page name) × (page ≡ page_after limit page name)
+  unfolding add_verdict
+  add_broken f = refused_add Broken v
     where
-      v : addVerdict limit page name ≡ Refused Broken
-      v = rw f (first-holds Broken ((Malformed when not (wellNamed name)) ∷ (Full when (not (isKnown page name) && not (roomy limit page name))) ∷ []) refl)
+      v : add_verdict limit page name ≡ Refused Broken
+      v = rw f (first_holds Broken ((Malformed when not (well_named name)) ∷ (Full when (not (is_known page name) && not (roomy limit page name))) ∷ []) refl)
 
   module _ (f : formed page ≡ true) where
-    pub add-malformed : wellNamed name ≡ false → (Added.Refused Malformed ≡ addAnswer limit page name) × (page ≡ pageAfter limit page name)
-    unfolding addVerdict
-    add-malformed w = refused-add Malformed v
+    pub add_malformed : well_named name ≡ false → (Added.Refused Malformed ≡ add_answer limit page name) × (page ≡ page_after limit page name)
+    unfolding add_verdict
+    add_malformed w = refused_add Malformed v
       where
-        v : addVerdict limit page name ≡ Refused Malformed
-        v = rw (f, w) (first-holds Malformed ((Full when (not (isKnown page name) && not (roomy limit page name))) ∷ []) refl)
+        v : add_verdict limit page name ≡ Refused Malformed
+        v = rw (f, w) (first_holds Malformed ((Full when (not (is_known page name) && not (roomy limit page name))) ∷ []) refl)
 
-    module _ (w : wellNamed name ≡ true) (n k : ℕ) (e : n ≡ countOf page) (q : k ≡ numberOf page n name) where
-      pub add-known : k < n → (Added.At k ≡ addAnswer limit page name) × (page ≡ pageAfter limit page name)
-      unfolding addVerdict
-      add-known l = rw (← e, ← q) at (passed-add true (rw (← e, ← q) (lt-ltb k n l)) v)
+    module _ (w : well_named name ≡ true) (n k : ℕ) (e : n ≡ count_of page) (q : k ≡ number_of page n name) where
+      pub add_known : k < n → (Added.At k ≡ add_answer limit page name) × (page ≡ page_after limit page name)
+      unfolding add_verdict
+      add_known l = rw (← e, ← q) at (passed_add true (rw (← e, ← q) (lt-ltb k n l)) v)
         where
-          v : addVerdict limit page name ≡ Passed
+          v : add_verdict limit page name ≡ Passed
           v = rw (f, w, ← e, ← q, lt-ltb k n l)
 
       module _ (new : n ≤ k) where
-        not-known : isKnown page name ≡ false
-        not-known = rw (← e, ← q) (le-ltb k n new)
+        not_known : is_known page name ≡ false
+        not_known = rw (← e, ← q) (le-ltb k n new)
 
-        full : roomy limit page name ≡ false → (Added.Refused Full ≡ addAnswer limit page name) × (page ≡ pageAfter limit page name)
-        unfolding addVerdict
-        full r = refused-add Full v
+        full : roomy limit page name ≡ false → (Added.Refused Full ≡ add_answer limit page name) × (page ≡ page_after limit page name)
+        unfolding add_verdict
+        full r = refused_add Full v
           where
-            v : addVerdict limit page name ≡ Refused Full
-            v = rw (f, w, not-known, r)
+            v : add_verdict limit page name ≡ Refused Full
+            v = rw (f, w, not_known, r)
 
-        pub add-many : limit ≤ n → (Added.Refused Full ≡ addAnswer limit page name) × (page ≡ pageAfter limit page name)
+        pub add_many : limit ≤ n → (Added.Refused Full ≡ add_answer limit page name) × (page ≡ page_after limit page name)
         unfolding roomy
-        add-many h = full r
+        add_many h = full r
           where
             r : roomy limit page name ≡ false
             r = rw (← e, le-ltb n limit h)
 
         module _ (h : n < limit) (end : ℕ) (o : end ≡ offset page n) where
-          pub add-short : length page < end + 1 + length name → (Added.Refused Full ≡ addAnswer limit page name) × (page ≡ pageAfter limit page name)
+          pub add_short : length page < end + 1 + length name → (Added.Refused Full ≡ add_answer limit page name) × (page ≡ page_after limit page name)
           unfolding roomy
-          add-short s = full r
+          add_short s = full r
             where
               r : roomy limit page name ≡ false
               r = rw (← e, lt-ltb n limit h, ← o, lt-leb (end + 1 + length name) (length page) s)
 
-          pub add-new : k ≡ n → end + 1 + length name ≤ length page → (Added.At n ≡ addAnswer limit page name) × (put (put (put page (end + 1) name) end (length name ∷ [])) 0 (bytesOf (n + 1)) ≡ pageAfter limit page name)
-          unfolding addVerdict roomy withName
-          add-new kn s = let z = passed-add false not-known v in (rw (← e, ← q, kn) at z.0, there ∙ z.1)
+          pub add_new : k ≡ n → end + 1 + length name ≤ length page → (Added.At n ≡ add_answer limit page name) × (put (put (put page (end + 1) name) end (length name ∷ [])) 0 (bytes_of (n + 1)) ≡ page_after limit page name)
+          unfolding add_verdict roomy with_name
+          add_new kn s = let z = passed_add false not_known v in (rw (← e, ← q, kn) at z.0, there ∙ z.1)
             where
-              v : addVerdict limit page name ≡ Passed
-              v = rw (f, w, not-known, ← e, lt-ltb n limit h, ← o, le-leb (end + 1 + length name) (length page) s)
+              v : add_verdict limit page name ≡ Passed
+              v = rw (f, w, not_known, ← e, lt-ltb n limit h, ← o, le-leb (end + 1 + length name) (length page) s)
 
-              there : put (put (put page (end + 1) name) end (length name ∷ [])) 0 (bytesOf (n + 1)) ≡ withName page name
+              there : put (put (put page (end + 1) name) end (length name ∷ [])) 0 (bytes_of (n + 1)) ≡ with_name page name
               there =
-                  let lp : length (put page (end + 1) name) ≡ length page = put-length page (end + 1) name (omega arith) in
+                  let lp : length (put page (end + 1) name) ≡ length page = put_length page (end + 1) name (omega arith) in
                   let j : put (put page (end + 1) name) end (length name ∷ []) ≡ put page end (length name ∷ name) =
-                  sym (one-byte (put page (end + 1) name) end (length name) (omega arith)) ∙ put-cons page end (length name) name (omega arith) in
+                  sym (one_byte (put page (end + 1) name) end (length name) (omega arith)) ∙ put_cons page end (length name) name (omega arith) in
                   rw (j, ← e, ← o)
 
 -- ---- looking for a name
 
 module _ (page name : List ℕ) where
-  pub find-broken : formed page ≡ false → Found.Refused Broken ≡ findAnswer page name
-  unfolding findAnswer findVerdict
-  find-broken f = rw v
+  pub find_broken : formed page ≡ false → Found.Refused Broken ≡ find_answer page name
+  unfolding find_answer find_verdict
+  find_broken f = rw v
     where
-      v : findVerdict page name ≡ Refused Broken
-      v = rw f (first-holds Broken ((Malformed when not (wellNamed name)) ∷ []) refl)
+      v : find_verdict page name ≡ Refused Broken
+      v = rw f (first_holds Broken ((Malformed when not (well_named name)) ∷ []) refl)
 
   module _ (f : formed page ≡ true) where
-    pub find-malformed : wellNamed name ≡ false → Found.Refused Malformed ≡ findAnswer page name
-    unfolding findAnswer findVerdict
-    find-malformed w = rw (f, w)
+    pub find_malformed : well_named name ≡ false → Found.Refused Malformed ≡ find_answer page name
+    unfolding find_answer find_verdict
+    find_malformed w = rw (f, w)
 
-    module _ (w : wellNamed name ≡ true) (n k : ℕ) (e : n ≡ countOf page) (q : k ≡ numberOf page n name) where
-      pub find-known : k < n → Found.At k ≡ findAnswer page name
-      unfolding findAnswer findVerdict
-      find-known l = rw (f, w, ← e, ← q, lt-ltb k n l)
+    module _ (w : well_named name ≡ true) (n k : ℕ) (e : n ≡ count_of page) (q : k ≡ number_of page n name) where
+      pub find_known : k < n → Found.At k ≡ find_answer page name
+      unfolding find_answer find_verdict
+      find_known l = rw (f, w, ← e, ← q, lt-ltb k n l)
 
-      pub find-absent : n ≤ k → Found.Absent ≡ findAnswer page name
-      unfolding findAnswer findVerdict
-      find-absent l = rw (f, w, ← e, ← q, le-ltb k n l)
+      pub find_absent : n ≤ k → Found.Absent ≡ find_answer page name
+      unfolding find_answer find_verdict
+      find_absent l = rw (f, w, ← e, ← q, le-ltb k n l)
 
 -- ---- reading a name
 
 module _ (page : List ℕ) (k : ℕ) where
-  pub read-broken : formed page ≡ false → noName Broken ≡ readAnswer page k
-  unfolding readAnswer readVerdict
-  read-broken f = rw v
+  pub read_broken : formed page ≡ false → no_name Broken ≡ read_answer page k
+  unfolding read_answer read_verdict
+  read_broken f = rw v
     where
-      v : readVerdict page k ≡ Refused Broken
-      v = rw f (first-holds Broken ((Unused when not (isUsed (countOf page) k)) ∷ []) refl)
+      v : read_verdict page k ≡ Refused Broken
+      v = rw f (first_holds Broken ((Unused when not (is_used (count_of page) k)) ∷ []) refl)
 
-  module _ (f : formed page ≡ true) (n : ℕ) (e : n ≡ countOf page) where
-    pub read-unused : isUsed n k ≡ false → noName Unused ≡ readAnswer page k
-    unfolding readAnswer readVerdict
-    read-unused h = rw (f, ← e, h)
+  module _ (f : formed page ≡ true) (n : ℕ) (e : n ≡ count_of page) where
+    pub read_unused : is_used n k ≡ false → no_name Unused ≡ read_answer page k
+    unfolding read_answer read_verdict
+    read_unused h = rw (f, ← e, h)
 
-    pub read-name : isUsed n k ≡ true → nameOf (nameAt page k) ≡ readAnswer page k
-    unfolding readAnswer readVerdict
-    read-name h = rw (f, ← e, h)
+    pub read_name : is_used n k ≡ true → name_of (name_at page k) ≡ read_answer page k
+    unfolding read_answer read_verdict
+    read_name h = rw (f, ← e, h)

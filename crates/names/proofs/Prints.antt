@@ -10,36 +10,36 @@ use lib.Seq.{get_or-set_same, get_or-set_other}
 use lib.Dec.{eqb, leb}
 use borrow.Author.Tests.{le-leb, lt-leb, eqb-true, eqb-false}
 use Rattle.pages.specs.Bytes.{eqs}
-use Rattle.pages.specs.Quant.{anyTo, allTo}
-use Rattle.pages.proofs.Quant.{all-none, all-more, first-none, first-below}
-use Rattle.pages.proofs.Bytes.{eqs-true}
-use Rattle.chains.specs.Last.{lastBelow, Heads}
-use Rattle.chains.specs.Prints.{printsMax, printOf}
+use Rattle.pages.specs.Quant.{any_to, all_to}
+use Rattle.pages.proofs.Quant.{all_none, all_more, first_none, first_below}
+use Rattle.pages.proofs.Bytes.{eqs_true}
+use Rattle.chains.specs.Last.{last_below, Heads}
+use Rattle.chains.specs.Prints.{prints_max, print_of}
 use Rattle.chains.proofs.Walk as walk
-use Rattle.chains.proofs.Grow.{heads-none, heads-more, links-none, links-more}
-use Rattle.names.specs.Table.{namesMax, offset, nameAt, named, numberOf, goodAt, wellNamed}
-use Rattle.names.specs.Prints.{printAt, Chained}
-use Rattle.names.proofs.Table.{offset-suc, step-in, found-at, part-is, good-name}
+use Rattle.chains.proofs.Grow.{heads_none, heads_more, links_none, links_more}
+use Rattle.names.specs.Table.{names_max, offset, name_at, named, number_of, good_at, well_named}
+use Rattle.names.specs.Prints.{print_at, Chained}
+use Rattle.names.proofs.Table.{offset_suc, step_in, found_at, part_is, good_name}
 
 -- ---- the chain of a print
 
 -- the r bytes behind a length byte
-abbrev partAt : List ℕ → ℕ → ℕ → List ℕ
-partAt page at r = take (at + 1 + r - (at + 1)) (drop (at + 1) page)
+abbrev part_at : List ℕ → ℕ → ℕ → List ℕ
+part_at page at r = take (at + 1 + r - (at + 1)) (drop (at + 1) page)
 
-pub same-print : (page name : List ℕ) (j : ℕ) → named page name j ≡ true → printAt page j ≡ printOf name
+pub same_print : (page name : List ℕ) (j : ℕ) → named page name j ≡ true → print_at page j ≡ print_of name
 unfolding named
-same-print page name j e = ap printOf (eqs-true (nameAt page j) name e)
+same_print page name j e = ap print_of (eqs_true (name_at page j) name e)
 
 -- the search stands at a name of the chain, and no name from there on is this one
 abbrev pub Among : List ℕ → List ℕ → ℕ → ℕ → Type 0
-Among page name = walk.Walk (printAt page) (printOf name) (named page name) (same-print page name)
+Among page name = walk.Walk (print_at page) (print_of name) (named page name) (same_print page name)
 
-pub among-start : (page name : List ℕ) (n head : ℕ) → head ≡ lastBelow (printAt page) n (printOf name) → Among page name n head
-among-start page name = walk.walk-start (printAt page) (printOf name) (named page name) (same-print page name)
+pub among_start : (page name : List ℕ) (n head : ℕ) → head ≡ last_below (print_at page) n (print_of name) → Among page name n head
+among_start page name = walk.walk_start (print_at page) (print_of name) (named page name) (same_print page name)
 
-pub among-end : (page name : List ℕ) (n next : ℕ) → Among page name n next → next ≡ 0 → false ≡ anyTo n (named page name)
-among-end page name n next w e = sym (walk.walk-end (printAt page) (printOf name) (named page name) (same-print page name) n next w e)
+pub among_end : (page name : List ℕ) (n next : ℕ) → Among page name n next → next ≡ 0 → false ≡ any_to n (named page name)
+among_end page name n next w e = sym (walk.walk_end (print_at page) (print_of name) (named page name) (same_print page name) n next w e)
 
 module _ (page offsets links name : List ℕ) (n next : ℕ) (c : Chained page n offsets links) (w : Among page name n next) (h : 0 < next) where
   before : next ≡ suc (next - 1)
@@ -49,95 +49,95 @@ module _ (page offsets links name : List ℕ) (n next : ℕ) (c : Chained page n
   below = omega arith
 
   -- where the name stands that is compared next
-  pub compared-in : get_or offsets (next - 1) 0 + 1 + get_or page (get_or offsets (next - 1) 0) 0 ≤ length page
-  compared-in = step-in page (next - 1) (get_or offsets (next - 1) 0) n (c.offset_at (next - 1) below) below c.inside
+  pub compared_in : get_or offsets (next - 1) 0 + 1 + get_or page (get_or offsets (next - 1) 0) 0 ≤ length page
+  compared_in = step_in page (next - 1) (get_or offsets (next - 1) 0) n (c.offset_at (next - 1) below) below c.inside
 
   module _ (r : ℕ) (e : r ≡ get_or page (get_or offsets (next - 1) 0) 0) where
-    compared : (b : Bool) → eqs (partAt page (get_or offsets (next - 1) 0) r) name ≡ b
+    compared : (b : Bool) → eqs (part_at page (get_or offsets (next - 1) 0) r) name ≡ b
         → named page name (next - 1) ≡ b
-    compared = found-at page (next - 1) (get_or offsets (next - 1) 0) r name (c.offset_at (next - 1) below) e
+    compared = found_at page (next - 1) (get_or offsets (next - 1) 0) r name (c.offset_at (next - 1) below) e
 
-    pub among-found : eqs (partAt page (get_or offsets (next - 1) 0) r) name ≡ true
-        → true ≡ anyTo n (named page name)
-    among-found f =
-        sym (walk.walk-found (printAt page) (printOf name) (named page name) (same-print page name) n next (next - 1) w before (compared true f))
+    pub among_found : eqs (part_at page (get_or offsets (next - 1) 0) r) name ≡ true
+        → true ≡ any_to n (named page name)
+    among_found f =
+        sym (walk.walk_found (print_at page) (print_of name) (named page name) (same_print page name) n next (next - 1) w before (compared true f))
 
-    pub among-on : eqs (partAt page (get_or offsets (next - 1) 0) r) name ≡ false
+    pub among_on : eqs (part_at page (get_or offsets (next - 1) 0) r) name ≡ false
         → (v : ℕ) → v ≡ get_or links (next - 1) 0 → (v < next) × Among page name n v
-    among-on f =
-        walk.walk-on (printAt page) (printOf name) (named page name) (same-print page name) n next (next - 1) w before (compared false f) links c.link_at
+    among_on f =
+        walk.walk_on (print_at page) (print_of name) (named page name) (same_print page name) n next (next - 1) w before (compared false f) links c.link_at
 
 -- ---- the tables of the first i names, which are good
 
 pub record Tables (page : List ℕ) (i at : ℕ) (heads links offsets : List ℕ) : Type 0 where
   pub stands : at ≡ offset page i
-  pub good : allTo i (goodAt page) ≡ true
-  pub prints : length heads ≡ printsMax
-  pub places : length links ≡ namesMax
-  pub notes : length offsets ≡ namesMax
-  pub head_at : Heads (printAt page) heads i
+  pub good : all_to i (good_at page) ≡ true
+  pub prints : length heads ≡ prints_max
+  pub places : length links ≡ names_max
+  pub notes : length offsets ≡ names_max
+  pub head_at : Heads (print_at page) heads i
   pub chain : Chained page i offsets links
 
-pub tables-none : (page heads links offsets : List ℕ) → 2 ≤ length page → heads ≡ replicate printsMax 0 → links ≡ replicate namesMax 0 → offsets ≡ replicate namesMax 0
+pub tables_none : (page heads links offsets : List ℕ) → 2 ≤ length page → heads ≡ replicate prints_max 0 → links ≡ replicate names_max 0 → offsets ≡ replicate names_max 0
     → Tables page 0 2 heads links offsets
 unfolding offset
-tables-none page heads links offsets h e f g =
-    let k : length links ≡ namesMax = ap length f ∙ length-replicate {A = ℕ} namesMax 0 in
-    let m : length offsets ≡ namesMax = ap length g ∙ length-replicate {A = ℕ} namesMax 0 in
+tables_none page heads links offsets h e f g =
+    let k : length links ≡ names_max = ap length f ∙ length-replicate {A = ℕ} names_max 0 in
+    let m : length offsets ≡ names_max = ap length g ∙ length-replicate {A = ℕ} names_max 0 in
     record {
       stands = refl;
-      good = all-none (goodAt page);
-      prints = ap length e ∙ length-replicate {A = ℕ} printsMax 0;
+      good = all_none (good_at page);
+      prints = ap length e ∙ length-replicate {A = ℕ} prints_max 0;
       places = k;
       notes = m;
-      head_at = rw e (heads-none (printAt page) printsMax);
-      chain = record { inside = h; noted = omega arith; linked = omega arith; offset_at = λ j l. absurd (not-suc-le-zero l); link_at = links-none (printAt page) links };
+      head_at = rw e (heads_none (print_at page) prints_max);
+      chain = record { inside = h; noted = omega arith; linked = omega arith; offset_at = λ j l. absurd (not-suc-le-zero l); link_at = links_none (print_at page) links };
     }
 
 -- the part of the page where name i stands
 module _ (page : List ℕ) (i at r : ℕ) (heads links offsets : List ℕ) (t : Tables page i at heads links offsets) (e : r ≡ get_or page at 0) (h : at + 1 + r ≤ length page) where
-  part : partAt page at r ≡ nameAt page i
-  part = part-is page i at r t.stands e
+  part : part_at page at r ≡ name_at page i
+  part = part_is page i at r t.stands e
 
-  module _ (w : wellNamed (partAt page at r) ≡ true) where
-    judged : goodAt page i ≡ leb i (numberOf page i (partAt page at r))
-    judged = good-name page i at r t.stands e h w (numberOf page i (partAt page at r)) refl
+  module _ (w : well_named (part_at page at r) ≡ true) where
+    judged : good_at page i ≡ leb i (number_of page i (part_at page at r))
+    judged = good_name page i at r t.stands e h w (number_of page i (part_at page at r)) refl
 
-    pub known-name : (found : Bool) → found ≡ anyTo i (named page (partAt page at r)) → found ≡ true → goodAt page i ≡ false
-    known-name found f a = judged ∙ lt-leb i _ (first-below _ i (sym f ∙ a))
+    pub known_name : (found : Bool) → found ≡ any_to i (named page (part_at page at r)) → found ≡ true → good_at page i ≡ false
+    known_name found f a = judged ∙ lt-leb i _ (first_below _ i (sym f ∙ a))
 
-    new-name : anyTo i (named page (partAt page at r)) ≡ false → goodAt page i ≡ true
-    new-name a = judged ∙ le-leb i _ (let z = first-none _ i a in omega arith)
+    new_name : any_to i (named page (part_at page at r)) ≡ false → good_at page i ≡ true
+    new_name a = judged ∙ le-leb i _ (let z = first_none _ i a in omega arith)
 
-    module _ (print : ℕ) (pr : print ≡ printOf (partAt page at r)) (pl : print < printsMax) where
-      printed : print ≡ printAt page i
-      printed = pr ∙ ap printOf part
+    module _ (print : ℕ) (pr : print ≡ print_of (part_at page at r)) (pl : print < prints_max) where
+      printed : print ≡ print_at page i
+      printed = pr ∙ ap print_of part
 
-      pub head-is : (head : ℕ) → head ≡ get_or heads print 0 → head ≡ lastBelow (printAt page) i (printOf (partAt page at r))
-      head-is head f = f ∙ t.head_at print (omega (arith, t.prints)) ∙ ap (lastBelow (printAt page) i) pr
+      pub head_is : (head : ℕ) → head ≡ get_or heads print 0 → head ≡ last_below (print_at page) i (print_of (part_at page at r))
+      head_is head f = f ∙ t.head_at print (omega (arith, t.prints)) ∙ ap (last_below (print_at page) i) pr
 
-      pub tables-more : (found : Bool) → found ≡ anyTo i (named page (partAt page at r)) → found ≡ false → i < namesMax
+      pub tables_more : (found : Bool) → found ≡ any_to i (named page (part_at page at r)) → found ≡ false → i < names_max
           → (heads' links' offsets' : List ℕ) → heads' ≡ set heads print (i + 1) → links' ≡ set links i (get_or heads print 0) → offsets' ≡ set offsets i at
           → Tables page (i + 1) (at + 1 + r) heads' links' offsets'
-      tables-more found f a l heads' links' offsets' eh el eo =
+      tables_more found f a l heads' links' offsets' eh el eo =
           rw (eh, el, eo) record {
             stands = next;
-            good = all-more (goodAt page) i t.good (new-name (sym f ∙ a));
+            good = all_more (good_at page) i t.good (new_name (sym f ∙ a));
             prints = length-set heads print (i + 1) ∙ t.prints;
             places = length-set links i (get_or heads print 0) ∙ t.places;
             notes = length-set offsets i at ∙ t.notes;
-            head_at = rw printed (heads-more (printAt page) heads i t.head_at (omega (arith, printed, t.prints)));
+            head_at = rw printed (heads_more (print_at page) heads i t.head_at (omega (arith, printed, t.prints)));
             chain = record {
               inside = rw (← next) h;
               noted = omega (arith, length-set offsets i at, t.notes);
               linked = omega (arith, length-set links i (get_or heads print 0), t.places);
               offset_at = noted;
-              link_at = links-more (printAt page) links i (get_or heads print 0) t.chain.link_at (omega (arith, t.places)) (t.head_at print (omega (arith, t.prints)) ∙ ap (lastBelow (printAt page) i) printed);
+              link_at = links_more (print_at page) links i (get_or heads print 0) t.chain.link_at (omega (arith, t.places)) (t.head_at print (omega (arith, t.prints)) ∙ ap (last_below (print_at page) i) printed);
             };
           }
         where
           next : at + 1 + r ≡ offset page (i + 1)
-          next = rw (e, t.stands) (sym (offset-suc page i))
+          next = rw (e, t.stands) (sym (offset_suc page i))
 
           noted : (j : ℕ) → j < i + 1 → get_or (set offsets i at) j 0 ≡ offset page j
           noted j k = go (eqb j i) refl

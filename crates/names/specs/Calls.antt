@@ -1,13 +1,13 @@
 -- What the calls on a table of names answer, and leave in the page (document 01, "Names" and the table of refusals).
 use Rattle.std.specs.Prelude.{Bool, ◌&&◌, not, cond, List, [], ◌∷◌, ℕ, ◌+◌, length, replicate, ltb, leb}
-use Rattle.refusals.specs.Lowest.{◌when◌, lowest, unlessRefused}
+use Rattle.refusals.specs.Lowest.{◌when◌, lowest, unless_refused}
 use Rattle.refusals.specs.declared.Refusal.{Refusal}
 use Rattle.refusals.specs.declared.Refusal.TheVariants.{Broken, Unused, Malformed, Full}
 use Rattle.refusals.specs.declared.Verdict.{Verdict}
 use Rattle.refusals.specs.declared.Verdict.TheVariants.{Passed, Refused}
-use Rattle.pages.specs.Bytes.{countBytes, countOf, bytesOf, put}
+use Rattle.pages.specs.Bytes.{count_bytes, count_of, bytes_of, put}
 use Rattle.pages.specs.Pad.{pad}
-use Rattle.names.specs.Table.{namesMax, nameMax, wellNamed, offset, nameAt, numberOf, formed}
+use Rattle.names.specs.Table.{names_max, name_max, well_named, offset, name_at, number_of, formed}
 use Rattle.names.specs.declared.Added.{Added}
 use Rattle.names.specs.declared.Found.{Found}
 use Rattle.names.specs.declared.Name.{Name}
@@ -15,49 +15,49 @@ use Rattle.names.specs.declared.Name.{Name}
 -- ---- names that are lent or not: a page, beside a yes or a no
 
 -- does a names page that is lent break its form
-unfoldable pub lentBroken : List ℕ → Bool → Bool
-lentBroken names lent = lent && not (formed names)
+unfoldable pub lent_broken : List ℕ → Bool → Bool
+lent_broken names lent = lent && not (formed names)
 
 -- how many name numbers are in use: those of the lent table or, where none is lent, every number that a table can have
-unfoldable pub usedOf : List ℕ → Bool → ℕ
-usedOf names lent = cond lent (countOf names) namesMax
+unfoldable pub used_of : List ℕ → Bool → ℕ
+used_of names lent = cond lent (count_of names) names_max
 
 -- "not in use" (the table of refusals, 2 and 3): is s the number of a name, where the first `used` numbers are in use; one that no table
 -- can give never is
-unfoldable pub isUsed : ℕ → ℕ → Bool
-isUsed used s = ltb s used && ltb s namesMax
+unfoldable pub is_used : ℕ → ℕ → Bool
+is_used used s = ltb s used && ltb s names_max
 
 -- ---- making a table
 
 -- refused (2) is a page too short for the count, which cannot be a table; what else it holds does not matter yet
-unfoldable pub emptyVerdict : List ℕ → Verdict
-emptyVerdict page = lowest ((Broken when ltb (length page) countBytes) ∷ [])
+unfoldable pub empty_verdict : List ℕ → Verdict
+empty_verdict page = lowest ((Broken when ltb (length page) count_bytes) ∷ [])
 
 -- a table of no name is all zeros
-unfoldable pub emptyPage : List ℕ → List ℕ
-emptyPage page = unlessRefused (emptyVerdict page) (replicate (length page) 0) page
+unfoldable pub empty_page : List ℕ → List ℕ
+empty_page page = unless_refused (empty_verdict page) (replicate (length page) 0) page
 
 -- ---- adding a name
 
 -- has the table this name
-abbrev pub isKnown : List ℕ → List ℕ → Bool
-isKnown page name = ltb (numberOf page (countOf page) name) (countOf page)
+abbrev pub is_known : List ℕ → List ℕ → Bool
+is_known page name = ltb (number_of page (count_of page) name) (count_of page)
 
 -- is there a number for one more name, where there can be so many, and a place in the page
 unfoldable pub roomy : ℕ → List ℕ → List ℕ → Bool
-roomy limit page name = ltb (countOf page) limit && leb (offset page (countOf page) + 1 + length name) (length page)
+roomy limit page name = ltb (count_of page) limit && leb (offset page (count_of page) + 1 + length name) (length page)
 
 -- the page with one more name: the name behind the last, and the count
-unfoldable pub withName : List ℕ → List ℕ → List ℕ
-withName page name = put (put page (offset page (countOf page)) (length name ∷ name)) 0 (bytesOf (countOf page + 1))
+unfoldable pub with_name : List ℕ → List ℕ → List ℕ
+with_name page name = put (put page (offset page (count_of page)) (length name ∷ name)) 0 (bytes_of (count_of page + 1))
 
 -- why adding is refused, if it is: 2, 4, or 10 for a new name without a place
-unfoldable pub addVerdict : ℕ → List ℕ → List ℕ → Verdict
-addVerdict limit page name =
+unfoldable pub add_verdict : ℕ → List ℕ → List ℕ → Verdict
+add_verdict limit page name =
     lowest
     ((Broken when not (formed page))
-    ∷ (Malformed when not (wellNamed name))
-    ∷ (Full when (not (isKnown page name) && not (roomy limit page name)))
+    ∷ (Malformed when not (well_named name))
+    ∷ (Full when (not (is_known page name) && not (roomy limit page name)))
     ∷ [])
 
 -- a number, or the refusal
@@ -66,18 +66,18 @@ numbered Passed n = Added.At n
 numbered (Refused r) n = Added.Refused r
 
 -- "An existing name gets its old number", and a new one the next
-unfoldable pub addAnswer : ℕ → List ℕ → List ℕ → Added
-addAnswer limit page name = numbered (addVerdict limit page name) (numberOf page (countOf page) name)
+unfoldable pub add_answer : ℕ → List ℕ → List ℕ → Added
+add_answer limit page name = numbered (add_verdict limit page name) (number_of page (count_of page) name)
 
 -- the page afterwards: changed only by a new name that is not refused
-unfoldable pub pageAfter : ℕ → List ℕ → List ℕ → List ℕ
-pageAfter limit page name = unlessRefused (addVerdict limit page name) (cond (isKnown page name) page (withName page name)) page
+unfoldable pub page_after : ℕ → List ℕ → List ℕ → List ℕ
+page_after limit page name = unless_refused (add_verdict limit page name) (cond (is_known page name) page (with_name page name)) page
 
 -- ---- looking for a name
 
 -- why looking is refused, if it is: 2 or 4
-unfoldable pub findVerdict : List ℕ → List ℕ → Verdict
-findVerdict page name = lowest ((Broken when not (formed page)) ∷ (Malformed when not (wellNamed name)) ∷ [])
+unfoldable pub find_verdict : List ℕ → List ℕ → Verdict
+find_verdict page name = lowest ((Broken when not (formed page)) ∷ (Malformed when not (well_named name)) ∷ [])
 
 -- a number if the name is known, else its absence, or the refusal
 abbrev pub found : Verdict → Bool → ℕ → Found
@@ -85,28 +85,28 @@ found Passed known n = cond known (Found.At n) Found.Absent
 found (Refused r) known n = Found.Refused r
 
 -- the name's number, if the table has the name
-unfoldable pub findAnswer : List ℕ → List ℕ → Found
-findAnswer page name = found (findVerdict page name) (isKnown page name) (numberOf page (countOf page) name)
+unfoldable pub find_answer : List ℕ → List ℕ → Found
+find_answer page name = found (find_verdict page name) (is_known page name) (number_of page (count_of page) name)
 
 -- ---- reading a name
 
 -- why reading is refused, if it is: 2, or 3 for a number not in use
-unfoldable pub readVerdict : List ℕ → ℕ → Verdict
-readVerdict page k = lowest ((Broken when not (formed page)) ∷ (Unused when not (isUsed (countOf page) k)) ∷ [])
+unfoldable pub read_verdict : List ℕ → ℕ → Verdict
+read_verdict page k = lowest ((Broken when not (formed page)) ∷ (Unused when not (is_used (count_of page) k)) ∷ [])
 
 -- a name by value
-abbrev pub nameOf : List ℕ → Name
-nameOf name = record { verdict = Passed; size = length name; bytes = pad nameMax 0 name }
+abbrev pub name_of : List ℕ → Name
+name_of name = record { verdict = Passed; size = length name; bytes = pad name_max 0 name }
 
 -- no name, beside the refusal
-abbrev pub noName : Refusal → Name
-noName r = record { verdict = Refused r; size = 0; bytes = pad nameMax 0 [] }
+abbrev pub no_name : Refusal → Name
+no_name r = record { verdict = Refused r; size = 0; bytes = pad name_max 0 [] }
 
 -- a name, or none beside the refusal
-abbrev pub givenName : Verdict → List ℕ → Name
-givenName Passed name = nameOf name
-givenName (Refused r) name = noName r
+abbrev pub given_name : Verdict → List ℕ → Name
+given_name Passed name = name_of name
+given_name (Refused r) name = no_name r
 
 -- the name with number k
-unfoldable pub readAnswer : List ℕ → ℕ → Name
-readAnswer page k = givenName (readVerdict page k) (nameAt page k)
+unfoldable pub read_answer : List ℕ → ℕ → Name
+read_answer page k = given_name (read_verdict page k) (name_at page k)

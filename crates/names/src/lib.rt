@@ -2,13 +2,13 @@
 #![tactic(auto)]
 
 ghost use Rattle.std.specs.Prelude.{◌≡◌, true, false, ◌+◌, ◌≤◌, ◌<◌, length, set, replicate};
-ghost use Rattle.pages.specs.Bytes.{countOf};
-ghost use Rattle.pages.specs.Quant.{anyTo};
-ghost use Rattle.chains.specs.Last.{lastBelow};
-ghost use Rattle.chains.specs.Prints.{printOf};
-ghost use Rattle.names.specs.Table.{digit, nameByte, wellNamed, namesMax, nameMax, offset, nameAt, named, numberOf, formed};
-ghost use Rattle.names.specs.Prints.{printAt, Chained};
-ghost use Rattle.names.specs.Calls.{lentBroken, usedOf, isUsed, emptyVerdict, emptyPage, addAnswer, pageAfter, findAnswer, readAnswer, nameOf, noName};
+ghost use Rattle.pages.specs.Bytes.{count_of};
+ghost use Rattle.pages.specs.Quant.{any_to};
+ghost use Rattle.chains.specs.Last.{last_below};
+ghost use Rattle.chains.specs.Prints.{print_of};
+ghost use Rattle.names.specs.Table.{digit, name_byte, well_named, names_max, name_max, offset, name_at, named, number_of, formed};
+ghost use Rattle.names.specs.Prints.{print_at, Chained};
+ghost use Rattle.names.specs.Calls.{lent_broken, used_of, is_used, empty_verdict, empty_page, add_answer, page_after, find_answer, read_answer, name_of, no_name};
 
 use pages::index;
 use refusals::{Refusal, Verdict};
@@ -28,7 +28,7 @@ pub const NAMES: usize = 256;
 
 // Whether s is the number of a name, where the first `used` numbers are in use.
 pub fn is_used(used: usize, s: usize) -> bool
-    ensures { result ≡ isUsed used s }
+    ensures { result ≡ is_used used s }
 {
     (s < used) & (s < NAMES)
 }
@@ -69,7 +69,7 @@ fn is_digit(b: u8) -> bool
 }
 
 fn is_name_byte(b: u8) -> bool
-    ensures { result ≡ nameByte b }
+    ensures { result ≡ name_byte b }
 {
     if b < b'0' {
         return false;
@@ -94,7 +94,7 @@ fn is_name_byte(b: u8) -> bool
 
 // Whether the bytes are those of a name.
 pub fn is_name(name: &[u8]) -> bool
-    ensures { result ≡ wellNamed name.now }
+    ensures { result ≡ well_named name.now }
 {
     if name.len() < 1 {
         return false;
@@ -119,7 +119,7 @@ pub fn is_name(name: &[u8]) -> bool
 // The number of a name among the first n, or n.
 fn find(page: &[u8], n: usize, name: &[u8]) -> usize
     requires { offset page.now n ≤ length page.now }
-    ensures { result ≡ numberOf page.now n name.now }
+    ensures { result ≡ number_of page.now n name.now }
 {
     let mut i: usize = 0;
     let mut at: usize = pages::COUNT_BYTES;
@@ -137,14 +137,14 @@ fn find(page: &[u8], n: usize, name: &[u8]) -> usize
 
 // Places for what is before each name in its chain.
 fn no_links() -> [u16; NAMES]
-    ensures { result ≡ replicate namesMax 0 }
+    ensures { result ≡ replicate names_max 0 }
 {
     [0; NAMES]
 }
 
 // Places for where each name stands.
 fn no_offsets() -> [usize; NAMES]
-    ensures { result ≡ replicate namesMax 0 }
+    ensures { result ≡ replicate names_max 0 }
 {
     [0; NAMES]
 }
@@ -166,8 +166,8 @@ fn is_among(
     head: usize,
     name: &[u8],
 ) -> bool
-    requires { Chained page.now n offsets.now links.now × (head ≡ lastBelow (printAt page.now) n (printOf name.now)) }
-    ensures { result ≡ anyTo n (named page.now name.now) }
+    requires { Chained page.now n offsets.now links.now × (head ≡ last_below (print_at page.now) n (print_of name.now)) }
+    ensures { result ≡ any_to n (named page.now name.now) }
 {
     let mut next = head;
     while next > 0 {
@@ -226,7 +226,7 @@ pub fn is_formed(page: &[u8]) -> bool
 
 // Whether a names page that is lent breaks its form. Where `lent` is false the page is not looked at.
 pub fn is_broken(names: &[u8], lent: bool) -> bool
-    ensures { result ≡ lentBroken names.now lent }
+    ensures { result ≡ lent_broken names.now lent }
 {
     if lent {
         return !is_formed(names);
@@ -237,8 +237,8 @@ pub fn is_broken(names: &[u8], lent: bool) -> bool
 // How many name numbers are in use: those of the lent table or, where none is lent, every number that a table can have. For crates
 // above, whose entry calls ask `is_broken` first.
 pub fn in_use(names: &[u8], lent: bool) -> usize
-    requires { lentBroken names.now lent ≡ false }
-    ensures { (result ≡ usedOf names.now lent) × (result ≤ namesMax) }
+    requires { lent_broken names.now lent ≡ false }
+    ensures { (result ≡ used_of names.now lent) × (result ≤ names_max) }
 {
     if lent {
         return pages::count(names);
@@ -262,8 +262,8 @@ fn offset_of(page: &[u8], n: usize) -> usize
 
 // The bytes of a name in use, of a table that an entry call found in form (`read_name` tests both).
 pub fn name_of(page: &[u8], k: usize) -> &[u8]
-    requires { (formed page.now ≡ true) × (k < countOf page.now) }
-    ensures { (result.now ≡ nameAt page.now k) × (1 ≤ length result.now) × (length result.now ≤ nameMax) }
+    requires { (formed page.now ≡ true) × (k < count_of page.now) }
+    ensures { (result.now ≡ name_at page.now k) × (1 ≤ length result.now) × (length result.now ≤ name_max) }
 {
     let at = offset_of(page, k);
     let start = at + 1;
@@ -273,8 +273,8 @@ pub fn name_of(page: &[u8], k: usize) -> &[u8]
 
 // Adds a name to a table that an entry call found in form (`add_name` tests it), where there can be `limit` names.
 pub fn insert_name(page: &mut [u8], limit: usize, name: &[u8]) -> Added
-    requires { (formed page.old ≡ true) × (limit ≤ namesMax) }
-    ensures { (result ≡ addAnswer limit page.old name.now) × (page.new ≡ pageAfter limit page.old name.now) }
+    requires { (formed page.old ≡ true) × (limit ≤ names_max) }
+    ensures { (result ≡ add_answer limit page.old name.now) × (page.new ≡ page_after limit page.old name.now) }
 {
     if is_name(name) {
         let n = pages::count(page);
@@ -302,7 +302,7 @@ pub fn insert_name(page: &mut [u8], limit: usize, name: &[u8]) -> Added
 
 // Makes the page an empty table.
 pub fn empty_names(page: &mut [u8]) -> Verdict
-    ensures { (result ≡ emptyVerdict page.old) × (page.new ≡ emptyPage page.old) }
+    ensures { (result ≡ empty_verdict page.old) × (page.new ≡ empty_page page.old) }
 {
     if page.len() < pages::COUNT_BYTES {
         return Verdict::Refused(Refusal::Broken);
@@ -313,7 +313,7 @@ pub fn empty_names(page: &mut [u8]) -> Verdict
 
 // The number of a name, which is added if it is new.
 pub fn add_name(page: &mut [u8], name: &[u8]) -> Added
-    ensures { (result ≡ addAnswer namesMax page.old name.now) × (page.new ≡ pageAfter namesMax page.old name.now) }
+    ensures { (result ≡ add_answer names_max page.old name.now) × (page.new ≡ page_after names_max page.old name.now) }
 {
     if is_formed(page) {
         return insert_name(page, NAMES, name);
@@ -323,7 +323,7 @@ pub fn add_name(page: &mut [u8], name: &[u8]) -> Added
 
 // The number of a name, if the table has it.
 pub fn find_name(page: &[u8], name: &[u8]) -> Found
-    ensures { result ≡ findAnswer page.now name.now }
+    ensures { result ≡ find_answer page.now name.now }
 {
     if !is_formed(page) {
         return Found::Refused(Refusal::Broken);
@@ -341,7 +341,7 @@ pub fn find_name(page: &[u8], name: &[u8]) -> Found
 
 // No name, and why.
 fn no_name(refusal: Refusal) -> Name
-    ensures { result ≡ noName refusal }
+    ensures { result ≡ no_name refusal }
 {
     Name {
         verdict: Verdict::Refused(refusal),
@@ -352,8 +352,8 @@ fn no_name(refusal: Refusal) -> Name
 
 // The bytes of a name, by value.
 fn copied(name: &[u8]) -> Name
-    requires { length name.now ≤ nameMax }
-    ensures { result ≡ nameOf name.now }
+    requires { length name.now ≤ name_max }
+    ensures { result ≡ name_of name.now }
 {
     let mut bytes = [0u8; NAME_BYTES];
     pages::put_bytes(&mut bytes, 0, name);
@@ -366,7 +366,7 @@ fn copied(name: &[u8]) -> Name
 
 // The name with number k.
 pub fn read_name(page: &[u8], k: usize) -> Name
-    ensures { result ≡ readAnswer page.now k }
+    ensures { result ≡ read_answer page.now k }
 {
     if !is_formed(page) {
         return no_name(Refusal::Broken);

@@ -4,12 +4,12 @@ use Rattle.pages.specs.Bytes.{within}
 use Rattle.operators.specs.declared.Row.{Row}
 
 -- the last code
-abbrev pub operatorLast : ℕ
-operatorLast = 13
+abbrev pub operator_last : ℕ
+operator_last = 13
 
 -- is it the code of an operator
-abbrev pub isOperator : ℕ → Bool
-isOperator op = within 1 operatorLast op
+abbrev pub is_operator : ℕ → Bool
+is_operator op = within 1 operator_last op
 
 -- the two that have one operand, − among them
 abbrev pub minus : ℕ
@@ -21,8 +21,8 @@ bang = 13
 -- ---- the table: of each operator its class, its unit rule and its result rule
 
 -- classes: not binary; + − × /; < > <= >=; == !=; and, or
-abbrev pub notBinary : ℕ
-notBinary = 0
+abbrev pub not_binary : ℕ
+not_binary = 0
 
 abbrev pub arithmetic : ℕ
 arithmetic = 1
@@ -36,9 +36,9 @@ equality = 3
 abbrev pub logic : ℕ
 logic = 4
 
-unfoldable pub classOf : ℕ → ℕ
-classOf op =
-    cond (within 1 4 op) arithmetic (cond (within 5 8 op) ordering (cond (within 9 10 op) equality (cond (within 11 12 op) logic notBinary)))
+unfoldable pub class_of : ℕ → ℕ
+class_of op =
+    cond (within 1 4 op) arithmetic (cond (within 5 8 op) ordering (cond (within 9 10 op) equality (cond (within 11 12 op) logic not_binary)))
 
 -- unit rules: units are not looked at; a unitless side adopts the other's; they are multiplied; divided; compared
 abbrev pub ignored : ℕ
@@ -56,8 +56,8 @@ divided = 3
 abbrev pub compared : ℕ
 compared = 4
 
-unfoldable pub unitRule : ℕ → ℕ
-unitRule op =
+unfoldable pub unit_rule : ℕ → ℕ
+unit_rule op =
     cond (within 1 2 op) adopted (cond (eqb op 3) multiplied (cond (eqb op 4) divided (cond (within 5 10 op) compared ignored)))
 
 -- result rules: none; the operands' family; Bool
@@ -70,11 +70,11 @@ operands = 1
 abbrev pub truth : ℕ
 truth = 2
 
-unfoldable pub resultRule : ℕ → ℕ
-resultRule op = cond (within 1 4 op) operands (cond (within 5 12 op) truth nothing)
+unfoldable pub result_rule : ℕ → ℕ
+result_rule op = cond (within 1 4 op) operands (cond (within 5 12 op) truth nothing)
 
-abbrev pub rowOf : ℕ → Row
-rowOf op = record { class = classOf op; unit = unitRule op; result = resultRule op }
+abbrev pub row_of : ℕ → Row
+row_of op = record { class = class_of op; unit = unit_rule op; result = result_rule op }
 
 -- ---- families
 
@@ -92,33 +92,33 @@ abbrev pub bool : ℕ
 bool = 7
 
 -- no family: Null's code
-abbrev pub noFamily : ℕ
-noFamily = 0
+abbrev pub no_family : ℕ
+no_family = 0
 
 -- the plain one of a kind and its const form, of Int to Char, Record and Enum, the kinds that some operator takes
-unfoldable pub familyOf : ℕ → ℕ
-familyOf k = cond (within 1 14 k) (k - suc k % 2) (cond (within 32 35 k) (k - k % 2) noFamily)
+unfoldable pub family_of : ℕ → ℕ
+family_of k = cond (within 1 14 k) (k - suc k % 2) (cond (within 32 35 k) (k - k % 2) no_family)
 
 -- "A number has kind 1 to 6, 11 or 12"
-abbrev pub isNumber : ℕ → Bool
-isNumber k = within 1 6 k || within 11 12 k
+abbrev pub is_number : ℕ → Bool
+is_number k = within 1 6 k || within 11 12 k
 
 -- ---- binary operators on two families f and g
 
 -- does the operator take two operands of family f
 unfoldable pub takes : ℕ → ℕ → Bool
 takes op f =
-    cond (eqb (classOf op) logic) (eqb f bool)
-    (cond (eqb (classOf op) equality) (not (eqb f noFamily)) (not (eqb (classOf op) notBinary) && isNumber f))
+    cond (eqb (class_of op) logic) (eqb f bool)
+    (cond (eqb (class_of op) equality) (not (eqb f no_family)) (not (eqb (class_of op) not_binary) && is_number f))
 
 -- does it look at their units: < > <= >= only at those of Int and Float, == and != at all
 unfoldable pub looks : ℕ → ℕ → Bool
 looks op f =
-    eqb (unitRule op) adopted || (eqb (unitRule op) compared && (eqb (classOf op) equality || (eqb f int || eqb f float)))
+    eqb (unit_rule op) adopted || (eqb (unit_rule op) compared && (eqb (class_of op) equality || (eqb f int || eqb f float)))
 
 -- the kind of its answer: the operands' family or Bool
 unfoldable pub gives : ℕ → ℕ → ℕ
-gives op f = cond (eqb (resultRule op) operands) f bool
+gives op f = cond (eqb (result_rule op) operands) f bool
 
 -- are the operands of one family, which it takes
 unfoldable pub suits : ℕ → ℕ → ℕ → Bool
@@ -131,5 +131,5 @@ fits op clash f g = suits op f g && not (clash && looks op f)
 -- ---- operators with one operand
 
 -- which of the two takes an operand of that kind without an error: − Int and Float, ! Bool; 0 for neither
-unfoldable pub takerOf : ℕ → ℕ
-takerOf k = cond (eqb (familyOf k) int || eqb (familyOf k) float) minus (cond (eqb (familyOf k) bool) bang 0)
+unfoldable pub taker_of : ℕ → ℕ
+taker_of k = cond (eqb (family_of k) int || eqb (family_of k) float) minus (cond (eqb (family_of k) bool) bang 0)

@@ -2,8 +2,8 @@
 #![tactic(auto)]
 
 ghost use Rattle.std.specs.Prelude.{◌≡◌, true, ◌<◌};
-ghost use Rattle.operators.specs.Operators.{isOperator, rowOf, familyOf, isNumber, takes, looks, gives, suits, fits, takerOf};
-ghost use Rattle.operators.specs.Outcome.{noError, oneError, twoErrors, someFail, outcome, numberOf, passes, notBools, misfit, plainBinary, unaryReason, plainUnary};
+ghost use Rattle.operators.specs.Operators.{is_operator, row_of, family_of, is_number, takes, looks, gives, suits, fits, taker_of};
+ghost use Rattle.operators.specs.Outcome.{no_error, one_error, two_errors, some_fail, outcome, number_of, passes, not_bools, misfit, plain_binary, unary_reason, plain_unary};
 
 use kinds::{CENUM, INT, Kind, RECORD};
 use matching::Checked;
@@ -157,7 +157,7 @@ pub const NOT_INDEXABLE: usize = 10;
 
 // No error.
 pub fn no_error() -> Errors
-    ensures { result ≡ noError }
+    ensures { result ≡ no_error }
 {
     Errors {
         count: 0,
@@ -171,7 +171,7 @@ pub fn no_error() -> Errors
 
 // One error.
 pub fn one_error(reason: usize) -> Errors
-    ensures { result ≡ oneError reason }
+    ensures { result ≡ one_error reason }
 {
     Errors {
         count: 1,
@@ -185,7 +185,7 @@ pub fn one_error(reason: usize) -> Errors
 
 // Two errors.
 fn two_errors(reason: usize, next: usize) -> Errors
-    ensures { result ≡ twoErrors reason next }
+    ensures { result ≡ two_errors reason next }
 {
     Errors {
         count: 2,
@@ -199,7 +199,7 @@ fn two_errors(reason: usize, next: usize) -> Errors
 
 // Reason 7.
 pub fn some_fail(n: usize, x: usize, y: usize) -> Errors
-    ensures { result ≡ someFail n x y }
+    ensures { result ≡ some_fail n x y }
 {
     Errors {
         count: 1,
@@ -213,7 +213,7 @@ pub fn some_fail(n: usize, x: usize, y: usize) -> Errors
 
 // A Known type without an error.
 pub fn known(t: usize) -> Outcome
-    ensures { result ≡ outcome (Checked.Known t) noError }
+    ensures { result ≡ outcome (Checked.Known t) no_error }
 {
     Outcome {
         checked: Checked::Known(t),
@@ -246,7 +246,7 @@ pub fn does_pass(o: Outcome) -> bool
 
 // The number of a Known type, 0 where it is none.
 pub fn number_of(c: Checked) -> usize
-    ensures { result ≡ numberOf c }
+    ensures { result ≡ number_of c }
 {
     match c {
         Checked::Known(t) => t,
@@ -257,22 +257,22 @@ pub fn number_of(c: Checked) -> usize
 
 // Whether a number is the code of an operator.
 pub fn is_operator(op: usize) -> bool
-    ensures { result ≡ isOperator op }
+    ensures { result ≡ is_operator op }
 {
     (1 <= op) & (op <= OPERATORS)
 }
 
 // The row of an operator.
 pub fn row_of(op: usize) -> Row
-    requires { isOperator op ≡ true }
-    ensures { result ≡ rowOf op }
+    requires { is_operator op ≡ true }
+    ensures { result ≡ row_of op }
 {
     ROWS[op - 1]
 }
 
 // A kind's family.
 pub fn family_of(k: Kind) -> Kind
-    ensures { result ≡ familyOf k }
+    ensures { result ≡ family_of k }
 {
     if (INT <= k) & (k <= CCHAR) {
         return k - (k + 1) % 2;
@@ -285,14 +285,14 @@ pub fn family_of(k: Kind) -> Kind
 
 // Whether a kind is a number's.
 fn is_number(k: Kind) -> bool
-    ensures { result ≡ isNumber k }
+    ensures { result ≡ is_number k }
 {
     ((INT <= k) & (k <= CFLOAT)) | kinds::is_byte(k)
 }
 
 // Whether an operator takes two operands of that family.
 fn does_take(op: usize, f: Kind) -> bool
-    requires { isOperator op ≡ true }
+    requires { is_operator op ≡ true }
     ensures { result ≡ takes op f }
 {
     let row = row_of(op);
@@ -310,7 +310,7 @@ fn does_take(op: usize, f: Kind) -> bool
 
 // Whether it looks at the units of two operands of that family.
 fn does_look(op: usize, f: Kind) -> bool
-    requires { isOperator op ≡ true }
+    requires { is_operator op ≡ true }
     ensures { result ≡ looks op f }
 {
     let row = row_of(op);
@@ -328,7 +328,7 @@ fn does_look(op: usize, f: Kind) -> bool
 
 // The kind of its answer for operands of that family.
 fn given(op: usize, f: Kind) -> usize
-    requires { isOperator op ≡ true }
+    requires { is_operator op ≡ true }
     ensures { result ≡ gives op f }
 {
     let row = row_of(op);
@@ -340,7 +340,7 @@ fn given(op: usize, f: Kind) -> usize
 
 // Whether two operands are of one family, which the operator takes.
 fn does_suit(op: usize, f: Kind, g: Kind) -> bool
-    requires { isOperator op ≡ true }
+    requires { is_operator op ≡ true }
     ensures { result ≡ suits op f g }
 {
     if f != g {
@@ -351,7 +351,7 @@ fn does_suit(op: usize, f: Kind, g: Kind) -> bool
 
 // Whether there is no error.
 fn does_fit(op: usize, clash: bool, f: Kind, g: Kind) -> bool
-    requires { isOperator op ≡ true }
+    requires { is_operator op ≡ true }
     ensures { result ≡ fits op clash f g }
 {
     if !does_suit(op, f, g) {
@@ -365,7 +365,7 @@ fn does_fit(op: usize, clash: bool, f: Kind, g: Kind) -> bool
 
 // An error for each side that is no Bool, of `and` and `or`.
 fn not_bools(f: Kind, g: Kind) -> Errors
-    ensures { result ≡ notBools f g }
+    ensures { result ≡ not_bools f g }
 {
     if f == BOOL {
         return one_error(RIGHT_NOT_BOOL);
@@ -378,7 +378,7 @@ fn not_bools(f: Kind, g: Kind) -> Errors
 
 // What a binary operator answers with an error.
 fn misfit_of(op: usize, f: Kind, g: Kind) -> Outcome
-    requires { isOperator op ≡ true }
+    requires { is_operator op ≡ true }
     ensures { result ≡ misfit op f g }
 {
     let row = row_of(op);
@@ -408,8 +408,8 @@ fn misfit_of(op: usize, f: Kind, g: Kind) -> Outcome
 
 // A binary operator's own rule on two families; the operands' units clash or not.
 pub fn plain_binary(op: usize, clash: bool, f: Kind, g: Kind) -> Outcome
-    requires { isOperator op ≡ true }
-    ensures { result ≡ plainBinary op clash f g }
+    requires { is_operator op ≡ true }
+    ensures { result ≡ plain_binary op clash f g }
 {
     if does_fit(op, clash, f, g) {
         return known(given(op, f));
@@ -419,7 +419,7 @@ pub fn plain_binary(op: usize, clash: bool, f: Kind, g: Kind) -> Outcome
 
 // The operator with one operand that takes a kind, 0 for none.
 pub fn taker_of(k: Kind) -> usize
-    ensures { result ≡ takerOf k }
+    ensures { result ≡ taker_of k }
 {
     let f = family_of(k);
     if (f == INT) | (f == FLOAT) {
@@ -433,7 +433,7 @@ pub fn taker_of(k: Kind) -> usize
 
 // Why an operator does not take a kind as its one operand.
 fn unary_reason(op: usize, k: Kind) -> usize
-    ensures { result ≡ unaryReason op k }
+    ensures { result ≡ unary_reason op k }
 {
     if op == MINUS {
         if family_of(k) == UINT {
@@ -450,7 +450,7 @@ fn unary_reason(op: usize, k: Kind) -> usize
 // An operator's own rule on one operand.
 pub fn plain_unary(op: usize, k: Kind) -> Outcome
     requires { 0 < op }
-    ensures { result ≡ plainUnary op k }
+    ensures { result ≡ plain_unary op k }
 {
     if taker_of(k) == op {
         return known(family_of(k) as usize);

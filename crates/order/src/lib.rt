@@ -2,12 +2,12 @@
 #![tactic(auto)]
 
 ghost use Rattle.std.specs.Prelude.{◌≡◌, true, List, ◌++◌, ◌+◌, ◌≤◌, ◌<◌};
-ghost use Rattle.pages.specs.Bytes.{countOf};
+ghost use Rattle.pages.specs.Bytes.{count_of};
 ghost use Rattle.names.specs.Table.{formed};
-ghost use Rattle.names.specs.Calls.{isUsed};
-ghost use Rattle.units.specs.Unit.{placesMax, Term, term, inUse};
-ghost use Rattle.units.specs.Calls.{termsOf, unitOf, termsFrom};
-ghost use Rattle.order.specs.Order.{comes, place, byName};
+ghost use Rattle.names.specs.Calls.{is_used};
+ghost use Rattle.units.specs.Unit.{places_max, Term, term, in_use};
+ghost use Rattle.units.specs.Calls.{terms_of, unit_of, terms_from};
+ghost use Rattle.order.specs.Order.{comes, place, by_name};
 
 use names::{Symbol, name_of, symbol_index};
 use units::{Unit, with_term};
@@ -34,8 +34,8 @@ fn is_before(a: &[u8], b: &[u8]) -> bool
 
 // The unit v with the terms of w from place j on at its end.
 fn with_rest(v: Unit, w: Unit, j: usize) -> Unit
-    requires { (v.count + w.count ≤ placesMax + j) × (j ≤ w.count) × (w.count ≤ placesMax) }
-    ensures { (l : List Term) → v ≡ unitOf l → result ≡ unitOf (l ++ termsFrom w j) }
+    requires { (v.count + w.count ≤ places_max + j) × (j ≤ w.count) × (w.count ≤ places_max) }
+    ensures { (l : List Term) → v ≡ unit_of l → result ≡ unit_of (l ++ terms_from w j) }
 {
     let n = w.count;
     let mut out = v;
@@ -49,8 +49,8 @@ fn with_rest(v: Unit, w: Unit, j: usize) -> Unit
 
 // The unit w, in order of names, with one term more at its place.
 fn placed(page: &[u8], w: Unit, s: Symbol, e: i16) -> Unit
-    requires { (formed page.now ≡ true) × (w.count < placesMax) × (isUsed (countOf page.now) s ≡ true) × (inUse (countOf page.now) (termsOf w) ≡ true) }
-    ensures { result ≡ unitOf (place page.now (term s e) (termsOf w)) }
+    requires { (formed page.now ≡ true) × (w.count < places_max) × (is_used (count_of page.now) s ≡ true) × (in_use (count_of page.now) (terms_of w) ≡ true) }
+    ensures { result ≡ unit_of (place page.now (term s e) (terms_of w)) }
 {
     let n = w.count;
     let name = name_of(page, symbol_index(s));
@@ -69,8 +69,8 @@ fn placed(page: &[u8], w: Unit, s: Symbol, e: i16) -> Unit
 
 // The unit's terms in byte order of their names, for crates above (`unit_text` tests what it asks).
 pub fn by_name(page: &[u8], u: Unit) -> Unit
-    requires { (formed page.now ≡ true) × (u.count ≤ placesMax) × (inUse (countOf page.now) (termsOf u) ≡ true) }
-    ensures { result ≡ unitOf (byName page.now (termsOf u)) }
+    requires { (formed page.now ≡ true) × (u.count ≤ places_max) × (in_use (count_of page.now) (terms_of u) ≡ true) }
+    ensures { result ≡ unit_of (by_name page.now (terms_of u)) }
 {
     let n = u.count;
     let mut w = units::dimensionless();

@@ -5,21 +5,21 @@ use Prim.Native.Nat.{ℕ, zero, suc, ◌%◌, ◌<◌}
 use native.Mathlib.Nat.{mod-eq_of_lt, not-suc-le-zero, le_of_suc-le-suc}
 use native.Mathlib.Omega.{arith}
 use lib.ListN.{length, get_or}
-use Rattle.pages.specs.Bytes.{lowBytes}
+use Rattle.pages.specs.Bytes.{low_bytes}
 
-pub low-length : (ns : List ℕ) → length (lowBytes ns) ≡ length ns
-unfolding lowBytes
-low-length [] = refl
-low-length (n ∷ ns) = ap suc (low-length ns)
+pub low_length : (ns : List ℕ) → length (low_bytes ns) ≡ length ns
+unfolding low_bytes
+low_length [] = refl
+low_length (n ∷ ns) = ap suc (low_length ns)
 
-pub low-at : (ns : List ℕ) (i : ℕ) → i < length ns → get_or (lowBytes ns) i 0 ≡ get_or ns i 0 % 256
-unfolding lowBytes
-low-at [] i h = absurd (not-suc-le-zero h)
-low-at (n ∷ ns) zero h = refl
-low-at (n ∷ ns) (suc i) h = low-at ns i (le_of_suc-le-suc h)
+pub low_at : (ns : List ℕ) (i : ℕ) → i < length ns → get_or (low_bytes ns) i 0 ≡ get_or ns i 0 % 256
+unfolding low_bytes
+low_at [] i h = absurd (not-suc-le-zero h)
+low_at (n ∷ ns) zero h = refl
+low_at (n ∷ ns) (suc i) h = low_at ns i (le_of_suc-le-suc h)
 
 -- bytes are their own lowest bytes
-pub low-same : (ns : List ℕ) → ((i : ℕ) → i < length ns → get_or ns i 0 < 256) → lowBytes ns ≡ ns
-unfolding lowBytes
-low-same [] h = refl
-low-same (n ∷ ns) h = ap₂ (λ (x : ℕ) (xs : List ℕ). x ∷ xs) (mod-eq_of_lt (h 0 (omega arith))) (low-same ns (λ i l. h (suc i) (omega arith)))
+pub low_same : (ns : List ℕ) → ((i : ℕ) → i < length ns → get_or ns i 0 < 256) → low_bytes ns ≡ ns
+unfolding low_bytes
+low_same [] h = refl
+low_same (n ∷ ns) h = ap₂ (λ (x : ℕ) (xs : List ℕ). x ∷ xs) (mod-eq_of_lt (h 0 (omega arith))) (low_same ns (λ i l. h (suc i) (omega arith)))

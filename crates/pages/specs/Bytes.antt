@@ -19,24 +19,24 @@ abbrev pub within : ℕ → ℕ → ℕ → Bool
 within a b x = leb a x && leb x b
 
 -- how many bytes a word, a number below 65,536, takes
-abbrev pub wordBytes : ℕ
-wordBytes = 2
+abbrev pub word_bytes : ℕ
+word_bytes = 2
 
 -- and the count at a page's front
-abbrev pub countBytes : ℕ
-countBytes = wordBytes
+abbrev pub count_bytes : ℕ
+count_bytes = word_bytes
 
 -- the number at index i, two bytes big-endian
-abbrev pub wordAt : List ℕ → ℕ → ℕ
-wordAt bytes i = get_or bytes i 0 * 256 + get_or bytes (i + 1) 0
+abbrev pub word_at : List ℕ → ℕ → ℕ
+word_at bytes i = get_or bytes i 0 * 256 + get_or bytes (i + 1) 0
 
 -- the count that a page begins with
-abbrev pub countOf : List ℕ → ℕ
-countOf page = wordAt page 0
+abbrev pub count_of : List ℕ → ℕ
+count_of page = word_at page 0
 
 -- the two bytes that say a number
-abbrev pub bytesOf : ℕ → List ℕ
-bytesOf n = n / 256 ∷ n % 256 ∷ []
+abbrev pub bytes_of : ℕ → List ℕ
+bytes_of n = n / 256 ∷ n % 256 ∷ []
 
 -- numbers, two bytes each
 unfoldable pub words : List ℕ → List ℕ
@@ -44,28 +44,28 @@ words [] = []
 words (n ∷ ns) = n / 256 ∷ n % 256 ∷ words ns
 
 -- the k numbers from index i on, two bytes each
-unfoldable pub wordsAt : List ℕ → ℕ → ℕ → List ℕ
-wordsAt bytes i zero = []
-wordsAt bytes i (suc k) = wordAt bytes i ∷ wordsAt bytes (i + wordBytes) k
+unfoldable pub words_at : List ℕ → ℕ → ℕ → List ℕ
+words_at bytes i zero = []
+words_at bytes i (suc k) = word_at bytes i ∷ words_at bytes (i + word_bytes) k
 
 -- the k bytes that say a number, big-endian
-abbrev pub bigEndian : ℕ → ℕ → List ℕ
-bigEndian zero n = []
-bigEndian (suc k) n = n / 256 ^ k % 256 ∷ bigEndian k n
+abbrev pub big_endian : ℕ → ℕ → List ℕ
+big_endian zero n = []
+big_endian (suc k) n = n / 256 ^ k % 256 ∷ big_endian k n
 
 -- the number that the k bytes from index i on say
-abbrev pub numberAt : List ℕ → ℕ → ℕ → ℕ
-numberAt bytes i zero = 0
-numberAt bytes i (suc k) = numberAt bytes i k * 256 + get_or bytes (i + k) 0
+abbrev pub number_at : List ℕ → ℕ → ℕ → ℕ
+number_at bytes i zero = 0
+number_at bytes i (suc k) = number_at bytes i k * 256 + get_or bytes (i + k) 0
 
 -- how many bytes a number of 64 bits takes
-abbrev pub longBytes : ℕ
-longBytes = 8
+abbrev pub long_bytes : ℕ
+long_bytes = 8
 
 -- the lowest byte of each number
-unfoldable pub lowBytes : List ℕ → List ℕ
-lowBytes [] = []
-lowBytes (n ∷ ns) = n % 256 ∷ lowBytes ns
+unfoldable pub low_bytes : List ℕ → List ℕ
+low_bytes [] = []
+low_bytes (n ∷ ns) = n % 256 ∷ low_bytes ns
 
 -- the page with other bytes from index at on, and every other byte as it was
 abbrev pub put : List ℕ → ℕ → List ℕ → List ℕ

@@ -2,7 +2,7 @@
 #![tactic(auto)]
 
 ghost use Rattle.std.specs.Prelude.{◌≡◌, ◌+◌, ◌*◌, ◌≤◌, ◌<◌, length, take, drop, replicate, eqb};
-ghost use Rattle.pages.specs.Bytes.{eqs, zeros, wordBytes, countBytes, wordAt, countOf, bytesOf, words, wordsAt, bigEndian, numberAt, longBytes, lowBytes, put};
+ghost use Rattle.pages.specs.Bytes.{eqs, zeros, word_bytes, count_bytes, word_at, count_of, bytes_of, words, words_at, big_endian, number_at, long_bytes, low_bytes, put};
 
 // How many bytes a word, a number below 65,536, takes.
 pub const WORD_BYTES: usize = 2;
@@ -68,16 +68,16 @@ pub fn zeros_from(page: &[u8], at: usize) -> bool
 
 // The number that two bytes from index at on say.
 pub fn word_at(page: &[u8], at: usize) -> usize
-    requires { at + wordBytes ≤ length page.now }
-    ensures { (result ≡ wordAt page.now at) × (result < 65536) }
+    requires { at + word_bytes ≤ length page.now }
+    ensures { (result ≡ word_at page.now at) × (result < 65536) }
 {
     index(page[at]) * 256 + index(page[at + 1])
 }
 
 // The count that the page's first two bytes say.
 pub fn count(page: &[u8]) -> usize
-    requires { countBytes ≤ length page.now }
-    ensures { (result ≡ countOf page.now) × (result < 65536) }
+    requires { count_bytes ≤ length page.now }
+    ensures { (result ≡ count_of page.now) × (result < 65536) }
 {
     word_at(page, 0)
 }
@@ -88,7 +88,7 @@ pub type Word = [u8; WORD_BYTES];
 // The two bytes that say a number below 65,536.
 pub fn count_bytes(n: usize) -> Word
     requires { n < 65536 }
-    ensures { result ≡ bytesOf n }
+    ensures { result ≡ bytes_of n }
 {
     [(n / 256) as u8, (n % 256) as u8]
 }
@@ -101,7 +101,7 @@ pub type Long = [u8; LONG_BYTES];
 
 // The eight bytes that say a number: its quotients by the powers of 256, the seventh first, each modulo 256.
 pub fn long_bytes(n: u64) -> Long
-    ensures { result ≡ bigEndian longBytes n }
+    ensures { result ≡ big_endian long_bytes n }
 {
     [
         (n / 72057594037927936 % 256) as u8,
@@ -117,8 +117,8 @@ pub fn long_bytes(n: u64) -> Long
 
 // The number that the eight bytes from index at on say.
 pub fn long(page: &[u8], at: usize) -> u64
-    requires { at + longBytes ≤ length page.now }
-    ensures { result ≡ numberAt page.now at longBytes }
+    requires { at + long_bytes ≤ length page.now }
+    ensures { result ≡ number_at page.now at long_bytes }
 {
     let a = word_at(page, at) as u64;
     let b = word_at(page, at + 2) as u64;
@@ -148,7 +148,7 @@ pub fn word_index(n: u16) -> usize
 
 // Writes numbers into the page from index at on, two bytes each.
 pub fn put_words(page: &mut [u8], at: usize, numbers: &[u16])
-    requires { at + wordBytes * length numbers.now ≤ length page.old }
+    requires { at + word_bytes * length numbers.now ≤ length page.old }
     ensures { page.new ≡ put page.old at (words numbers.now) }
 {
     let mut i: usize = 0;
@@ -161,8 +161,8 @@ pub fn put_words(page: &mut [u8], at: usize, numbers: &[u16])
 
 // Reads numbers from the page, from index at on, two bytes each: as many as there are places for.
 pub fn read_words(page: &[u8], at: usize, numbers: &mut [u16])
-    requires { at + wordBytes * length numbers.old ≤ length page.now }
-    ensures { numbers.new ≡ wordsAt page.now at (length numbers.old) }
+    requires { at + word_bytes * length numbers.old ≤ length page.now }
+    ensures { numbers.new ≡ words_at page.now at (length numbers.old) }
 {
     let mut i: usize = 0;
     while i < numbers.len() {
@@ -185,7 +185,7 @@ pub fn clear(page: &mut [u8])
 // Writes the lowest byte of each number from index at on.
 pub fn put_low_bytes(page: &mut [u8], at: usize, numbers: &[u16])
     requires { at + length numbers.now ≤ length page.old }
-    ensures { page.new ≡ put page.old at (lowBytes numbers.now) }
+    ensures { page.new ≡ put page.old at (low_bytes numbers.now) }
 {
     let mut i: usize = 0;
     while i < numbers.len() {

@@ -11,136 +11,136 @@ use Rattle.refusals.specs.declared.Refusal.{Refusal}
 use Rattle.refusals.specs.declared.Refusal.TheVariants.{Broken, Unused, Full}
 use Rattle.refusals.specs.declared.Verdict.TheVariants.{Passed, Refused}
 use Rattle.refusals.specs.Lowest.{◌when◌}
-use Rattle.refusals.proofs.Lowest.{first-holds}
-use Rattle.pages.specs.Quant.{allTo}
-use Rattle.pages.specs.Bytes.{eqs, bigEndian, longBytes, put}
-use Rattle.pages.proofs.Quant.{and-true}
-use Rattle.pages.proofs.Bytes.{eqs-true}
-use Rattle.pages.proofs.Put.{put-append}
-use Rattle.names.specs.Table.{namesMax}
-use Rattle.names.specs.Calls.{isUsed}
-use Rattle.names.proofs.Used.{used-below}
-use Rattle.groups.specs.Groups.{Pair, pair, enter, enterAll, selves, parentsOf}
-use Rattle.groups.proofs.Walks.{parents-snoc}
-use Rattle.pairs.specs.Table.{pairsMax, pairBytes, factorAt, bodyOf, pairAt, pairsIn, listed, bothUsed, usedAt, formed, insertVerdict, withPair, insertion}
+use Rattle.refusals.proofs.Lowest.{first_holds}
+use Rattle.pages.specs.Quant.{all_to}
+use Rattle.pages.specs.Bytes.{eqs, big_endian, long_bytes, put}
+use Rattle.pages.proofs.Quant.{and_true}
+use Rattle.pages.proofs.Bytes.{eqs_true}
+use Rattle.pages.proofs.Put.{put_append}
+use Rattle.names.specs.Table.{names_max}
+use Rattle.names.specs.Calls.{is_used}
+use Rattle.names.proofs.Used.{used_below}
+use Rattle.groups.specs.Groups.{Pair, pair, enter, enter_all, selves, parents_of}
+use Rattle.groups.proofs.Walks.{parents_snoc}
+use Rattle.pairs.specs.Table.{pairs_max, pair_bytes, factor_at, body_of, pair_at, pairs_in, listed, both_used, used_at, formed, insert_verdict, with_pair, insertion}
 use Rattle.pairs.specs.declared.ConversionTable.{ConversionTable}
 use Rattle.pairs.specs.declared.Outcome.{Outcome}
 
 -- ---- pairs
 
-pub length-pairs : (bodies : List ℕ) (k : ℕ) → length (pairsIn bodies k) ≡ k
-unfolding pairsIn
-length-pairs bodies zero = refl
-length-pairs bodies (suc k) = length-append (pairsIn bodies k) (pairAt bodies k ∷ []) ∙ rw (length-pairs bodies k, add-one)
+pub length_pairs : (bodies : List ℕ) (k : ℕ) → length (pairs_in bodies k) ≡ k
+unfolding pairs_in
+length_pairs bodies zero = refl
+length_pairs bodies (suc k) = length-append (pairs_in bodies k) (pair_at bodies k ∷ []) ∙ rw (length_pairs bodies k, add-one)
 
 -- one more pair of a list of bodies
-pub pairs-next : (bodies : List ℕ) (k : ℕ) → pairsIn bodies (k + 1) ≡ pairsIn bodies k ++ (pairAt bodies k ∷ [])
-unfolding pairsIn
-pairs-next bodies k = rw (add-one k)
+pub pairs_next : (bodies : List ℕ) (k : ℕ) → pairs_in bodies (k + 1) ≡ pairs_in bodies k ++ (pair_at bodies k ∷ [])
+unfolding pairs_in
+pairs_next bodies k = rw (add-one k)
 
 -- the parents that it gives
-pub parents-next : (bodies : List ℕ) (k : ℕ) → enter k (parentsOf namesMax (pairsIn bodies k)) (pairAt bodies k) ≡ parentsOf namesMax (pairsIn bodies (k + 1))
-parents-next bodies k =
-    let l = length-pairs bodies k in
-    sym (ap (parentsOf namesMax) (pairs-next bodies k) ∙ parents-snoc namesMax (pairsIn bodies k) (pairAt bodies k) ∙ rw l)
+pub parents_next : (bodies : List ℕ) (k : ℕ) → enter k (parents_of names_max (pairs_in bodies k)) (pair_at bodies k) ≡ parents_of names_max (pairs_in bodies (k + 1))
+parents_next bodies k =
+    let l = length_pairs bodies k in
+    sym (ap (parents_of names_max) (pairs_next bodies k) ∙ parents_snoc names_max (pairs_in bodies k) (pair_at bodies k) ∙ rw l)
 
-pub parents-none : (bodies : List ℕ) → selves 0 namesMax ≡ parentsOf namesMax (pairsIn bodies 0)
-unfolding parentsOf enterAll pairsIn
-parents-none bodies = refl
+pub parents_none : (bodies : List ℕ) → selves 0 names_max ≡ parents_of names_max (pairs_in bodies 0)
+unfolding parents_of enter_all pairs_in
+parents_none bodies = refl
 
 -- ---- symbols in use
 
 module _ (s b n : ℕ) where
-  pub symbol-unused : isUsed n s ≡ false → false ≡ bothUsed n (pair s b)
-  symbol-unused h = rw h
+  pub symbol_unused : is_used n s ≡ false → false ≡ both_used n (pair s b)
+  symbol_unused h = rw h
 
-  pub base-decides : isUsed n s ≡ true → isUsed n b ≡ bothUsed n (pair s b)
-  base-decides h = rw h
+  pub base_decides : is_used n s ≡ true → is_used n b ≡ both_used n (pair s b)
+  base_decides h = rw h
 
 -- they are symbols that a table can have
-pub both-below : (n : ℕ) (q : Pair) → bothUsed n q ≡ true → (q.symbol < namesMax) × (q.base < namesMax)
-both-below n q u =
-    let a = and-true (isUsed n q.symbol) (isUsed n q.base) u in
-    ((used-below n q.symbol a.0).1, (used-below n q.base a.1).1)
+pub both_below : (n : ℕ) (q : Pair) → both_used n q ≡ true → (q.symbol < names_max) × (q.base < names_max)
+both_below n q u =
+    let a = and_true (is_used n q.symbol) (is_used n q.base) u in
+    ((used_below n q.symbol a.0).1, (used_below n q.base a.1).1)
 
 -- ---- a table in form
 
 module _ (t : ConversionTable) (n : ℕ) where
-  pub form-many : pairsMax < t.count → false ≡ formed t n
+  pub form_many : pairs_max < t.count → false ≡ formed t n
   unfolding formed
-  form-many h = rw (lt-leb t.count pairsMax h)
+  form_many h = rw (lt-leb t.count pairs_max h)
 
-  module _ (few : t.count ≤ pairsMax) where
-    pub form-unused : allTo t.count (usedAt t.pairs n) ≡ false → false ≡ formed t n
+  module _ (few : t.count ≤ pairs_max) where
+    pub form_unused : all_to t.count (used_at t.pairs n) ≡ false → false ≡ formed t n
     unfolding formed
-    form-unused h = rw (le-leb t.count pairsMax few, h)
+    form_unused h = rw (le-leb t.count pairs_max few, h)
 
-    pub form-rest : allTo t.count (usedAt t.pairs n) ≡ true → eqs t.parents (parentsOf namesMax (listed t)) ≡ formed t n
+    pub form_rest : all_to t.count (used_at t.pairs n) ≡ true → eqs t.parents (parents_of names_max (listed t)) ≡ formed t n
     unfolding formed
-    form-rest h = rw (le-leb t.count pairsMax few, h)
+    form_rest h = rw (le-leb t.count pairs_max few, h)
 
 -- what a table in form has
 pub record Form (t : ConversionTable) (n : ℕ) : Type 0 where
-  pub few : t.count ≤ pairsMax
-  pub used : allTo t.count (usedAt t.pairs n) ≡ true
-  pub given : t.parents ≡ parentsOf namesMax (listed t)
+  pub few : t.count ≤ pairs_max
+  pub used : all_to t.count (used_at t.pairs n) ≡ true
+  pub given : t.parents ≡ parents_of names_max (listed t)
 
 pub form : (t : ConversionTable) (n : ℕ) → formed t n ≡ true → Form t n
 unfolding formed
 form t n e =
-    let a = and-true (leb t.count pairsMax) _ e in
-    let b = and-true (allTo t.count (usedAt t.pairs n)) _ a.1 in
-    record { few = leb-true _ _ a.0; used = b.0; given = eqs-true _ _ b.1 }
+    let a = and_true (leb t.count pairs_max) _ e in
+    let b = and_true (all_to t.count (used_at t.pairs n)) _ a.1 in
+    record { few = leb-true _ _ a.0; used = b.0; given = eqs_true _ _ b.1 }
 
 -- ---- one more pair
 
-module _ (t : ConversionTable) (s f b : ℕ) (k : ℕ) (is : k ≡ t.count) (fits : pairBytes * k + factorAt + longBytes ≤ length t.pairs)
-    (given : t.parents ≡ parentsOf namesMax (listed t)) where
-  pub with-pair : (bodies parents : List ℕ)
-      → bodies ≡ put (put t.pairs (pairBytes * k) (s ∷ b ∷ [])) (pairBytes * k + factorAt) (bigEndian longBytes f)
+module _ (t : ConversionTable) (s f b : ℕ) (k : ℕ) (is : k ≡ t.count) (fits : pair_bytes * k + factor_at + long_bytes ≤ length t.pairs)
+    (given : t.parents ≡ parents_of names_max (listed t)) where
+  pub with_pair_lem : (bodies parents : List ℕ)
+      → bodies ≡ put (put t.pairs (pair_bytes * k) (s ∷ b ∷ [])) (pair_bytes * k + factor_at) (big_endian long_bytes f)
       → parents ≡ enter k t.parents (pair s b)
-      → ◌≡◌ {A = ConversionTable} (record { count = k + 1; pairs = bodies; parents = parents }) (withPair t s f b)
-  unfolding withPair
-  with-pair bodies parents eb ep =
-      let body : bodies ≡ put t.pairs (pairBytes * k) (bodyOf s f b) = eb ∙ put-append t.pairs (pairBytes * k) (s ∷ b ∷ []) (bigEndian longBytes f) fits in
-      let l = length-pairs t.pairs t.count in
-      let up : parents ≡ parentsOf namesMax (listed t ++ (pair s b ∷ [])) = ep ∙ rw (given, is) (sym (parents-snoc namesMax (listed t) (pair s b) ∙ rw l)) in
+      → ◌≡◌ {A = ConversionTable} (record { count = k + 1; pairs = bodies; parents = parents }) (with_pair t s f b)
+  unfolding with_pair
+  with_pair_lem bodies parents eb ep =
+      let body : bodies ≡ put t.pairs (pair_bytes * k) (body_of s f b) = eb ∙ put_append t.pairs (pair_bytes * k) (s ∷ b ∷ []) (big_endian long_bytes f) fits in
+      let l = length_pairs t.pairs t.count in
+      let up : parents ≡ parents_of names_max (listed t ++ (pair s b ∷ [])) = ep ∙ rw (given, is) (sym (parents_snoc names_max (listed t) (pair s b) ∙ rw l)) in
       rw (body, up, is)
 
 -- ---- insertion
 
 module _ (t : ConversionTable) (n s f b : ℕ) where
-  refused : (r : Refusal) → insertVerdict t n (pair s b) ≡ Refused r → ◌≡◌ {A = Outcome} (record { verdict = Refused r; table = t }) (insertion t n s f b)
+  refused : (r : Refusal) → insert_verdict t n (pair s b) ≡ Refused r → ◌≡◌ {A = Outcome} (record { verdict = Refused r; table = t }) (insertion t n s f b)
   unfolding insertion
   refused r v = rw v
 
-  pub insert-broken : formed t n ≡ false → ◌≡◌ {A = Outcome} (record { verdict = Refused Broken; table = t }) (insertion t n s f b)
-  unfolding insertVerdict
-  insert-broken e = refused Broken v
+  pub insert_broken : formed t n ≡ false → ◌≡◌ {A = Outcome} (record { verdict = Refused Broken; table = t }) (insertion t n s f b)
+  unfolding insert_verdict
+  insert_broken e = refused Broken v
     where
-      v : insertVerdict t n (pair s b) ≡ Refused Broken
-      v = rw e (first-holds Broken ((Unused when not (bothUsed n (pair s b))) ∷ (Full when leb pairsMax t.count) ∷ []) refl)
+      v : insert_verdict t n (pair s b) ≡ Refused Broken
+      v = rw e (first_holds Broken ((Unused when not (both_used n (pair s b))) ∷ (Full when leb pairs_max t.count) ∷ []) refl)
 
   module _ (e : formed t n ≡ true) where
-    pub insert-unused : bothUsed n (pair s b) ≡ false → ◌≡◌ {A = Outcome} (record { verdict = Refused Unused; table = t }) (insertion t n s f b)
-    unfolding insertVerdict
-    insert-unused u = refused Unused v
+    pub insert_unused : both_used n (pair s b) ≡ false → ◌≡◌ {A = Outcome} (record { verdict = Refused Unused; table = t }) (insertion t n s f b)
+    unfolding insert_verdict
+    insert_unused u = refused Unused v
       where
-        v : insertVerdict t n (pair s b) ≡ Refused Unused
-        v = rw (e, u) (first-holds Unused ((Full when leb pairsMax t.count) ∷ []) refl)
+        v : insert_verdict t n (pair s b) ≡ Refused Unused
+        v = rw (e, u) (first_holds Unused ((Full when leb pairs_max t.count) ∷ []) refl)
 
-    module _ (u : bothUsed n (pair s b) ≡ true) where
-      pub insert-full : pairsMax ≤ t.count → ◌≡◌ {A = Outcome} (record { verdict = Refused Full; table = t }) (insertion t n s f b)
-      unfolding insertVerdict
-      insert-full h = refused Full v
+    module _ (u : both_used n (pair s b) ≡ true) where
+      pub insert_full : pairs_max ≤ t.count → ◌≡◌ {A = Outcome} (record { verdict = Refused Full; table = t }) (insertion t n s f b)
+      unfolding insert_verdict
+      insert_full h = refused Full v
         where
-          v : insertVerdict t n (pair s b) ≡ Refused Full
-          v = rw (e, u, le-leb pairsMax t.count h)
+          v : insert_verdict t n (pair s b) ≡ Refused Full
+          v = rw (e, u, le-leb pairs_max t.count h)
 
-      insert-passed : t.count < pairsMax → insertVerdict t n (pair s b) ≡ Passed
-      unfolding insertVerdict
-      insert-passed h = rw (e, u, lt-leb pairsMax t.count h)
+      insert_passed : t.count < pairs_max → insert_verdict t n (pair s b) ≡ Passed
+      unfolding insert_verdict
+      insert_passed h = rw (e, u, lt-leb pairs_max t.count h)
 
-      pub insert-done : t.count < pairsMax → ◌≡◌ {A = Outcome} (record { verdict = Passed; table = withPair t s f b }) (insertion t n s f b)
+      pub insert_done : t.count < pairs_max → ◌≡◌ {A = Outcome} (record { verdict = Passed; table = with_pair t s f b }) (insertion t n s f b)
       unfolding insertion
-      insert-done h = rw (insert-passed h)
+      insert_done h = rw (insert_passed h)

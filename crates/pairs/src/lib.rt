@@ -4,14 +4,14 @@
 
 ghost use Rattle.std.specs.Prelude.{◌≡◌, true, ◌+◌, ◌*◌, ◌≤◌, ◌<◌, length, get_or, replicate};
 ghost use Rattle.refusals.specs.declared.Verdict.{Verdict};
-ghost use Rattle.pages.specs.Quant.{allTo, firstTo};
+ghost use Rattle.pages.specs.Quant.{all_to, first_to};
 ghost use Rattle.pages.specs.Bytes.{eqs};
-ghost use Rattle.names.specs.Table.{namesMax};
-ghost use Rattle.groups.specs.Groups.{pair, parentsOf, Below};
-ghost use Rattle.pairs.specs.Table.{pairsMax, pairBytes, pairsIn, freshTable, bothUsed, usedAt, insertion, withPair};
+ghost use Rattle.names.specs.Table.{names_max};
+ghost use Rattle.groups.specs.Groups.{pair, parents_of, Below};
+ghost use Rattle.pairs.specs.Table.{pairs_max, pair_bytes, pairs_in, fresh_table, both_used, used_at, insertion, with_pair};
 ghost use Rattle.pairs.specs.Table as tables;
-ghost use Rattle.pairs.specs.Page.{parentsAt, sizeOf, parentsIn, tableIn, holds, Held, formed, withTable};
-ghost use Rattle.pairs.specs.Calls.{tableBroken, emptyVerdict, emptyPage, pairVerdict, pageAfter, symbolVerdict, rootAnswer, isOf, factorAnswer};
+ghost use Rattle.pairs.specs.Page.{parents_at, size_of, parents_in, table_in, holds, Held, formed, with_table};
+ghost use Rattle.pairs.specs.Calls.{table_broken, empty_verdict, empty_page, pair_verdict, page_after, symbol_verdict, root_answer, is_of, factor_answer};
 
 use groups::Parents;
 use names::{NAMES, Symbol, symbol_index};
@@ -65,7 +65,7 @@ pub enum Factor {
 
 // Whether both symbols of a pair are numbers in use.
 fn are_used(symbol: Symbol, base: Symbol, n: usize) -> bool
-    ensures { result ≡ bothUsed n (pair symbol base) }
+    ensures { result ≡ both_used n (pair symbol base) }
 {
     if !names::is_used(n, symbol_index(symbol)) {
         return false;
@@ -83,8 +83,8 @@ fn symbol_at(bytes: &[u8], at: usize) -> Symbol
 
 // Whether both symbols of each of the first k pairs are numbers in use.
 fn all_used(pairs: &[u8], k: usize, n: usize) -> bool
-    requires { pairBytes * k ≤ length pairs.now }
-    ensures { result ≡ allTo k (usedAt pairs.now n) }
+    requires { pair_bytes * k ≤ length pairs.now }
+    ensures { result ≡ all_to k (used_at pairs.now n) }
 {
     let mut i: usize = 0;
     while i < k {
@@ -99,8 +99,8 @@ fn all_used(pairs: &[u8], k: usize, n: usize) -> bool
 
 // The parents that the first k pairs give.
 fn replayed(pairs: &[u8], k: usize) -> Parents
-    requires { pairBytes * k ≤ length pairs.now }
-    ensures { result ≡ parentsOf namesMax (pairsIn pairs.now k) }
+    requires { pair_bytes * k ≤ length pairs.now }
+    ensures { result ≡ parents_of names_max (pairs_in pairs.now k) }
 {
     let mut parents = groups::own_parents();
     let mut i: usize = 0;
@@ -150,9 +150,9 @@ fn is_table(t: ConversionTable, n: usize) -> bool
 
 // A table in form with one more pair.
 fn with_pair(t: ConversionTable, symbol: Symbol, factor: u64, base: Symbol) -> ConversionTable
-    requires count_lt_pairs_max { (t.count < pairsMax) × (t.parents ≡ parentsOf namesMax (tables.listed t)) }
-    requires symbol_lt_names_max { (symbol < namesMax) × (base < namesMax) }
-    ensures { result ≡ withPair t symbol factor base }
+    requires count_lt_pairs_max { (t.count < pairs_max) × (t.parents ≡ parents_of names_max (tables.listed t)) }
+    requires symbol_lt_names_max { (symbol < names_max) × (base < names_max) }
+    ensures { result ≡ with_pair t symbol factor base }
 {
     let k = t.count;
     let at = PAIR_BYTES * k;
@@ -182,7 +182,7 @@ fn kept(t: ConversionTable, refusal: Refusal) -> Outcome
 
 // A table without pairs.
 pub fn fresh_table() -> ConversionTable
-    ensures { result ≡ freshTable }
+    ensures { result ≡ fresh_table }
 {
     let pairs = no_bodies();
     let parents = groups::own_parents();
@@ -230,16 +230,16 @@ pub fn insert(
 
 // Where the parents stand in a page, behind k pairs.
 fn parents_at(k: usize) -> usize
-    requires { k ≤ pairsMax }
-    ensures { result ≡ parentsAt k }
+    requires { k ≤ pairs_max }
+    ensures { result ≡ parents_at k }
 {
     COUNT_BYTES + PAIR_BYTES * k
 }
 
 // How many bytes a table of k pairs takes.
 fn size_of(k: usize) -> usize
-    requires { k ≤ pairsMax }
-    ensures { result ≡ sizeOf k }
+    requires { k ≤ pairs_max }
+    ensures { result ≡ size_of k }
 {
     parents_at(k) + NAMES
 }
@@ -264,7 +264,7 @@ fn holds_table(page: &[u8]) -> bool
 
 // As many bytes as 512 pairs take, all 0.
 fn no_bodies() -> Bodies
-    ensures { result ≡ replicate (pairBytes * pairsMax) 0 }
+    ensures { result ≡ replicate (pair_bytes * pairs_max) 0 }
 {
     [0; PAIR_BYTES * PAIRS]
 }
@@ -272,7 +272,7 @@ fn no_bodies() -> Bodies
 // The parents in a page that holds a table; in form, they are as its pairs give them. For crates above (`canonical` tests the form).
 pub fn parents_of(page: &[u8]) -> Parents
     requires { Held page.now }
-    ensures { (result ≡ parentsIn page.now) × (length result ≡ namesMax) }
+    ensures { (result ≡ parents_in page.now) × (length result ≡ names_max) }
 {
     let at = parents_at(pages::count(page));
     let mut parents = groups::own_parents();
@@ -283,7 +283,7 @@ pub fn parents_of(page: &[u8]) -> Parents
 // The table in a page that holds one.
 fn table_in(page: &[u8]) -> ConversionTable
     requires { Held page.now }
-    ensures { result ≡ tableIn page.now }
+    ensures { result ≡ table_in page.now }
 {
     let k = pages::count(page);
     let at = parents_at(k);
@@ -309,8 +309,8 @@ fn is_formed(page: &[u8], n: usize) -> bool
 
 // Writes a table at the front of the page.
 fn write_table(page: &mut [u8], t: ConversionTable)
-    requires { (t.count ≤ pairsMax) × (sizeOf t.count ≤ length page.old) × Below namesMax t.parents }
-    ensures { page.new ≡ withTable page.old t }
+    requires { (t.count ≤ pairs_max) × (size_of t.count ≤ length page.old) × Below names_max t.parents }
+    ensures { page.new ≡ with_table page.old t }
 {
     let k = t.count;
     let at = parents_at(k);
@@ -324,7 +324,7 @@ fn write_table(page: &mut [u8], t: ConversionTable)
 
 // Makes the page a table without pairs.
 pub fn empty_pairs(page: &mut [u8]) -> Verdict
-    ensures { (result ≡ emptyVerdict page.old) × (page.new ≡ emptyPage page.old) }
+    ensures { (result ≡ empty_verdict page.old) × (page.new ≡ empty_page page.old) }
 {
     if page.len() < size_of(0) {
         return Verdict::Refused(Refusal::Broken);
@@ -344,7 +344,7 @@ pub fn insert_pair(
     factor: u64,
     base: Symbol,
 ) -> Verdict
-    ensures { (result ≡ pairVerdict page.old names.now lent (pair symbol base)) × (page.new ≡ pageAfter page.old names.now lent symbol factor base) }
+    ensures { (result ≡ pair_verdict page.old names.now lent (pair symbol base)) × (page.new ≡ page_after page.old names.now lent symbol factor base) }
 {
     if names::is_broken(names, lent) {
         return Verdict::Refused(Refusal::Broken);
@@ -367,7 +367,7 @@ pub fn insert_pair(
 
 // Whether the names that are lent, or the table, break their form, for crates above.
 pub fn is_broken(page: &[u8], names: &[u8], lent: bool) -> bool
-    ensures { result ≡ tableBroken page.now names.now lent }
+    ensures { result ≡ table_broken page.now names.now lent }
 {
     if names::is_broken(names, lent) {
         return true;
@@ -377,7 +377,7 @@ pub fn is_broken(page: &[u8], names: &[u8], lent: bool) -> bool
 
 // Whether a symbol can be looked up in a page of pairs.
 fn symbol_verdict(page: &[u8], names: &[u8], lent: bool, symbol: Symbol) -> Verdict
-    ensures { result ≡ symbolVerdict page.now names.now lent symbol }
+    ensures { result ≡ symbol_verdict page.now names.now lent symbol }
 {
     if is_broken(page, names, lent) {
         return Verdict::Refused(Refusal::Broken);
@@ -390,7 +390,7 @@ fn symbol_verdict(page: &[u8], names: &[u8], lent: bool, symbol: Symbol) -> Verd
 
 // The root of a symbol: `canonical` of the source.
 pub fn canonical(page: &[u8], names: &[u8], lent: bool, symbol: Symbol) -> Root
-    ensures { result ≡ rootAnswer page.now names.now lent symbol }
+    ensures { result ≡ root_answer page.now names.now lent symbol }
 {
     let verdict = symbol_verdict(page, names, lent, symbol);
     if let Verdict::Refused(r) = verdict {
@@ -402,8 +402,8 @@ pub fn canonical(page: &[u8], names: &[u8], lent: bool, symbol: Symbol) -> Root
 
 // The first of k pairs that has the symbol, or k.
 fn find_symbol(bodies: &[u8], k: usize, symbol: Symbol) -> usize
-    requires { pairBytes * k ≤ length bodies.now }
-    ensures { result ≡ firstTo k (isOf bodies.now symbol) }
+    requires { pair_bytes * k ≤ length bodies.now }
+    ensures { result ≡ first_to k (is_of bodies.now symbol) }
 {
     let mut i: usize = 0;
     while i < k {
@@ -417,7 +417,7 @@ fn find_symbol(bodies: &[u8], k: usize, symbol: Symbol) -> usize
 
 // The first factor of a symbol, with its base.
 pub fn first_factor(page: &[u8], names: &[u8], lent: bool, symbol: Symbol) -> Factor
-    ensures { result ≡ factorAnswer page.now names.now lent symbol }
+    ensures { result ≡ factor_answer page.now names.now lent symbol }
 {
     let verdict = symbol_verdict(page, names, lent, symbol);
     if let Verdict::Refused(r) = verdict {

@@ -1,7 +1,7 @@
 -- "The lowest number that applies comes first" (document 01, below the table): a call lists its conditions, and of the refusals
 -- that apply the first in the order of refusals is given, in whatever order they are listed.
 use Rattle.std.specs.Prelude.{Bool, cond, List, [], ◌∷◌, leb}
-use Rattle.refusals.specs.Numbers.{rankOf}
+use Rattle.refusals.specs.Numbers.{rank_of}
 use Rattle.refusals.specs.declared.Refusal.{Refusal}
 use Rattle.refusals.specs.declared.Verdict.{Verdict}
 use Rattle.refusals.specs.declared.Verdict.TheVariants.{Passed, Refused}
@@ -15,7 +15,7 @@ pub data Condition : Type 0 where
 -- of a refusal and a verdict, what comes first
 abbrev pub lower : Refusal → Verdict → Verdict
 lower r Passed = Refused r
-lower r (Refused s) = Refused (cond (leb (rankOf r) (rankOf s)) r s)
+lower r (Refused s) = Refused (cond (leb (rank_of r) (rank_of s)) r s)
 
 -- the first refusal that applies
 abbrev pub lowest : List Condition → Verdict
@@ -23,9 +23,9 @@ lowest [] = Passed
 lowest ((r when b) ∷ cs) = cond b (lower r (lowest cs)) (lowest cs)
 
 -- a value that only a call that passes changes
-abbrev pub unlessRefused : {A : Type 0} → Verdict → A → A → A
-unlessRefused Passed new old = new
-unlessRefused (Refused r) new old = old
+abbrev pub unless_refused : {A : Type 0} → Verdict → A → A → A
+unless_refused Passed new old = new
+unless_refused (Refused r) new old = old
 
 -- yes or no, or the refusal
 abbrev pub answered : Verdict → Bool → Answer

@@ -6,29 +6,29 @@ use Rattle.refusals.specs.declared.Verdict.{Verdict}
 use Rattle.refusals.specs.declared.Verdict.TheVariants.{Passed, Refused}
 
 -- the number of a refusal
-abbrev pub numberOf : Refusal → ℕ
-numberOf Undefined = 1
-numberOf Broken = 2
-numberOf Unused = 3
-numberOf Malformed = 4
-numberOf BadUnit = 5
-numberOf Width = 6
-numberOf Depth = 7
-numberOf Exponent = 8
-numberOf Symbols = 9
-numberOf Full = 10
-numberOf Sheet = 11
+abbrev pub number_of : Refusal → ℕ
+number_of Undefined = 1
+number_of Broken = 2
+number_of Unused = 3
+number_of Malformed = 4
+number_of BadUnit = 5
+number_of Width = 6
+number_of Depth = 7
+number_of Exponent = 8
+number_of Symbols = 9
+number_of Full = 10
+number_of Sheet = 11
 
 -- its place in the order in which refusals are given: "The lowest number that applies comes first"
-abbrev pub rankOf : Refusal → ℕ
-rankOf r = numberOf r
+abbrev pub rank_of : Refusal → ℕ
+rank_of r = number_of r
 
 -- a verdict as a number: 0 where nothing is refused
-abbrev pub codeOf : Verdict → ℕ
-codeOf Passed = 0
-codeOf (Refused r) = numberOf r
+abbrev pub code_of : Verdict → ℕ
+code_of Passed = 0
+code_of (Refused r) = number_of r
 
 -- is it a refusal
-abbrev pub isRefused : Verdict → Bool
-isRefused Passed = false
-isRefused (Refused r) = true
+abbrev pub is_refused : Verdict → Bool
+is_refused Passed = false
+is_refused (Refused r) = true

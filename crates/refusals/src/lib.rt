@@ -2,7 +2,7 @@
 #![tactic(auto)]
 
 ghost use Rattle.std.specs.Prelude.{◌≡◌};
-ghost use Rattle.refusals.specs.Numbers.{numberOf, codeOf, isRefused};
+ghost use Rattle.refusals.specs.Numbers.{number_of, code_of, is_refused};
 
 // Why a call gives no result.
 #[derive(Clone, Copy)]
@@ -48,7 +48,7 @@ pub enum Answer {
 
 // The number that document 01 gives a refusal.
 pub fn number(r: Refusal) -> u8
-    ensures { result ≡ numberOf r }
+    ensures { result ≡ number_of r }
 {
     match r {
         Refusal::Undefined => 1,
@@ -67,7 +67,7 @@ pub fn number(r: Refusal) -> u8
 
 // A verdict as a number: 0 where the call passed, else the refusal's.
 pub fn code(v: Verdict) -> u8
-    ensures { result ≡ codeOf v }
+    ensures { result ≡ code_of v }
 {
     match v {
         Verdict::Passed => 0,
@@ -77,7 +77,7 @@ pub fn code(v: Verdict) -> u8
 
 // Whether a call was refused.
 pub fn is_refused(v: Verdict) -> bool
-    ensures { result ≡ isRefused v }
+    ensures { result ≡ is_refused v }
 {
     match v {
         Verdict::Passed => false,

@@ -3,19 +3,19 @@
 #![tactic(auto)]
 
 ghost use Rattle.std.specs.Prelude.{◌≡◌};
-ghost use Rattle.refusals.specs.Lowest.{unlessRefused};
-ghost use Rattle.names.specs.Table.{namesMax};
-ghost use Rattle.names.specs.Calls.{emptyVerdict, emptyPage, addAnswer, pageAfter, findAnswer, readAnswer};
-ghost use Rattle.units.specs.Calls.{formVerdict, exponentAnswer};
+ghost use Rattle.refusals.specs.Lowest.{unless_refused};
+ghost use Rattle.names.specs.Table.{names_max};
+ghost use Rattle.names.specs.Calls.{empty_verdict, empty_page, add_answer, page_after, find_answer, read_answer};
+ghost use Rattle.units.specs.Calls.{form_verdict, exponent_answer};
 ghost use Rattle.groups.specs.Groups.{pair};
-ghost use Rattle.pairs.specs.Calls.{pairVerdict, rootAnswer, factorAnswer};
+ghost use Rattle.pairs.specs.Calls.{pair_verdict, root_answer, factor_answer};
 ghost use Rattle.pairs.specs.Calls as tables;
-ghost use Rattle.types.specs.Calls.{makeAnswer, makePage};
+ghost use Rattle.types.specs.Calls.{make_answer, make_page};
 ghost use Rattle.types.specs.Calls as store;
-ghost use Rattle.checked.specs.Calls.{matchesAnswer, genericAnswer, intoConst, intoConstPage, substituteAnswer, substitutePage};
-ghost use Rattle.calls.specs.Types.{madeCode, bytesOfType, checkedOf, bindingsIn, constCode, bindingsAfter, unifyIn, unifyArgIn};
-ghost use Rattle.calls.specs.Codes.{packed, addedCode, foundCode, powerCode, answerCode, unitOrBroken, unitlessIn, productIn, textIn, bytesOfUnit, rootCode, factorCode, outAfterFactor, groupSumsIn, bytesOfSums, convertibleIn};
-ghost use Rattle.calls.specs.Answers.{answeredCode, outAfterAnswer, binaryIn, unaryIn, unaryPageIn, indexIn, indexPageIn};
+ghost use Rattle.checked.specs.Calls.{matches_answer, generic_answer, into_const, into_const_page, substitute_answer, substitute_page};
+ghost use Rattle.calls.specs.Types.{made_code, bytes_of_type, checked_of, bindings_in, const_code, bindings_after, unify_in, unify_arg_in};
+ghost use Rattle.calls.specs.Codes.{packed, added_code, found_code, power_code, answer_code, unit_or_broken, unitless_in, product_in, text_in, bytes_of_unit, root_code, factor_code, out_after_factor, group_sums_in, bytes_of_sums, convertible_in};
+ghost use Rattle.calls.specs.Answers.{answered_code, out_after_answer, binary_in, unary_in, unary_page_in, index_in, index_page_in};
 
 use calls::{ANSWER_BYTES, BINDING_BYTES, TYPE_BYTES};
 use kinds::Kind;
@@ -27,7 +27,7 @@ use values::UNIT_BYTES;
 // Makes the page an empty table of names.
 #[unsafe(no_mangle)]
 pub extern "C" fn riddlepoppy_empty_names(page: &mut [u8]) -> u32
-    ensures { (result ≡ packed (emptyVerdict page.old) 0) × (page.new ≡ emptyPage page.old) }
+    ensures { (result ≡ packed (empty_verdict page.old) 0) × (page.new ≡ empty_page page.old) }
 {
     calls::riddlepoppy_empty_names(page)
 }
@@ -35,7 +35,7 @@ pub extern "C" fn riddlepoppy_empty_names(page: &mut [u8]) -> u32
 // The number of a name, which is added if it is new.
 #[unsafe(no_mangle)]
 pub extern "C" fn riddlepoppy_add_name(page: &mut [u8], name: &[u8]) -> u32
-    ensures { (result ≡ addedCode (addAnswer namesMax page.old name.now)) × (page.new ≡ pageAfter namesMax page.old name.now) }
+    ensures { (result ≡ added_code (add_answer names_max page.old name.now)) × (page.new ≡ page_after names_max page.old name.now) }
 {
     calls::riddlepoppy_add_name(page, name)
 }
@@ -43,7 +43,7 @@ pub extern "C" fn riddlepoppy_add_name(page: &mut [u8], name: &[u8]) -> u32
 // The number of a name, or 65,535 where the table does not have it.
 #[unsafe(no_mangle)]
 pub extern "C" fn riddlepoppy_find_name(page: &[u8], name: &[u8]) -> u32
-    ensures { result ≡ foundCode (findAnswer page.now name.now) }
+    ensures { result ≡ found_code (find_answer page.now name.now) }
 {
     calls::riddlepoppy_find_name(page, name)
 }
@@ -51,7 +51,7 @@ pub extern "C" fn riddlepoppy_find_name(page: &[u8], name: &[u8]) -> u32
 // The name with number k, and its length.
 #[unsafe(no_mangle)]
 pub extern "C" fn riddlepoppy_read_name(page: &[u8], k: u32, out: &mut [u8; NAME_BYTES]) -> u32
-    ensures { (result ≡ packed (readAnswer page.now k).verdict (readAnswer page.now k).size) × (out.new ≡ unlessRefused (readAnswer page.now k).verdict (readAnswer page.now k).bytes out.old) }
+    ensures { (result ≡ packed (read_answer page.now k).verdict (read_answer page.now k).size) × (out.new ≡ unless_refused (read_answer page.now k).verdict (read_answer page.now k).bytes out.old) }
 {
     calls::riddlepoppy_read_name(page, k, out)
 }
@@ -59,7 +59,7 @@ pub extern "C" fn riddlepoppy_read_name(page: &[u8], k: u32, out: &mut [u8; NAME
 // Whether a unit is in form.
 #[unsafe(no_mangle)]
 pub extern "C" fn riddlepoppy_unit_form(unit: &[u8]) -> u32
-    ensures { result ≡ packed (formVerdict (unitOrBroken unit.now)) 0 }
+    ensures { result ≡ packed (form_verdict (unit_or_broken unit.now)) 0 }
 {
     calls::riddlepoppy_unit_form(unit)
 }
@@ -72,7 +72,7 @@ pub extern "C" fn riddlepoppy_product(
     quotient: bool,
     out: &mut [u8; UNIT_BYTES],
 ) -> u32
-    ensures { (result ≡ packed (productIn quotient a.now b.now).verdict 0) × (out.new ≡ unlessRefused (productIn quotient a.now b.now).verdict (bytesOfUnit (productIn quotient a.now b.now).unit) out.old) }
+    ensures { (result ≡ packed (product_in quotient a.now b.now).verdict 0) × (out.new ≡ unless_refused (product_in quotient a.now b.now).verdict (bytes_of_unit (product_in quotient a.now b.now).unit) out.old) }
 {
     calls::riddlepoppy_product(a, b, quotient, out)
 }
@@ -80,7 +80,7 @@ pub extern "C" fn riddlepoppy_product(
 // The exponent of a symbol, as its sixteen bits.
 #[unsafe(no_mangle)]
 pub extern "C" fn riddlepoppy_exponent(unit: &[u8], symbol: Symbol) -> u32
-    ensures { result ≡ powerCode (exponentAnswer (unitOrBroken unit.now) symbol) }
+    ensures { result ≡ power_code (exponent_answer (unit_or_broken unit.now) symbol) }
 {
     calls::riddlepoppy_exponent(unit, symbol)
 }
@@ -88,7 +88,7 @@ pub extern "C" fn riddlepoppy_exponent(unit: &[u8], symbol: Symbol) -> u32
 // Whether there is no unit, or the empty one: 1 for yes.
 #[unsafe(no_mangle)]
 pub extern "C" fn riddlepoppy_is_dimensionless(bytes: &[u8]) -> u32
-    ensures { result ≡ answerCode (unitlessIn bytes.now) }
+    ensures { result ≡ answer_code (unitless_in bytes.now) }
 {
     calls::riddlepoppy_is_dimensionless(bytes)
 }
@@ -96,7 +96,7 @@ pub extern "C" fn riddlepoppy_is_dimensionless(bytes: &[u8]) -> u32
 // The text of a unit, and its length.
 #[unsafe(no_mangle)]
 pub extern "C" fn riddlepoppy_unit_text(page: &[u8], unit: &[u8], out: &mut [u8; TEXT_BYTES]) -> u32
-    ensures { (result ≡ packed (textIn page.now unit.now).verdict (textIn page.now unit.now).size) × (out.new ≡ unlessRefused (textIn page.now unit.now).verdict (textIn page.now unit.now).bytes out.old) }
+    ensures { (result ≡ packed (text_in page.now unit.now).verdict (text_in page.now unit.now).size) × (out.new ≡ unless_refused (text_in page.now unit.now).verdict (text_in page.now unit.now).bytes out.old) }
 {
     calls::riddlepoppy_unit_text(page, unit, out)
 }
@@ -104,7 +104,7 @@ pub extern "C" fn riddlepoppy_unit_text(page: &[u8], unit: &[u8], out: &mut [u8;
 // Makes the page a table without pairs.
 #[unsafe(no_mangle)]
 pub extern "C" fn riddlepoppy_empty_pairs(page: &mut [u8]) -> u32
-    ensures { (result ≡ packed (tables.emptyVerdict page.old) 0) × (page.new ≡ tables.emptyPage page.old) }
+    ensures { (result ≡ packed (tables.empty_verdict page.old) 0) × (page.new ≡ tables.empty_page page.old) }
 {
     calls::riddlepoppy_empty_pairs(page)
 }
@@ -119,7 +119,7 @@ pub extern "C" fn riddlepoppy_insert_pair(
     factor: u64,
     base: Symbol,
 ) -> u32
-    ensures { (result ≡ packed (pairVerdict page.old names.now lent (pair symbol base)) 0) × (page.new ≡ tables.pageAfter page.old names.now lent symbol factor base) }
+    ensures { (result ≡ packed (pair_verdict page.old names.now lent (pair symbol base)) 0) × (page.new ≡ tables.page_after page.old names.now lent symbol factor base) }
 {
     calls::riddlepoppy_insert_pair(page, names, lent, symbol, factor, base)
 }
@@ -132,7 +132,7 @@ pub extern "C" fn riddlepoppy_canonical(
     lent: bool,
     symbol: Symbol,
 ) -> u32
-    ensures { result ≡ rootCode (rootAnswer page.now names.now lent symbol) }
+    ensures { result ≡ root_code (root_answer page.now names.now lent symbol) }
 {
     calls::riddlepoppy_canonical(page, names, lent, symbol)
 }
@@ -146,7 +146,7 @@ pub extern "C" fn riddlepoppy_first_factor(
     symbol: Symbol,
     out: &mut [u8; LONG_BYTES],
 ) -> u32
-    ensures { (result ≡ factorCode (factorAnswer page.now names.now lent symbol)) × (out.new ≡ outAfterFactor (factorAnswer page.now names.now lent symbol) out.old) }
+    ensures { (result ≡ factor_code (factor_answer page.now names.now lent symbol)) × (out.new ≡ out_after_factor (factor_answer page.now names.now lent symbol) out.old) }
 {
     calls::riddlepoppy_first_factor(page, names, lent, symbol, out)
 }
@@ -160,7 +160,7 @@ pub extern "C" fn riddlepoppy_canonicalize(
     unit: &[u8],
     out: &mut [u8; UNIT_BYTES],
 ) -> u32
-    ensures { (result ≡ packed (groupSumsIn page.now names.now lent unit.now).verdict 0) × (out.new ≡ unlessRefused (groupSumsIn page.now names.now lent unit.now).verdict (bytesOfSums (groupSumsIn page.now names.now lent unit.now).sums) out.old) }
+    ensures { (result ≡ packed (group_sums_in page.now names.now lent unit.now).verdict 0) × (out.new ≡ unless_refused (group_sums_in page.now names.now lent unit.now).verdict (bytes_of_sums (group_sums_in page.now names.now lent unit.now).sums) out.old) }
 {
     calls::riddlepoppy_canonicalize(page, names, lent, unit, out)
 }
@@ -174,7 +174,7 @@ pub extern "C" fn riddlepoppy_is_convertible_to(
     left: &[u8],
     right: &[u8],
 ) -> u32
-    ensures { result ≡ answerCode (convertibleIn page.now names.now lent left.now right.now) }
+    ensures { result ≡ answer_code (convertible_in page.now names.now lent left.now right.now) }
 {
     calls::riddlepoppy_is_convertible_to(page, names, lent, left, right)
 }
@@ -182,7 +182,7 @@ pub extern "C" fn riddlepoppy_is_convertible_to(
 // Makes the page a store of the fixed types alone.
 #[unsafe(no_mangle)]
 pub extern "C" fn riddlepoppy_empty_types(page: &mut [u8]) -> u32
-    ensures { (result ≡ packed (store.emptyVerdict page.old) 0) × (page.new ≡ store.emptyPage page.old) }
+    ensures { (result ≡ packed (store.empty_verdict page.old) 0) × (page.new ≡ store.empty_page page.old) }
 {
     calls::riddlepoppy_empty_types(page)
 }
@@ -197,7 +197,7 @@ pub extern "C" fn riddlepoppy_make_type(
     children: &[u16],
     name: Symbol,
 ) -> u32
-    ensures { (result ≡ madeCode (makeAnswer page.old names.now lent kind children.now name)) × (page.new ≡ makePage page.old names.now lent kind children.now name) }
+    ensures { (result ≡ made_code (make_answer page.old names.now lent kind children.now name)) × (page.new ≡ make_page page.old names.now lent kind children.now name) }
 {
     calls::riddlepoppy_make_type(page, names, lent, kind, children, name)
 }
@@ -211,7 +211,7 @@ pub extern "C" fn riddlepoppy_read_type(
     t: u32,
     out: &mut [u8; TYPE_BYTES],
 ) -> u32
-    ensures { (result ≡ packed (store.readAnswer page.now names.now lent t).verdict 0) × (out.new ≡ unlessRefused (store.readAnswer page.now names.now lent t).verdict (bytesOfType (store.readAnswer page.now names.now lent t).shape) out.old) }
+    ensures { (result ≡ packed (store.read_answer page.now names.now lent t).verdict 0) × (out.new ≡ unless_refused (store.read_answer page.now names.now lent t).verdict (bytes_of_type (store.read_answer page.now names.now lent t).shape) out.old) }
 {
     calls::riddlepoppy_read_type(page, names, lent, t, out)
 }
@@ -225,7 +225,7 @@ pub extern "C" fn riddlepoppy_matches(
     actual: u32,
     expected: u32,
 ) -> u32
-    ensures { result ≡ answerCode (matchesAnswer page.now names.now lent (checkedOf actual) (checkedOf expected)) }
+    ensures { result ≡ answer_code (matches_answer page.now names.now lent (checked_of actual) (checked_of expected)) }
 {
     calls::riddlepoppy_matches(page, names, lent, actual, expected)
 }
@@ -233,7 +233,7 @@ pub extern "C" fn riddlepoppy_matches(
 // Whether a generic name stands in a type: 1 for yes.
 #[unsafe(no_mangle)]
 pub extern "C" fn riddlepoppy_has_generic(page: &[u8], names: &[u8], lent: bool, t: u32) -> u32
-    ensures { result ≡ answerCode (genericAnswer page.now names.now lent t) }
+    ensures { result ≡ answer_code (generic_answer page.now names.now lent t) }
 {
     calls::riddlepoppy_has_generic(page, names, lent, t)
 }
@@ -241,7 +241,7 @@ pub extern "C" fn riddlepoppy_has_generic(page: &[u8], names: &[u8], lent: bool,
 // The number of a checked type's const form, which is made if it is new.
 #[unsafe(no_mangle)]
 pub extern "C" fn riddlepoppy_into_const(page: &mut [u8], names: &[u8], lent: bool, c: u32) -> u32
-    ensures { (result ≡ constCode (intoConst page.old names.now lent (checkedOf c))) × (page.new ≡ intoConstPage page.old names.now lent (checkedOf c)) }
+    ensures { (result ≡ const_code (into_const page.old names.now lent (checked_of c))) × (page.new ≡ into_const_page page.old names.now lent (checked_of c)) }
 {
     calls::riddlepoppy_into_const(page, names, lent, c)
 }
@@ -256,7 +256,7 @@ pub extern "C" fn riddlepoppy_unify(
     actual: u32,
     bindings: &mut [u8; BINDING_BYTES],
 ) -> u32
-    ensures { (result ≡ answerCode (unifyIn page.now names.now lent bindings.old expected actual).answer) × (bindings.new ≡ bindingsAfter (unifyIn page.now names.now lent bindings.old expected actual).answer (unifyIn page.now names.now lent bindings.old expected actual).bindings bindings.old) }
+    ensures { (result ≡ answer_code (unify_in page.now names.now lent bindings.old expected actual).answer) × (bindings.new ≡ bindings_after (unify_in page.now names.now lent bindings.old expected actual).answer (unify_in page.now names.now lent bindings.old expected actual).bindings bindings.old) }
 {
     calls::riddlepoppy_unify(page, names, lent, expected, actual, bindings)
 }
@@ -271,7 +271,7 @@ pub extern "C" fn riddlepoppy_unify_arg(
     actual: u32,
     bindings: &mut [u8; BINDING_BYTES],
 ) -> u32
-    ensures { (result ≡ answerCode (unifyArgIn page.now names.now lent bindings.old expected actual).answer) × (bindings.new ≡ bindingsAfter (unifyArgIn page.now names.now lent bindings.old expected actual).answer (unifyArgIn page.now names.now lent bindings.old expected actual).bindings bindings.old) }
+    ensures { (result ≡ answer_code (unify_arg_in page.now names.now lent bindings.old expected actual).answer) × (bindings.new ≡ bindings_after (unify_arg_in page.now names.now lent bindings.old expected actual).answer (unify_arg_in page.now names.now lent bindings.old expected actual).bindings bindings.old) }
 {
     calls::riddlepoppy_unify_arg(page, names, lent, expected, actual, bindings)
 }
@@ -285,7 +285,7 @@ pub extern "C" fn riddlepoppy_substitute(
     t: u32,
     bindings: &[u8; BINDING_BYTES],
 ) -> u32
-    ensures { (result ≡ madeCode (substituteAnswer page.old names.now lent (bindingsIn bindings.now) t)) × (page.new ≡ substitutePage page.old names.now lent (bindingsIn bindings.now) t) }
+    ensures { (result ≡ made_code (substitute_answer page.old names.now lent (bindings_in bindings.now) t)) × (page.new ≡ substitute_page page.old names.now lent (bindings_in bindings.now) t) }
 {
     calls::riddlepoppy_substitute(page, names, lent, t, bindings)
 }
@@ -304,7 +304,7 @@ pub extern "C" fn riddlepoppy_check_binary_operator(
     other: &[u8],
     out: &mut [u8; ANSWER_BYTES],
 ) -> u32
-    ensures { (result ≡ answeredCode (binaryIn page.now names.now lent table.now op left unit.now right other.now)) × (out.new ≡ outAfterAnswer (binaryIn page.now names.now lent table.now op left unit.now right other.now) out.old) }
+    ensures { (result ≡ answered_code (binary_in page.now names.now lent table.now op left unit.now right other.now)) × (out.new ≡ out_after_answer (binary_in page.now names.now lent table.now op left unit.now right other.now) out.old) }
 {
     calls::riddlepoppy_check_binary_operator(
         page, names, lent, table, op, left, unit, right, other, out,
@@ -322,8 +322,8 @@ pub extern "C" fn riddlepoppy_check_unary_operator(
     unit: &[u8],
     out: &mut [u8; ANSWER_BYTES],
 ) -> u32
-    ensures value { (result ≡ answeredCode (unaryIn page.old names.now lent op operand unit.now)) × (out.new ≡ outAfterAnswer (unaryIn page.old names.now lent op operand unit.now) out.old) }
-    ensures page_after { page.new ≡ unaryPageIn page.old names.now lent op operand unit.now }
+    ensures value { (result ≡ answered_code (unary_in page.old names.now lent op operand unit.now)) × (out.new ≡ out_after_answer (unary_in page.old names.now lent op operand unit.now) out.old) }
+    ensures page_after { page.new ≡ unary_page_in page.old names.now lent op operand unit.now }
 {
     calls::riddlepoppy_check_unary_operator(page, names, lent, op, operand, unit, out)
 }
@@ -339,8 +339,8 @@ pub extern "C" fn riddlepoppy_check_index(
     key: u32,
     out: &mut [u8; ANSWER_BYTES],
 ) -> u32
-    ensures value { (result ≡ answeredCode (indexIn page.old names.now lent target unit.now key)) × (out.new ≡ outAfterAnswer (indexIn page.old names.now lent target unit.now key) out.old) }
-    ensures page_after { page.new ≡ indexPageIn page.old names.now lent target unit.now key }
+    ensures value { (result ≡ answered_code (index_in page.old names.now lent target unit.now key)) × (out.new ≡ out_after_answer (index_in page.old names.now lent target unit.now key) out.old) }
+    ensures page_after { page.new ≡ index_page_in page.old names.now lent target unit.now key }
 {
     calls::riddlepoppy_check_index(page, names, lent, target, unit, key, out)
 }

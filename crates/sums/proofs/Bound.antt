@@ -1,5 +1,5 @@
 -- How large sums are: those of k exponents, each at most 1,000 either way, are at most 1,000 k, and a unit in form has at most
--- eight (`sums-bound`). Assumes nothing.
+-- eight (`sums_bound`). Assumes nothing.
 use mathlib.Core.Path.{◌≡◌, refl, ap, ◌∙◌}
 use mathlib.Core.Bool.{Bool, true, false, cond, ◌||◌}
 use mathlib.Core.List.{List, [], ◌∷◌}
@@ -12,68 +12,68 @@ use lib.Signed.{mag}
 use mir.Syntax.{w16}
 use mir.Val.{SFits}
 use borrow.Author.Tests.{ltb-true}
-use Rattle.units.specs.Unit.{exponentMax, placesMax, Term, outside, formed, part, exponent}
-use Rattle.units.specs.Product.{anyOutside}
+use Rattle.units.specs.Unit.{exponent_max, places_max, Term, outside, formed, part, exponent}
+use Rattle.units.specs.Product.{any_outside}
 use Rattle.units.proofs.Signed.{small}
-use Rattle.units.proofs.Form.{formed-length, formed-ordered}
-use Rattle.units.proofs.Order.{or-both, ordered-inside}
-use Rattle.sums.specs.Sums.{rooted, sumAt, groupSums}
-use Rattle.sums.proofs.Written.{written-few}
+use Rattle.units.proofs.Form.{formed_length, formed_ordered}
+use Rattle.units.proofs.Order.{or_both, ordered_inside}
+use Rattle.sums.specs.Sums.{rooted, sum_at, group_sums}
+use Rattle.sums.proofs.Written.{written_few}
 
-abs-sub : (a b : ℕ) → nat_abs (sub_ℕ a b) ≤ a + b
-abs-sub a b = go (ltb a b) refl
+abs_sub : (a b : ℕ) → nat_abs (sub_ℕ a b) ≤ a + b
+abs_sub a b = go (ltb a b) refl
   where
     go : (t : Bool) → ltb a b ≡ t → nat_abs (cond t (negsuc (b - suc a)) (pos (a - b))) ≤ a + b
     go true h = omega (arith, ltb-true a b h)
     go false h = omega arith
 
-pub abs-sum : (y z : ℤ) → nat_abs (y +ℤ z) ≤ nat_abs y + nat_abs z
-abs-sum (pos a) (pos b) = omega arith
-abs-sum (pos a) (negsuc b) = abs-sub a (suc b)
-abs-sum (negsuc a) (pos b) = omega (arith, abs-sub b (suc a))
-abs-sum (negsuc a) (negsuc b) = omega arith
+pub abs_sum : (y z : ℤ) → nat_abs (y +ℤ z) ≤ nat_abs y + nat_abs z
+abs_sum (pos a) (pos b) = omega arith
+abs_sum (pos a) (negsuc b) = abs_sub a (suc b)
+abs_sum (negsuc a) (pos b) = omega (arith, abs_sub b (suc a))
+abs_sum (negsuc a) (negsuc b) = omega arith
 
-mag-abs : (z : ℤ) → mag z ≤ nat_abs z
-mag-abs (pos n) = omega arith
-mag-abs (negsuc n) = omega arith
+mag_abs : (z : ℤ) → mag z ≤ nat_abs z
+mag_abs (pos n) = omega arith
+mag_abs (negsuc n) = omega arith
 
 -- such a sum fits an `i16`
-pub abs-fits : (z : ℤ) → nat_abs z ≤ placesMax * exponentMax → SFits w16 z
-abs-fits z h = record { sfits = omega (arith, mag-abs z) }
+pub abs_fits : (z : ℤ) → nat_abs z ≤ places_max * exponent_max → SFits w16 z
+abs_fits z h = record { sfits = omega (arith, mag_abs z) }
 
-abs-part : (s : ℕ) (x : Term) → outside x.exp ≡ false → nat_abs (part s x) ≤ exponentMax
-abs-part s x h = go (eqb s x.symbol)
+abs_part : (s : ℕ) (x : Term) → outside x.exp ≡ false → nat_abs (part s x) ≤ exponent_max
+abs_part s x h = go (eqb s x.symbol)
   where
-    go : (b : Bool) → nat_abs (cond b x.exp (pos 0)) ≤ exponentMax
+    go : (b : Bool) → nat_abs (cond b x.exp (pos 0)) ≤ exponent_max
     go true = small x.exp h
     go false = omega arith
 
 -- the exponents of k terms sum to 1,000 k at most, either way
-pub exponent-bound : (s : ℕ) (xs : List Term) → anyOutside xs ≡ false → nat_abs (exponent s xs) ≤ exponentMax * length xs
-exponent-bound s [] h = omega arith
-exponent-bound s (x ∷ xs) h =
-    let v = or-both (outside x.exp) (anyOutside xs) h in
-    omega (arith, abs-sum (part s x) (exponent s xs), abs-part s x v.0, exponent-bound s xs v.1)
+pub exponent_bound : (s : ℕ) (xs : List Term) → any_outside xs ≡ false → nat_abs (exponent s xs) ≤ exponent_max * length xs
+exponent_bound s [] h = omega arith
+exponent_bound s (x ∷ xs) h =
+    let v = or_both (outside x.exp) (any_outside xs) h in
+    omega (arith, abs_sum (part s x) (exponent s xs), abs_part s x v.0, exponent_bound s xs v.1)
 
 -- ---- a unit in form
 
-pub length-rooted : (root : ℕ → ℕ) (xs : List Term) → length (rooted root xs) ≡ length xs
-length-rooted root [] = refl
-length-rooted root (x ∷ xs) = ap suc (length-rooted root xs)
+pub length_rooted : (root : ℕ → ℕ) (xs : List Term) → length (rooted root xs) ≡ length xs
+length_rooted root [] = refl
+length_rooted root (x ∷ xs) = ap suc (length_rooted root xs)
 
-rooted-outside : (root : ℕ → ℕ) (xs : List Term) → anyOutside (rooted root xs) ≡ anyOutside xs
-rooted-outside root [] = refl
-rooted-outside root (x ∷ xs) = ap (λ b. outside x.exp || b) (rooted-outside root xs)
+rooted_outside : (root : ℕ → ℕ) (xs : List Term) → any_outside (rooted root xs) ≡ any_outside xs
+rooted_outside root [] = refl
+rooted_outside root (x ∷ xs) = ap (λ b. outside x.exp || b) (rooted_outside root xs)
 
 module _ (p n : ℕ) (root : ℕ → ℕ) (xs : List Term) (h : formed p n xs ≡ true) where
   -- no exponent is outside its limits, whatever symbols take the place of its own
-  pub rooted-inside : anyOutside (rooted root xs) ≡ false
-  rooted-inside = rooted-outside root xs ∙ ordered-inside n 0 xs (formed-ordered p n xs h)
+  pub rooted_inside : any_outside (rooted root xs) ≡ false
+  rooted_inside = rooted_outside root xs ∙ ordered_inside n 0 xs (formed_ordered p n xs h)
 
   -- of a unit of at most p symbols, a group sum is at most 1,000 p either way ("may reach ±8,000"), and there are at most p
-  pub sums-bound : ((g : ℕ) → nat_abs (sumAt root g xs) ≤ p * exponentMax) × (length (groupSums n root xs) ≤ p)
-  unfolding groupSums
-  sums-bound =
-      let l = formed-length p n xs h in
-      let e = length-rooted root xs in
-      (λ g. omega (arith, exponent-bound g (rooted root xs) rooted-inside), omega (arith, written-few n (rooted root xs)))
+  pub sums_bound : ((g : ℕ) → nat_abs (sum_at root g xs) ≤ p * exponent_max) × (length (group_sums n root xs) ≤ p)
+  unfolding group_sums
+  sums_bound =
+      let l = formed_length p n xs h in
+      let e = length_rooted root xs in
+      (λ g. omega (arith, exponent_bound g (rooted root xs) rooted_inside), omega (arith, written_few n (rooted root xs)))

@@ -5,144 +5,144 @@ use mathlib.Core.List.{List, [], ◌∷◌}
 use Prim.Native.Nat.{ℕ}
 use native.Mathlib.Omega.{arith}
 use borrow.Author.Tests.{not-false}
-use Rattle.refusals.specs.Numbers.{isRefused}
+use Rattle.refusals.specs.Numbers.{is_refused}
 use Rattle.refusals.specs.Lowest.{◌when◌}
 use Rattle.refusals.specs.declared.Refusal.{Refusal}
 use Rattle.refusals.specs.declared.Refusal.TheVariants.{Broken, Unused, BadUnit}
 use Rattle.refusals.specs.declared.Verdict.{Verdict}
 use Rattle.refusals.specs.declared.Verdict.TheVariants.{Passed, Refused}
 use Rattle.refusals.specs.declared.Answer.{Answer}
-use Rattle.refusals.proofs.Lowest.{first-holds, passed-parts}
-use Rattle.pages.specs.Bytes.{countOf}
-use Rattle.pages.proofs.Quant.{and-true}
-use Rattle.names.specs.Table.{namesMax}
-use Rattle.names.specs.Calls.{lentBroken, usedOf}
-use Rattle.names.proofs.Calls.{used-few}
-use Rattle.units.specs.Unit.{placesMax, inUse}
+use Rattle.refusals.proofs.Lowest.{first_holds, passed_parts}
+use Rattle.pages.specs.Bytes.{count_of}
+use Rattle.pages.proofs.Quant.{and_true}
+use Rattle.names.specs.Table.{names_max}
+use Rattle.names.specs.Calls.{lent_broken, used_of}
+use Rattle.names.proofs.Calls.{used_few}
+use Rattle.units.specs.Unit.{places_max, in_use}
 use Rattle.units.specs.Unit as units
-use Rattle.units.specs.Calls.{termsOf, present}
+use Rattle.units.specs.Calls.{terms_of, present}
 use Rattle.units.specs.declared.Unit.{Unit}
 use Rattle.units.specs.declared.MaybeUnit.{MaybeUnit}
 use Rattle.groups.specs.Groups.{walk}
-use Rattle.pairs.specs.Page.{parentsIn, Held, formed}
-use Rattle.pairs.proofs.Page.{formed-held}
-use Rattle.pairs.specs.Calls.{tableBroken}
-use Rattle.pairs.proofs.Calls.{unbroken, root-in}
-use Rattle.pairs.proofs.Run.{form-all}
-use Rattle.sums.specs.Sums.{groupSums, convertible, sumsOf}
-use Rattle.sums.specs.Calls.{allUsed, allFormed, unitsVerdict, rootsIn, summed, sumsAnswer, orEmpty, convertAnswer}
+use Rattle.pairs.specs.Page.{parents_in, Held, formed}
+use Rattle.pairs.proofs.Page.{formed_held}
+use Rattle.pairs.specs.Calls.{table_broken}
+use Rattle.pairs.proofs.Calls.{unbroken, root_in}
+use Rattle.pairs.proofs.Run.{form_all}
+use Rattle.sums.specs.Sums.{group_sums, convertible, sums_of}
+use Rattle.sums.specs.Calls.{all_used, all_formed, units_verdict, roots_in, summed, sums_answer, or_empty, convert_answer}
 use Rattle.sums.specs.declared.SumsResult.{SumsResult}
 
 -- ---- two units
 
 module _ (page names : List ℕ) (lent : Bool) (a b : Unit) where
-  pub units-broken : tableBroken page names lent ≡ true → Refused Broken ≡ unitsVerdict page names lent (a ∷ b ∷ [])
-  unfolding unitsVerdict
-  units-broken t =
-      sym (rw t (first-holds Broken ((Unused when not (allUsed (usedOf names lent) (a ∷ b ∷ []))) ∷ (BadUnit when not (allFormed (a ∷ b ∷ []))) ∷ []) refl))
+  pub units_broken : table_broken page names lent ≡ true → Refused Broken ≡ units_verdict page names lent (a ∷ b ∷ [])
+  unfolding units_verdict
+  units_broken t =
+      sym (rw t (first_holds Broken ((Unused when not (all_used (used_of names lent) (a ∷ b ∷ []))) ∷ (BadUnit when not (all_formed (a ∷ b ∷ []))) ∷ []) refl))
 
-  module _ (t : tableBroken page names lent ≡ false) where
-    unused : allUsed (usedOf names lent) (a ∷ b ∷ []) ≡ false → Refused Unused ≡ unitsVerdict page names lent (a ∷ b ∷ [])
-    unfolding unitsVerdict
-    unused u = sym (rw (t, u) (first-holds Unused ((BadUnit when not (allFormed (a ∷ b ∷ []))) ∷ []) refl))
+  module _ (t : table_broken page names lent ≡ false) where
+    unused : all_used (used_of names lent) (a ∷ b ∷ []) ≡ false → Refused Unused ≡ units_verdict page names lent (a ∷ b ∷ [])
+    unfolding units_verdict
+    unused u = sym (rw (t, u) (first_holds Unused ((BadUnit when not (all_formed (a ∷ b ∷ []))) ∷ []) refl))
 
-    pub left-unused : inUse (usedOf names lent) (present a) ≡ false → Refused Unused ≡ unitsVerdict page names lent (a ∷ b ∷ [])
-    left-unused u = unused (rw u)
+    pub left_unused : in_use (used_of names lent) (present a) ≡ false → Refused Unused ≡ units_verdict page names lent (a ∷ b ∷ [])
+    left_unused u = unused (rw u)
 
-    module _ (ua : inUse (usedOf names lent) (present a) ≡ true) where
-      pub right-unused : inUse (usedOf names lent) (present b) ≡ false → Refused Unused ≡ unitsVerdict page names lent (a ∷ b ∷ [])
-      right-unused u = unused (rw (ua, u))
+    module _ (ua : in_use (used_of names lent) (present a) ≡ true) where
+      pub right_unused : in_use (used_of names lent) (present b) ≡ false → Refused Unused ≡ units_verdict page names lent (a ∷ b ∷ [])
+      right_unused u = unused (rw (ua, u))
 
-      module _ (ub : inUse (usedOf names lent) (present b) ≡ true) where
-        bad : allFormed (a ∷ b ∷ []) ≡ false → Refused BadUnit ≡ unitsVerdict page names lent (a ∷ b ∷ [])
-        unfolding unitsVerdict
+      module _ (ub : in_use (used_of names lent) (present b) ≡ true) where
+        bad : all_formed (a ∷ b ∷ []) ≡ false → Refused BadUnit ≡ units_verdict page names lent (a ∷ b ∷ [])
+        unfolding units_verdict
         bad f = rw (t, ua, ub, f)
 
-        pub left-bad : units.formed placesMax namesMax (termsOf a) ≡ false → Refused BadUnit ≡ unitsVerdict page names lent (a ∷ b ∷ [])
-        left-bad f = bad (rw f)
+        pub left_bad : units.formed places_max names_max (terms_of a) ≡ false → Refused BadUnit ≡ units_verdict page names lent (a ∷ b ∷ [])
+        left_bad f = bad (rw f)
 
-        module _ (fa : units.formed placesMax namesMax (termsOf a) ≡ true) where
-          pub right-bad : units.formed placesMax namesMax (termsOf b) ≡ false → Refused BadUnit ≡ unitsVerdict page names lent (a ∷ b ∷ [])
-          right-bad f = bad (rw (fa, f))
+        module _ (fa : units.formed places_max names_max (terms_of a) ≡ true) where
+          pub right_bad : units.formed places_max names_max (terms_of b) ≡ false → Refused BadUnit ≡ units_verdict page names lent (a ∷ b ∷ [])
+          right_bad f = bad (rw (fa, f))
 
-          pub units-passed : units.formed placesMax namesMax (termsOf b) ≡ true → Passed ≡ unitsVerdict page names lent (a ∷ b ∷ [])
-          unfolding unitsVerdict
-          units-passed fb = rw (t, ua, ub, fa, fb)
+          pub units_passed : units.formed places_max names_max (terms_of b) ≡ true → Passed ≡ units_verdict page names lent (a ∷ b ∷ [])
+          unfolding units_verdict
+          units_passed fb = rw (t, ua, ub, fa, fb)
 
   -- what two units have that are not refused
-  module _ (v : unitsVerdict page names lent (a ∷ b ∷ []) ≡ Passed) where
-    rest : (tableBroken page names lent ≡ false) × (allFormed (a ∷ b ∷ []) ≡ true)
-    unfolding unitsVerdict
+  module _ (v : units_verdict page names lent (a ∷ b ∷ []) ≡ Passed) where
+    rest : (table_broken page names lent ≡ false) × (all_formed (a ∷ b ∷ []) ≡ true)
+    unfolding units_verdict
     rest =
         let x =
-        passed-parts Broken (tableBroken page names lent)
-        ((Unused when not (allUsed (usedOf names lent) (a ∷ b ∷ []))) ∷ (BadUnit when not (allFormed (a ∷ b ∷ []))) ∷ []) v in
-        let y = passed-parts Unused (not (allUsed (usedOf names lent) (a ∷ b ∷ []))) ((BadUnit when not (allFormed (a ∷ b ∷ []))) ∷ []) x.1 in
-        let z = passed-parts BadUnit (not (allFormed (a ∷ b ∷ []))) [] y.1 in
-        (x.0, not-false (allFormed (a ∷ b ∷ [])) z.0)
+        passed_parts Broken (table_broken page names lent)
+        ((Unused when not (all_used (used_of names lent) (a ∷ b ∷ []))) ∷ (BadUnit when not (all_formed (a ∷ b ∷ []))) ∷ []) v in
+        let y = passed_parts Unused (not (all_used (used_of names lent) (a ∷ b ∷ []))) ((BadUnit when not (all_formed (a ∷ b ∷ []))) ∷ []) x.1 in
+        let z = passed_parts BadUnit (not (all_formed (a ∷ b ∷ []))) [] y.1 in
+        (x.0, not-false (all_formed (a ∷ b ∷ [])) z.0)
 
-    sound : (lentBroken names lent ≡ false) × (formed page (usedOf names lent) ≡ true)
+    sound : (lent_broken names lent ≡ false) × (formed page (used_of names lent) ≡ true)
     sound = unbroken page names lent rest.0
 
     -- the page is in form, whether or not names are lent
-    pub passed-all-names : formed page namesMax ≡ true
-    passed-all-names = form-all page (usedOf names lent) (used-few names lent sound.0) sound.1
+    pub passed_all_names : formed page names_max ≡ true
+    passed_all_names = form_all page (used_of names lent) (used_few names lent sound.0) sound.1
 
-    pub passed-held : Held page
-    passed-held = formed-held page (usedOf names lent) sound.1
+    pub passed_held : Held page
+    passed_held = formed_held page (used_of names lent) sound.1
 
-    pub passed-root : (k s : ℕ) → k ≡ countOf page → walk k (parentsIn page) s ≡ rootsIn page s
-    passed-root k s is = root-in page (usedOf names lent) k s sound.1 is
+    pub passed_root : (k s : ℕ) → k ≡ count_of page → walk k (parents_in page) s ≡ roots_in page s
+    passed_root k s is = root_in page (used_of names lent) k s sound.1 is
 
-    both : (units.formed placesMax namesMax (termsOf a) ≡ true) × (allFormed (b ∷ []) ≡ true)
-    both = and-true (units.formed placesMax namesMax (termsOf a)) (allFormed (b ∷ [])) rest.1
+    both : (units.formed places_max names_max (terms_of a) ≡ true) × (all_formed (b ∷ []) ≡ true)
+    both = and_true (units.formed places_max names_max (terms_of a)) (all_formed (b ∷ [])) rest.1
 
-    pub passed-left : units.formed placesMax namesMax (termsOf a) ≡ true
-    passed-left = both.0
+    pub passed_left : units.formed places_max names_max (terms_of a) ≡ true
+    passed_left = both.0
 
-    pub passed-right : units.formed placesMax namesMax (termsOf b) ≡ true
-    passed-right = (and-true (units.formed placesMax namesMax (termsOf b)) true both.1).0
+    pub passed_right : units.formed places_max names_max (terms_of b) ≡ true
+    passed_right = (and_true (units.formed places_max names_max (terms_of b)) true both.1).0
 
 -- ---- group sums
 
-and-twice : (a : Bool) → (a && (a && true)) ≡ (a && true)
-and-twice true = refl
-and-twice false = refl
+and_twice : (a : Bool) → (a && (a && true)) ≡ (a && true)
+and_twice true = refl
+and_twice false = refl
 
 module _ (page names : List ℕ) (lent : Bool) (u : Unit) where
   -- a unit given twice is refused as it is by itself
-  twice : unitsVerdict page names lent (u ∷ u ∷ []) ≡ unitsVerdict page names lent (u ∷ [])
-  unfolding unitsVerdict
-  twice = rw (and-twice (inUse (usedOf names lent) (present u)), and-twice (units.formed placesMax namesMax (termsOf u)))
+  twice : units_verdict page names lent (u ∷ u ∷ []) ≡ units_verdict page names lent (u ∷ [])
+  unfolding units_verdict
+  twice = rw (and_twice (in_use (used_of names lent) (present u)), and_twice (units.formed places_max names_max (terms_of u)))
 
-  module _ (v : Verdict) (is : v ≡ unitsVerdict page names lent (u ∷ u ∷ [])) where
-    pub sums-refused : isRefused v ≡ true → ◌≡◌ {A = SumsResult} (record { verdict = v; sums = sumsOf [] }) (sumsAnswer page names lent u)
-    unfolding sumsAnswer
-    sums-refused h = rw (← twice, ← is) (go v h)
+  module _ (v : Verdict) (is : v ≡ units_verdict page names lent (u ∷ u ∷ [])) where
+    pub sums_refused : is_refused v ≡ true → ◌≡◌ {A = SumsResult} (record { verdict = v; sums = sums_of [] }) (sums_answer page names lent u)
+    unfolding sums_answer
+    sums_refused h = rw (← twice, ← is) (go v h)
       where
-        go : (v : Verdict) → isRefused v ≡ true
-            → ◌≡◌ {A = SumsResult} (record { verdict = v; sums = sumsOf [] }) (summed v (groupSums namesMax (rootsIn page) (termsOf u)))
+        go : (v : Verdict) → is_refused v ≡ true
+            → ◌≡◌ {A = SumsResult} (record { verdict = v; sums = sums_of [] }) (summed v (group_sums names_max (roots_in page) (terms_of u)))
         go Passed h = let z : ◌≡◌ {A = ℕ} 0 1 = cc in absurd (omega arith)
         go (Refused r) h = refl
 
-    pub sums-given : v ≡ Passed → (root : ℕ → ℕ) → ((s : ℕ) → root s ≡ rootsIn page s)
-        → ◌≡◌ {A = SumsResult} (record { verdict = v; sums = sumsOf (groupSums namesMax root (termsOf u)) }) (sumsAnswer page names lent u)
-    unfolding sumsAnswer
-    sums-given p root same = let e : root ≡ rootsIn page = fun_ext same in rw (← twice, ← is, p, e)
+    pub sums_given : v ≡ Passed → (root : ℕ → ℕ) → ((s : ℕ) → root s ≡ roots_in page s)
+        → ◌≡◌ {A = SumsResult} (record { verdict = v; sums = sums_of (group_sums names_max root (terms_of u)) }) (sums_answer page names lent u)
+    unfolding sums_answer
+    sums_given p root same = let e : root ≡ roots_in page = fun_ext same in rw (← twice, ← is, p, e)
 
 -- ---- convertible or not
 
 module _ (page names : List ℕ) (lent : Bool) (left right : MaybeUnit) where
-  pub convert-refused : (r : Refusal) → Refused r ≡ unitsVerdict page names lent (orEmpty left ∷ orEmpty right ∷ [])
-      → Answer.Refused r ≡ convertAnswer page names lent left right
-  unfolding convertAnswer
-  convert-refused r v = rw (← v)
+  pub convert_refused : (r : Refusal) → Refused r ≡ units_verdict page names lent (or_empty left ∷ or_empty right ∷ [])
+      → Answer.Refused r ≡ convert_answer page names lent left right
+  unfolding convert_answer
+  convert_refused r v = rw (← v)
 
-  module _ (v : unitsVerdict page names lent (orEmpty left ∷ orEmpty right ∷ []) ≡ Passed) (root : ℕ → ℕ) (same : (s : ℕ) → root s ≡ rootsIn page s) where
-    pub convert-yes : convertible namesMax root (termsOf (orEmpty left)) (termsOf (orEmpty right)) ≡ true → Answer.Yes ≡ convertAnswer page names lent left right
-    unfolding convertAnswer
-    convert-yes h = let e : root ≡ rootsIn page = fun_ext same in rw (v, ← e, h)
+  module _ (v : units_verdict page names lent (or_empty left ∷ or_empty right ∷ []) ≡ Passed) (root : ℕ → ℕ) (same : (s : ℕ) → root s ≡ roots_in page s) where
+    pub convert_yes : convertible names_max root (terms_of (or_empty left)) (terms_of (or_empty right)) ≡ true → Answer.Yes ≡ convert_answer page names lent left right
+    unfolding convert_answer
+    convert_yes h = let e : root ≡ roots_in page = fun_ext same in rw (v, ← e, h)
 
-    pub convert-no : convertible namesMax root (termsOf (orEmpty left)) (termsOf (orEmpty right)) ≡ false → Answer.No ≡ convertAnswer page names lent left right
-    unfolding convertAnswer
-    convert-no h = let e : root ≡ rootsIn page = fun_ext same in rw (v, ← e, h)
+    pub convert_no : convertible names_max root (terms_of (or_empty left)) (terms_of (or_empty right)) ≡ false → Answer.No ≡ convert_answer page names lent left right
+    unfolding convert_answer
+    convert_no h = let e : root ≡ roots_in page = fun_ext same in rw (v, ← e, h)

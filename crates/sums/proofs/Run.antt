@@ -1,6 +1,6 @@
 -- A convertibility call that is not refused says yes exactly if the two units have equal exponent sums in every group, and no
--- exactly if they have not: of the pairs that its page lists (`converts`, `converts-not`) and, from any page in form, of those that
--- it listed before any list of insertions with those accepted since (`run-converts`, `run-converts-not`). Assumes nothing.
+-- exactly if they have not: of the pairs that its page lists (`converts`, `converts_not`) and, from any page in form, of those that
+-- it listed before any list of insertions with those accepted since (`run_converts`, `run_converts_not`). Assumes nothing.
 use mathlib.Core.Path.{◌≡◌, refl, subst}
 use mathlib.Core.Logic.{◌↔◌}
 use mathlib.Core.Bool.{Bool, true, false, cond}
@@ -9,70 +9,70 @@ use Prim.Native.Nat.{ℕ}
 use native.Mathlib.Omega.{arith}
 use Rattle.refusals.specs.declared.Verdict.TheVariants.{Passed}
 use Rattle.refusals.specs.declared.Answer.{Answer}
-use Rattle.names.specs.Table.{namesMax}
-use Rattle.units.specs.Unit.{placesMax, inUse}
+use Rattle.names.specs.Table.{names_max}
+use Rattle.units.specs.Unit.{places_max, in_use}
 use Rattle.units.specs.Unit as units
-use Rattle.units.specs.Calls.{termsOf}
+use Rattle.units.specs.Calls.{terms_of}
 use Rattle.units.specs.declared.Unit.{Unit}
 use Rattle.units.specs.declared.MaybeUnit.{MaybeUnit}
-use Rattle.units.proofs.Form.{formed-ordered}
-use Rattle.units.proofs.Used.{ordered-used}
-use Rattle.pairs.specs.Page.{listedIn, formed}
-use Rattle.pairs.specs.Runs.{Request, pageAfterAll, acceptedPairs}
-use Rattle.pairs.proofs.Run.{page-within, run-listed}
+use Rattle.units.proofs.Form.{formed_ordered}
+use Rattle.units.proofs.Used.{ordered_used}
+use Rattle.pairs.specs.Page.{listed_in, formed}
+use Rattle.pairs.specs.Runs.{Request, page_after_all, accepted_pairs}
+use Rattle.pairs.proofs.Run.{page_within, run_listed}
 use Rattle.sums.specs.Sums.{convertible, SameSums}
-use Rattle.sums.specs.Calls.{unitsVerdict, rootsIn, orEmpty, convertAnswer}
-use Rattle.sums.proofs.Convert.{convertible-groups}
-use Rattle.sums.proofs.Calls.{passed-all-names, passed-left, passed-right}
+use Rattle.sums.specs.Calls.{units_verdict, roots_in, or_empty, convert_answer}
+use Rattle.sums.proofs.Convert.{convertible_groups}
+use Rattle.sums.proofs.Calls.{passed_all_names, passed_left, passed_right}
 
 -- yes is the answer of the test
-answer-yes : (b : Bool) → (cond b Answer.Yes Answer.No ≡ Answer.Yes) ↔ (b ≡ true)
-answer-yes true = (λ e. refl, λ e. refl)
-answer-yes false = (λ e. let z : ◌≡◌ {A = ℕ} 0 1 = cc in absurd (omega arith), λ e. let z : ◌≡◌ {A = ℕ} 0 1 = cc in absurd (omega arith))
+answer_yes : (b : Bool) → (cond b Answer.Yes Answer.No ≡ Answer.Yes) ↔ (b ≡ true)
+answer_yes true = (λ e. refl, λ e. refl)
+answer_yes false = (λ e. let z : ◌≡◌ {A = ℕ} 0 1 = cc in absurd (omega arith), λ e. let z : ◌≡◌ {A = ℕ} 0 1 = cc in absurd (omega arith))
 
 -- no is the answer where yes is not
-answer-no : (b : Bool) → (cond b Answer.Yes Answer.No ≡ Answer.No) ↔ (cond b Answer.Yes Answer.No ≡ Answer.Yes → ⊥)
-answer-no true = (λ e. let z : ◌≡◌ {A = ℕ} 0 1 = cc in absurd (omega arith), λ never. absurd (never refl))
-answer-no false = (λ e y. let z : ◌≡◌ {A = ℕ} 0 1 = cc in omega arith, λ never. refl)
+answer_no : (b : Bool) → (cond b Answer.Yes Answer.No ≡ Answer.No) ↔ (cond b Answer.Yes Answer.No ≡ Answer.Yes → ⊥)
+answer_no true = (λ e. let z : ◌≡◌ {A = ℕ} 0 1 = cc in absurd (omega arith), λ never. absurd (never refl))
+answer_no false = (λ e y. let z : ◌≡◌ {A = ℕ} 0 1 = cc in omega arith, λ never. refl)
 
-formed-used : (u : Unit) → units.formed placesMax namesMax (termsOf u) ≡ true → inUse namesMax (termsOf u) ≡ true
-formed-used u f = ordered-used 0 (termsOf u) (formed-ordered placesMax namesMax (termsOf u) f)
+formed_used : (u : Unit) → units.formed places_max names_max (terms_of u) ≡ true → in_use names_max (terms_of u) ≡ true
+formed_used u f = ordered_used 0 (terms_of u) (formed_ordered places_max names_max (terms_of u) f)
 
-module _ (page names : List ℕ) (lent : Bool) (left right : MaybeUnit) (v : unitsVerdict page names lent (orEmpty left ∷ orEmpty right ∷ []) ≡ Passed) where
-  answer-is : (convertAnswer page names lent left right ≡ Answer.Yes)
-      ↔ (convertible namesMax (rootsIn page) (termsOf (orEmpty left)) (termsOf (orEmpty right)) ≡ true)
-  unfolding convertAnswer
-  answer-is = rw v (answer-yes (convertible namesMax (rootsIn page) (termsOf (orEmpty left)) (termsOf (orEmpty right))))
+module _ (page names : List ℕ) (lent : Bool) (left right : MaybeUnit) (v : units_verdict page names lent (or_empty left ∷ or_empty right ∷ []) ≡ Passed) where
+  answer_is : (convert_answer page names lent left right ≡ Answer.Yes)
+      ↔ (convertible names_max (roots_in page) (terms_of (or_empty left)) (terms_of (or_empty right)) ≡ true)
+  unfolding convert_answer
+  answer_is = rw v (answer_yes (convertible names_max (roots_in page) (terms_of (or_empty left)) (terms_of (or_empty right))))
 
   -- of the pairs that the page lists
-  pub converts : (convertAnswer page names lent left right ≡ Answer.Yes) ↔ SameSums namesMax (listedIn page) (termsOf (orEmpty left)) (termsOf (orEmpty right))
+  pub converts : (convert_answer page names lent left right ≡ Answer.Yes) ↔ SameSums names_max (listed_in page) (terms_of (or_empty left)) (terms_of (or_empty right))
   converts =
-      let f = passed-all-names page names lent (orEmpty left) (orEmpty right) v in
+      let f = passed_all_names page names lent (or_empty left) (or_empty right) v in
       let g =
-      convertible-groups namesMax (listedIn page) (page-within page namesMax f) (termsOf (orEmpty left)) (termsOf (orEmpty right))
-      (formed-used (orEmpty left) (passed-left page names lent (orEmpty left) (orEmpty right) v))
-      (formed-used (orEmpty right) (passed-right page names lent (orEmpty left) (orEmpty right) v)) in
-      (λ e. g.0 (answer-is.0 e), λ s. answer-is.1 (g.1 s))
+      convertible_groups names_max (listed_in page) (page_within page names_max f) (terms_of (or_empty left)) (terms_of (or_empty right))
+      (formed_used (or_empty left) (passed_left page names lent (or_empty left) (or_empty right) v))
+      (formed_used (or_empty right) (passed_right page names lent (or_empty left) (or_empty right) v)) in
+      (λ e. g.0 (answer_is.0 e), λ s. answer_is.1 (g.1 s))
 
-  no-is : (convertAnswer page names lent left right ≡ Answer.No) ↔ (convertAnswer page names lent left right ≡ Answer.Yes → ⊥)
-  unfolding convertAnswer
-  no-is = rw v (answer-no (convertible namesMax (rootsIn page) (termsOf (orEmpty left)) (termsOf (orEmpty right))))
+  no_is : (convert_answer page names lent left right ≡ Answer.No) ↔ (convert_answer page names lent left right ≡ Answer.Yes → ⊥)
+  unfolding convert_answer
+  no_is = rw v (answer_no (convertible names_max (roots_in page) (terms_of (or_empty left)) (terms_of (or_empty right))))
 
-  pub converts-not : (convertAnswer page names lent left right ≡ Answer.No) ↔ (¬ (SameSums namesMax (listedIn page) (termsOf (orEmpty left)) (termsOf (orEmpty right))))
-  converts-not = (λ e s. no-is.0 e (converts.1 s), λ never. no-is.1 (λ y. never (converts.0 y)))
+  pub converts_not : (convert_answer page names lent left right ≡ Answer.No) ↔ (¬ (SameSums names_max (listed_in page) (terms_of (or_empty left)) (terms_of (or_empty right))))
+  converts_not = (λ e s. no_is.0 e (converts.1 s), λ never. no_is.1 (λ y. never (converts.0 y)))
 
 -- after any list of insertions: of the accepted pairs
-pub run-converts : (rs : List Request) (page names : List ℕ) (lent : Bool) (left right : MaybeUnit)
-    → formed page namesMax ≡ true → unitsVerdict (pageAfterAll page rs) names lent (orEmpty left ∷ orEmpty right ∷ []) ≡ Passed
-    → (convertAnswer (pageAfterAll page rs) names lent left right ≡ Answer.Yes)
-    ↔ SameSums namesMax (acceptedPairs page rs) (termsOf (orEmpty left)) (termsOf (orEmpty right))
-run-converts rs page names lent left right g v =
-    subst (λ ps. (convertAnswer (pageAfterAll page rs) names lent left right ≡ Answer.Yes) ↔ SameSums namesMax ps (termsOf (orEmpty left)) (termsOf (orEmpty right)))
-    (run-listed rs page g) (converts (pageAfterAll page rs) names lent left right v)
+pub run_converts : (rs : List Request) (page names : List ℕ) (lent : Bool) (left right : MaybeUnit)
+    → formed page names_max ≡ true → units_verdict (page_after_all page rs) names lent (or_empty left ∷ or_empty right ∷ []) ≡ Passed
+    → (convert_answer (page_after_all page rs) names lent left right ≡ Answer.Yes)
+    ↔ SameSums names_max (accepted_pairs page rs) (terms_of (or_empty left)) (terms_of (or_empty right))
+run_converts rs page names lent left right g v =
+    subst (λ ps. (convert_answer (page_after_all page rs) names lent left right ≡ Answer.Yes) ↔ SameSums names_max ps (terms_of (or_empty left)) (terms_of (or_empty right)))
+    (run_listed rs page g) (converts (page_after_all page rs) names lent left right v)
 
-pub run-converts-not : (rs : List Request) (page names : List ℕ) (lent : Bool) (left right : MaybeUnit)
-    → formed page namesMax ≡ true → unitsVerdict (pageAfterAll page rs) names lent (orEmpty left ∷ orEmpty right ∷ []) ≡ Passed
-    → (convertAnswer (pageAfterAll page rs) names lent left right ≡ Answer.No) ↔ (¬ (SameSums namesMax (acceptedPairs page rs) (termsOf (orEmpty left)) (termsOf (orEmpty right))))
-run-converts-not rs page names lent left right g v =
-    subst (λ ps. (convertAnswer (pageAfterAll page rs) names lent left right ≡ Answer.No) ↔ (¬ (SameSums namesMax ps (termsOf (orEmpty left)) (termsOf (orEmpty right)))))
-    (run-listed rs page g) (converts-not (pageAfterAll page rs) names lent left right v)
+pub run_converts_not : (rs : List Request) (page names : List ℕ) (lent : Bool) (left right : MaybeUnit)
+    → formed page names_max ≡ true → units_verdict (page_after_all page rs) names lent (or_empty left ∷ or_empty right ∷ []) ≡ Passed
+    → (convert_answer (page_after_all page rs) names lent left right ≡ Answer.No) ↔ (¬ (SameSums names_max (accepted_pairs page rs) (terms_of (or_empty left)) (terms_of (or_empty right))))
+run_converts_not rs page names lent left right g v =
+    subst (λ ps. (convert_answer (page_after_all page rs) names lent left right ≡ Answer.No) ↔ (¬ (SameSums names_max ps (terms_of (or_empty left)) (terms_of (or_empty right)))))
+    (run_listed rs page g) (converts_not (page_after_all page rs) names lent left right v)

@@ -7,6 +7,6 @@ abbrev pub nearer : ℕ → ℕ → ℕ → ℕ
 nearer lo n s = cond (leb lo s && ltb s n) s n
 
 -- the least of n and of those symbols of the terms that are lo or more
-abbrev pub leastFrom : ℕ → ℕ → List Term → ℕ
-leastFrom lo n [] = n
-leastFrom lo n (x ∷ xs) = leastFrom lo (nearer lo n x.symbol) xs
+abbrev pub least_from : ℕ → ℕ → List Term → ℕ
+least_from lo n [] = n
+least_from lo n (x ∷ xs) = least_from lo (nearer lo n x.symbol) xs

@@ -1,9 +1,9 @@
 -- Group sums and convertibility (document 01, "Units and pairs"; `canonicalize` and `is_convertible_to` of the source's
 -- units.rs), over any number n of symbols and any roots.
 use Rattle.std.specs.Prelude.{Bool, false, List, [], ◌∷◌, ℕ, ◌<◌, eqb, length, ℤ, pos, negsuc, ◌+ℤ◌}
-use Rattle.pages.specs.Quant.{allTo}
+use Rattle.pages.specs.Quant.{all_to}
 use Rattle.pages.specs.Pad.{pad}
-use Rattle.units.specs.Unit.{placesMax, Term, term, exponent}
+use Rattle.units.specs.Unit.{places_max, Term, term, exponent}
 use Rattle.units.specs.Product.{written}
 use Rattle.units.specs.Calls.{terms, syms, exps}
 use Rattle.groups.specs.Groups.{Pair, Joined}
@@ -17,12 +17,12 @@ rooted root [] = []
 rooted root (x ∷ xs) = term (root x.symbol) x.exp ∷ rooted root xs
 
 -- the sum of the exponents of the symbols whose root is g
-abbrev pub sumAt : (ℕ → ℕ) → ℕ → List Term → ℤ
-sumAt root g xs = exponent g (rooted root xs)
+abbrev pub sum_at : (ℕ → ℕ) → ℕ → List Term → ℤ
+sum_at root g xs = exponent g (rooted root xs)
 
 -- "Group sums (`canonicalize`)": each root below n whose sum is not zero, in order, with that sum
-unfoldable pub groupSums : ℕ → (ℕ → ℕ) → List Term → List Term
-groupSums n root xs = written n (λ g. sumAt root g xs)
+unfoldable pub group_sums : ℕ → (ℕ → ℕ) → List Term → List Term
+group_sums n root xs = written n (λ g. sum_at root g xs)
 
 -- are two whole numbers equal
 abbrev pub equal : ℤ → ℤ → Bool
@@ -33,7 +33,7 @@ equal (negsuc a) (negsuc b) = eqb a b
 
 -- "Two units are convertible (`is_convertible_to`) exactly if their group sums agree"
 unfoldable pub convertible : ℕ → (ℕ → ℕ) → List Term → List Term → Bool
-convertible n root xs ys = allTo n (λ g. equal (sumAt root g xs) (sumAt root g ys))
+convertible n root xs ys = all_to n (λ g. equal (sum_at root g xs) (sum_at root g ys))
 
 -- ---- by groups alone, whatever their roots are
 
@@ -50,9 +50,9 @@ SameSums n ps xs ys = (s : ℕ) → s < n → (z : ℤ) × SumIn ps s xs z × Su
 -- ---- how src/ holds them
 
 -- the struct that holds group sums, with zeros behind them
-abbrev pub sumsOf : List Term → Sums
-sumsOf l = record { count = length l; symbols = pad placesMax 0 (syms l); exponents = pad placesMax (pos 0) (exps l) }
+abbrev pub sums_of : List Term → Sums
+sums_of l = record { count = length l; symbols = pad places_max 0 (syms l); exponents = pad places_max (pos 0) (exps l) }
 
 -- the group sums that it holds: those at its first `count` places
-abbrev pub sumsIn : Sums → List Term
-sumsIn w = terms w.count 0 w.symbols w.exponents
+abbrev pub sums_in : Sums → List Term
+sums_in w = terms w.count 0 w.symbols w.exponents

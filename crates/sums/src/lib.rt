@@ -3,14 +3,14 @@
 #![tactic(auto)]
 
 ghost use Rattle.std.specs.Prelude.{◌≡◌, ◌↔◌, true, false, List, [], ◌∷◌, ◌++◌, ◌<◌, ◌≤◌};
-ghost use Rattle.names.specs.Table.{namesMax};
-ghost use Rattle.units.specs.Unit.{placesMax, Term, isZero, formed, exponent};
-ghost use Rattle.units.specs.Product.{anyOutside, power, written};
-ghost use Rattle.units.specs.Calls.{termsOf, unitOf};
+ghost use Rattle.names.specs.Table.{names_max};
+ghost use Rattle.units.specs.Unit.{places_max, Term, is_zero, formed, exponent};
+ghost use Rattle.units.specs.Product.{any_outside, power, written};
+ghost use Rattle.units.specs.Calls.{terms_of, unit_of};
 ghost use Rattle.groups.specs.Groups.{walk};
-ghost use Rattle.sums.specs.Sums.{rooted, groupSums, convertible, sumsOf, sumsIn};
-ghost use Rattle.sums.specs.Gather.{nearer, leastFrom};
-ghost use Rattle.sums.specs.Calls.{unitsVerdict, sumsAnswer, orEmpty, convertAnswer};
+ghost use Rattle.sums.specs.Sums.{rooted, group_sums, convertible, sums_of, sums_in};
+ghost use Rattle.sums.specs.Gather.{nearer, least_from};
+ghost use Rattle.sums.specs.Calls.{units_verdict, sums_answer, or_empty, convert_answer};
 
 use groups::root;
 use names::{NAMES, Symbol, symbol_index};
@@ -34,7 +34,7 @@ pub struct SumsResult {
 }
 
 fn no_sums() -> Sums
-    ensures { result ≡ sumsOf [] }
+    ensures { result ≡ sums_of [] }
 {
     Sums {
         count: 0,
@@ -45,8 +45,8 @@ fn no_sums() -> Sums
 
 // One group more, unless its sum is zero.
 fn with_sum(w: Sums, s: Symbol, e: i16) -> Sums
-    requires { isZero e ≡ false → w.count < placesMax }
-    ensures { (l : List Term) → w ≡ sumsOf l → result ≡ sumsOf (l ++ power s e) }
+    requires { is_zero e ≡ false → w.count < places_max }
+    ensures { (l : List Term) → w ≡ sums_of l → result ≡ sums_of (l ++ power s e) }
 {
     if e == 0 {
         return w;
@@ -61,8 +61,8 @@ fn with_sum(w: Sums, s: Symbol, e: i16) -> Sums
 
 // The unit with each symbol's root in its place: a root may stand there several times, and in any order.
 fn rooted(parents: &[Symbol], steps: usize, u: Unit) -> Unit
-    requires { u.count ≤ placesMax }
-    ensures { result ≡ unitOf (rooted (walk steps parents.now) (termsOf u)) }
+    requires { u.count ≤ places_max }
+    ensures { result ≡ unit_of (rooted (walk steps parents.now) (terms_of u)) }
 {
     let n = u.count;
     let mut v = units::dimensionless();
@@ -84,8 +84,8 @@ fn nearer_of(lo: usize, least: usize, s: usize) -> usize
 
 // The least symbol of the terms that is lo or more, or NAMES where there is none.
 fn next_symbol(u: Unit, lo: usize) -> usize
-    requires { u.count ≤ placesMax }
-    ensures { result ≡ leastFrom lo namesMax (termsOf u) }
+    requires { u.count ≤ places_max }
+    ensures { result ≡ least_from lo names_max (terms_of u) }
 {
     let n = u.count;
     let mut least = NAMES;
@@ -99,8 +99,8 @@ fn next_symbol(u: Unit, lo: usize) -> usize
 
 // The sum of the exponents of the terms with that symbol.
 fn sum_of(u: Unit, s: Symbol) -> i16
-    requires { (u.count ≤ placesMax) × (anyOutside (termsOf u) ≡ false) }
-    ensures { result ≡ exponent s (termsOf u) }
+    requires { (u.count ≤ places_max) × (any_outside (terms_of u) ≡ false) }
+    ensures { result ≡ exponent s (terms_of u) }
 {
     let n = u.count;
     let mut sum: i16 = 0;
@@ -116,8 +116,8 @@ fn sum_of(u: Unit, s: Symbol) -> i16
 
 // The terms of each symbol summed, in order of the symbols.
 fn gathered(u: Unit) -> Sums
-    requires { (u.count ≤ placesMax) × (anyOutside (termsOf u) ≡ false) }
-    ensures { result ≡ sumsOf (written namesMax (λ g. exponent g (termsOf u))) }
+    requires { (u.count ≤ places_max) × (any_outside (terms_of u) ≡ false) }
+    ensures { result ≡ sums_of (written names_max (λ g. exponent g (terms_of u))) }
 {
     let mut w = no_sums();
     let mut lo: usize = 0;
@@ -135,16 +135,16 @@ fn gathered(u: Unit) -> Sums
 // The group sums of a unit in form, where that many steps lead to a root, for crates above (`canonicalize` tests the unit, and the
 // table, whose count is steps enough).
 pub fn group_sums(parents: &[Symbol], steps: usize, u: Unit) -> Sums
-    requires { formed placesMax namesMax (termsOf u) ≡ true }
-    ensures { result ≡ sumsOf (groupSums namesMax (walk steps parents.now) (termsOf u)) }
+    requires { formed places_max names_max (terms_of u) ≡ true }
+    ensures { result ≡ sums_of (group_sums names_max (walk steps parents.now) (terms_of u)) }
 {
     gathered(rooted(parents, steps, u))
 }
 
 // Whether two have the same groups with the same sums.
 fn same_sums(a: Sums, b: Sums) -> bool
-    requires { (a.count ≤ placesMax) × (b.count ≤ placesMax) }
-    ensures { (result ≡ true) ↔ (sumsIn a ≡ sumsIn b) }
+    requires { (a.count ≤ places_max) × (b.count ≤ places_max) }
+    ensures { (result ≡ true) ↔ (sums_in a ≡ sums_in b) }
 {
     let n = a.count;
     let m = b.count;
@@ -166,8 +166,8 @@ fn same_sums(a: Sums, b: Sums) -> bool
 
 // Whether two units in form have the same group sums, for crates above (`is_convertible_to` tests them).
 pub fn convertible(parents: &[Symbol], steps: usize, left: Unit, right: Unit) -> bool
-    requires { (formed placesMax namesMax (termsOf left) ≡ true) × (formed placesMax namesMax (termsOf right) ≡ true) }
-    ensures { result ≡ convertible namesMax (walk steps parents.now) (termsOf left) (termsOf right) }
+    requires { (formed places_max names_max (terms_of left) ≡ true) × (formed places_max names_max (terms_of right) ≡ true) }
+    ensures { result ≡ convertible names_max (walk steps parents.now) (terms_of left) (terms_of right) }
 {
     let a = group_sums(parents, steps, left);
     let b = group_sums(parents, steps, right);
@@ -176,7 +176,7 @@ pub fn convertible(parents: &[Symbol], steps: usize, left: Unit, right: Unit) ->
 
 // Whether two units can be judged by the pairs of a page.
 fn units_verdict(page: &[u8], names: &[u8], lent: bool, a: Unit, b: Unit) -> Verdict
-    ensures { result ≡ unitsVerdict page.now names.now lent (a ∷ b ∷ []) }
+    ensures { result ≡ units_verdict page.now names.now lent (a ∷ b ∷ []) }
 {
     if pairs::is_broken(page, names, lent) {
         return Verdict::Refused(Refusal::Broken);
@@ -199,7 +199,7 @@ fn units_verdict(page: &[u8], names: &[u8], lent: bool, a: Unit, b: Unit) -> Ver
 
 // The group sums of a unit, over the pairs of a page: `canonicalize` of the source. A unit by itself is judged as if given twice.
 pub fn canonicalize(page: &[u8], names: &[u8], lent: bool, u: Unit) -> SumsResult
-    ensures { result ≡ sumsAnswer page.now names.now lent u }
+    ensures { result ≡ sums_answer page.now names.now lent u }
 {
     let verdict = units_verdict(page, names, lent, u, u);
     if refusals::is_refused(verdict) {
@@ -215,7 +215,7 @@ pub fn canonicalize(page: &[u8], names: &[u8], lent: bool, u: Unit) -> SumsResul
 
 // The unit, or the empty one where there is none. For crates above too.
 pub fn or_empty(m: MaybeUnit) -> Unit
-    ensures { result ≡ orEmpty m }
+    ensures { result ≡ or_empty m }
 {
     if m.some {
         return m.unit;
@@ -231,7 +231,7 @@ pub fn is_convertible_to(
     left: MaybeUnit,
     right: MaybeUnit,
 ) -> Answer
-    ensures { result ≡ convertAnswer page.now names.now lent left right }
+    ensures { result ≡ convert_answer page.now names.now lent left right }
 {
     let a = or_empty(left);
     let b = or_empty(right);

@@ -10,74 +10,74 @@ use Rattle.refusals.specs.Lowest.{◌when◌}
 use Rattle.refusals.specs.declared.Refusal.{Refusal}
 use Rattle.refusals.specs.declared.Refusal.TheVariants.{Broken, Unused, BadUnit}
 use Rattle.refusals.specs.declared.Verdict.TheVariants.{Refused}
-use Rattle.refusals.proofs.Lowest.{first-holds}
-use Rattle.pages.specs.Bytes.{countOf}
-use Rattle.names.specs.Table.{namesMax}
+use Rattle.refusals.proofs.Lowest.{first_holds}
+use Rattle.pages.specs.Bytes.{count_of}
+use Rattle.names.specs.Table.{names_max}
 use Rattle.names.specs.Table as names
-use Rattle.units.specs.Unit.{placesMax, inUse}
+use Rattle.units.specs.Unit.{places_max, in_use}
 use Rattle.units.specs.Unit as units
-use Rattle.units.specs.Calls.{termsOf, present, unitOf}
+use Rattle.units.specs.Calls.{terms_of, present, unit_of}
 use Rattle.units.specs.declared.Unit.{Unit}
-use Rattle.units.proofs.Form.{length-terms, formed-count, formed-ordered}
-use Rattle.units.proofs.Order.{ordered-inside}
-use Rattle.units.proofs.Held.{placesOf, terms-unit}
-use Rattle.order.specs.Order.{byName}
-use Rattle.text.specs.Text.{lineOf}
-use Rattle.text.specs.Calls.{Writable, textVerdict, textOf, noText, textAnswer}
-use Rattle.text.proofs.Kept.{by-name-length, by-name-used, by-name-inside}
+use Rattle.units.proofs.Form.{length_terms, formed_count, formed_ordered}
+use Rattle.units.proofs.Order.{ordered_inside}
+use Rattle.units.proofs.Held.{places_of, terms_unit}
+use Rattle.order.specs.Order.{by_name}
+use Rattle.text.specs.Text.{line_of}
+use Rattle.text.specs.Calls.{Writable, text_verdict, text_of, no_text, text_answer}
+use Rattle.text.proofs.Kept.{by_name_length, by_name_used, by_name_inside}
 
 module _ (page : List ℕ) (u : Unit) where
-  refused-text : (r : Refusal) → textVerdict page u ≡ Refused r → noText r ≡ textAnswer page u
-  unfolding textAnswer
-  refused-text r v = rw v
+  refused_text : (r : Refusal) → text_verdict page u ≡ Refused r → no_text r ≡ text_answer page u
+  unfolding text_answer
+  refused_text r v = rw v
 
-  pub text-broken : names.formed page ≡ false → noText Broken ≡ textAnswer page u
-  unfolding textVerdict
-  text-broken f = refused-text Broken v
+  pub text_broken : names.formed page ≡ false → no_text Broken ≡ text_answer page u
+  unfolding text_verdict
+  text_broken f = refused_text Broken v
     where
-      v : textVerdict page u ≡ Refused Broken
-      v = rw f (first-holds Broken ((Unused when not (inUse (countOf page) (present u))) ∷ (BadUnit when not (units.formed placesMax namesMax (termsOf u))) ∷ []) refl)
+      v : text_verdict page u ≡ Refused Broken
+      v = rw f (first_holds Broken ((Unused when not (in_use (count_of page) (present u))) ∷ (BadUnit when not (units.formed places_max names_max (terms_of u))) ∷ []) refl)
 
-  module _ (f : names.formed page ≡ true) (n : ℕ) (e : n ≡ countOf page) where
-    pub text-unused : inUse n (present u) ≡ false → noText Unused ≡ textAnswer page u
-    unfolding textVerdict
-    text-unused k = refused-text Unused v
+  module _ (f : names.formed page ≡ true) (n : ℕ) (e : n ≡ count_of page) where
+    pub text_unused : in_use n (present u) ≡ false → no_text Unused ≡ text_answer page u
+    unfolding text_verdict
+    text_unused k = refused_text Unused v
       where
-        v : textVerdict page u ≡ Refused Unused
-        v = rw (f, ← e, k) (first-holds Unused ((BadUnit when not (units.formed placesMax namesMax (termsOf u))) ∷ []) refl)
+        v : text_verdict page u ≡ Refused Unused
+        v = rw (f, ← e, k) (first_holds Unused ((BadUnit when not (units.formed places_max names_max (terms_of u))) ∷ []) refl)
 
-    module _ (k : inUse n (present u) ≡ true) where
-      pub text-bad-unit : units.formed placesMax namesMax (termsOf u) ≡ false → noText BadUnit ≡ textAnswer page u
-      unfolding textVerdict
-      text-bad-unit g = refused-text BadUnit v
+    module _ (k : in_use n (present u) ≡ true) where
+      pub text_bad_unit : units.formed places_max names_max (terms_of u) ≡ false → no_text BadUnit ≡ text_answer page u
+      unfolding text_verdict
+      text_bad_unit g = refused_text BadUnit v
         where
-          v : textVerdict page u ≡ Refused BadUnit
+          v : text_verdict page u ≡ Refused BadUnit
           v = rw (f, ← e, k, g)
 
-      module _ (g : units.formed placesMax namesMax (termsOf u) ≡ true) where
+      module _ (g : units.formed places_max names_max (terms_of u) ≡ true) where
         -- a unit in form has no more terms than there are places
-        pub formed-few : u.count ≤ placesMax
-        formed-few = formed-count placesMax namesMax (placesOf u) g
+        pub formed_few : u.count ≤ places_max
+        formed_few = formed_count places_max names_max (places_of u) g
 
-        pub formed-used : inUse (countOf page) (termsOf u) ≡ true
-        formed-used = rw (le-leb u.count placesMax formed-few, e) at k
+        pub formed_used : in_use (count_of page) (terms_of u) ≡ true
+        formed_used = rw (le-leb u.count places_max formed_few, e) at k
 
-        sorted-few : length (byName page (termsOf u)) ≤ placesMax
-        sorted-few = omega (arith, formed-few, by-name-length page (termsOf u), length-terms u.count 0 u.symbols u.exponents)
+        sorted_few : length (by_name page (terms_of u)) ≤ places_max
+        sorted_few = omega (arith, formed_few, by_name_length page (terms_of u), length_terms u.count 0 u.symbols u.exponents)
 
-        module _ (w : Unit) (s : w ≡ unitOf (byName page (termsOf u))) where
-          sorted : termsOf w ≡ byName page (termsOf u)
-          sorted = ap termsOf s ∙ terms-unit (byName page (termsOf u)) sorted-few
+        module _ (w : Unit) (s : w ≡ unit_of (by_name page (terms_of u))) where
+          sorted : terms_of w ≡ by_name page (terms_of u)
+          sorted = ap terms_of s ∙ terms_unit (by_name page (terms_of u)) sorted_few
 
           -- the terms in order can be written
-          pub sorted-writable : Writable page w
-          sorted-writable = record {
+          pub sorted_writable : Writable page w
+          sorted_writable = record {
             form = f;
-            few = rw s sorted-few;
-            used = rw sorted (by-name-used page (countOf page) (termsOf u) formed-used);
-            inside = rw sorted (by-name-inside page (termsOf u) (ordered-inside namesMax 0 (termsOf u) (formed-ordered placesMax namesMax (termsOf u) g)));
+            few = rw s sorted_few;
+            used = rw sorted (by_name_used page (count_of page) (terms_of u) formed_used);
+            inside = rw sorted (by_name_inside page (terms_of u) (ordered_inside names_max 0 (terms_of u) (formed_ordered places_max names_max (terms_of u) g)));
           }
 
-          pub text-given : textOf (lineOf page (termsOf w)) ≡ textAnswer page u
-          unfolding textAnswer textVerdict
-          text-given = ap (λ l. textOf (lineOf page l)) sorted ∙ rw (f, ← e, k, g)
+          pub text_given : text_of (line_of page (terms_of w)) ≡ text_answer page u
+          unfolding text_answer text_verdict
+          text_given = ap (λ l. text_of (line_of page l)) sorted ∙ rw (f, ← e, k, g)

@@ -6,49 +6,49 @@ use Prim.Native.Nat.{ℕ, ◌+◌}
 use native.Mathlib.Nat.{zero-add}
 use native.Mathlib.Omega.{arith}
 use lib.ListN.{length}
-use Rattle.names.specs.Table.{nameAt}
-use Rattle.units.specs.Unit.{Term, outside, inUse}
-use Rattle.units.specs.Product.{anyOutside}
-use Rattle.order.specs.Order.{comes, place, placed, byName}
-use Rattle.order.proofs.Order.{place-length, place-in-use}
-use Rattle.units.proofs.Order.{or-both}
-use Rattle.units.proofs.Used.{in-use-head, in-use-tail}
+use Rattle.names.specs.Table.{name_at}
+use Rattle.units.specs.Unit.{Term, outside, in_use}
+use Rattle.units.specs.Product.{any_outside}
+use Rattle.order.specs.Order.{comes, place, placed, by_name}
+use Rattle.order.proofs.Order.{place_length, place_in_use}
+use Rattle.units.proofs.Order.{or_both}
+use Rattle.units.proofs.Used.{in_use_head, in_use_tail}
 
 module _ (page : List ℕ) where
-  placed-length : (done xs : List Term) → length (placed page done xs) ≡ length done + length xs
+  placed_length : (done xs : List Term) → length (placed page done xs) ≡ length done + length xs
   unfolding placed
-  placed-length done [] = omega arith
-  placed-length done (x ∷ xs) = let z = placed-length (place page x done) xs in omega (arith, place-length page x done)
+  placed_length done [] = omega arith
+  placed_length done (x ∷ xs) = let z = placed_length (place page x done) xs in omega (arith, place_length page x done)
 
-  pub by-name-length : (xs : List Term) → length (byName page xs) ≡ length xs
-  by-name-length xs = placed-length [] xs ∙ zero-add (length xs)
+  pub by_name_length : (xs : List Term) → length (by_name page xs) ≡ length xs
+  by_name_length xs = placed_length [] xs ∙ zero-add (length xs)
 
-  placed-used : (n : ℕ) (done xs : List Term) → inUse n done ≡ true → inUse n xs ≡ true → inUse n (placed page done xs) ≡ true
+  placed_used : (n : ℕ) (done xs : List Term) → in_use n done ≡ true → in_use n xs ≡ true → in_use n (placed page done xs) ≡ true
   unfolding placed
-  placed-used n done [] d h = d
-  placed-used n done (x ∷ xs) d h = placed-used n (place page x done) xs (place-in-use n page x done (in-use-head n x xs h) d) (in-use-tail n x xs h)
+  placed_used n done [] d h = d
+  placed_used n done (x ∷ xs) d h = placed_used n (place page x done) xs (place_in_use n page x done (in_use_head n x xs h) d) (in_use_tail n x xs h)
 
-  pub by-name-used : (n : ℕ) (xs : List Term) → inUse n xs ≡ true → inUse n (byName page xs) ≡ true
-  unfolding inUse
-  by-name-used n xs h = placed-used n [] xs refl h
+  pub by_name_used : (n : ℕ) (xs : List Term) → in_use n xs ≡ true → in_use n (by_name page xs) ≡ true
+  unfolding in_use
+  by_name_used n xs h = placed_used n [] xs refl h
 
-  place-inside : (x : Term) (ys : List Term) → outside x.exp ≡ false → anyOutside ys ≡ false → anyOutside (place page x ys) ≡ false
+  place_inside : (x : Term) (ys : List Term) → outside x.exp ≡ false → any_outside ys ≡ false → any_outside (place page x ys) ≡ false
   unfolding place
-  place-inside x [] l h = rw l
-  place-inside x (y ∷ ys) l h =
-      let z = or-both (outside y.exp) (anyOutside ys) h in
-      go (comes (nameAt page x.symbol) (nameAt page y.symbol)) z.0 (place-inside x ys l z.1)
+  place_inside x [] l h = rw l
+  place_inside x (y ∷ ys) l h =
+      let z = or_both (outside y.exp) (any_outside ys) h in
+      go (comes (name_at page x.symbol) (name_at page y.symbol)) z.0 (place_inside x ys l z.1)
     where
-      go : (b : Bool) → outside y.exp ≡ false → anyOutside (place page x ys) ≡ false → anyOutside (cond b (x ∷ y ∷ ys) (y ∷ place page x ys)) ≡ false
+      go : (b : Bool) → outside y.exp ≡ false → any_outside (place page x ys) ≡ false → any_outside (cond b (x ∷ y ∷ ys) (y ∷ place page x ys)) ≡ false
       go true k ih = rw l h
       go false k ih = rw k ih
 
-  placed-inside : (done xs : List Term) → anyOutside done ≡ false → anyOutside xs ≡ false → anyOutside (placed page done xs) ≡ false
+  placed_inside : (done xs : List Term) → any_outside done ≡ false → any_outside xs ≡ false → any_outside (placed page done xs) ≡ false
   unfolding placed
-  placed-inside done [] d h = d
-  placed-inside done (x ∷ xs) d h =
-      let z = or-both (outside x.exp) (anyOutside xs) h in
-      placed-inside (place page x done) xs (place-inside x done z.0 d) z.1
+  placed_inside done [] d h = d
+  placed_inside done (x ∷ xs) d h =
+      let z = or_both (outside x.exp) (any_outside xs) h in
+      placed_inside (place page x done) xs (place_inside x done z.0 d) z.1
 
-  pub by-name-inside : (xs : List Term) → anyOutside xs ≡ false → anyOutside (byName page xs) ≡ false
-  by-name-inside xs h = placed-inside [] xs refl h
+  pub by_name_inside : (xs : List Term) → any_outside xs ≡ false → any_outside (by_name page xs) ≡ false
+  by_name_inside xs h = placed_inside [] xs refl h

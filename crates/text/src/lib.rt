@@ -3,11 +3,11 @@
 
 ghost use Rattle.std.specs.Prelude.{◌≡◌, false, List, ℕ, ◌+◌, ◌*◌, ◌≤◌, ◌<◌, length, nat_abs};
 ghost use Rattle.pages.specs.Bytes.{put};
-ghost use Rattle.names.specs.Table.{nameMax};
-ghost use Rattle.units.specs.Unit.{exponentMax, outside};
-ghost use Rattle.units.specs.Calls.{termsOf};
-ghost use Rattle.text.specs.Text.{power, stands, separator, side, lineOf};
-ghost use Rattle.text.specs.Calls.{exponentDigits, powerMax, textMax, countOn, Writable, textOf, noText, textAnswer};
+ghost use Rattle.names.specs.Table.{name_max};
+ghost use Rattle.units.specs.Unit.{exponent_max, outside};
+ghost use Rattle.units.specs.Calls.{terms_of};
+ghost use Rattle.text.specs.Text.{power, stands, separator, side, line_of};
+ghost use Rattle.text.specs.Calls.{exponent_digits, power_max, text_max, count_on, Writable, text_of, no_text, text_answer};
 
 use digits::push;
 use names::{name_of, symbol_index};
@@ -41,7 +41,7 @@ fn is_on(e: i16, above: bool) -> bool
 // How large an exponent is.
 fn size(e: i16) -> usize
     requires { outside e ≡ false }
-    ensures { (result ≡ nat_abs e) × (result ≤ exponentMax) }
+    ensures { (result ≡ nat_abs e) × (result ≤ exponent_max) }
 {
     if e < 0 {
         return (-e) as usize;
@@ -51,7 +51,7 @@ fn size(e: i16) -> usize
 
 // Writes a name with its power.
 fn write_power(out: &mut [u8], at: usize, name: &[u8], n: usize) -> usize
-    requires { (length name.now ≤ nameMax) × (n ≤ exponentMax) × (at + 1 + nameMax + exponentDigits ≤ length out.old) }
+    requires { (length name.now ≤ name_max) × (n ≤ exponent_max) × (at + 1 + name_max + exponent_digits ≤ length out.old) }
     ensures { (result ≡ at + length (power name.now n)) × (out.new ≡ put out.old at (power name.now n)) }
 {
     let a = push(out, at, name);
@@ -78,8 +78,8 @@ fn write_separator(out: &mut [u8], start: usize, at: usize, above: bool) -> usiz
 
 // Writes one side of the line.
 fn write_side(out: &mut [u8], start: usize, page: &[u8], v: Unit, above: bool) -> usize
-    requires { Writable page.now v × (start + powerMax * countOn above (termsOf v) ≤ length out.old) }
-    ensures { (result ≡ start + length (side page.now above (termsOf v))) × (out.new ≡ put out.old start (side page.now above (termsOf v))) }
+    requires { Writable page.now v × (start + power_max * count_on above (terms_of v) ≤ length out.old) }
+    ensures { (result ≡ start + length (side page.now above (terms_of v))) × (out.new ≡ put out.old start (side page.now above (terms_of v))) }
 {
     let n = v.count;
     let mut at = start;
@@ -99,8 +99,8 @@ fn write_side(out: &mut [u8], start: usize, page: &[u8], v: Unit, above: bool) -
 
 // Writes both sides at the front of `out`, and answers how many bytes they have.
 fn write_line(out: &mut [u8], page: &[u8], v: Unit) -> usize
-    requires { Writable page.now v × (textMax ≤ length out.old) }
-    ensures { (result ≡ length (lineOf page.now (termsOf v))) × (out.new ≡ put out.old 0 (lineOf page.now (termsOf v))) }
+    requires { Writable page.now v × (text_max ≤ length out.old) }
+    ensures { (result ≡ length (line_of page.now (terms_of v))) × (out.new ≡ put out.old 0 (line_of page.now (terms_of v))) }
 {
     let a = write_side(out, 0, page, v, true);
     if a == 0 {
@@ -113,7 +113,7 @@ fn write_line(out: &mut [u8], page: &[u8], v: Unit) -> usize
 // The text of terms in order.
 fn written(page: &[u8], v: Unit) -> Text
     requires { Writable page.now v }
-    ensures { result ≡ textOf (lineOf page.now (termsOf v)) }
+    ensures { result ≡ text_of (line_of page.now (terms_of v)) }
 {
     let mut bytes = [0u8; TEXT_BYTES];
     let size = write_line(&mut bytes, page, v);
@@ -126,7 +126,7 @@ fn written(page: &[u8], v: Unit) -> Text
 
 // No text, and why. For crates above too.
 pub fn no_text(refusal: Refusal) -> Text
-    ensures { result ≡ noText refusal }
+    ensures { result ≡ no_text refusal }
 {
     Text {
         verdict: Verdict::Refused(refusal),
@@ -137,7 +137,7 @@ pub fn no_text(refusal: Refusal) -> Text
 
 // The text of a unit: its symbols in byte order of their names.
 pub fn unit_text(page: &[u8], u: Unit) -> Text
-    ensures { result ≡ textAnswer page.now u }
+    ensures { result ≡ text_answer page.now u }
 {
     if !names::is_formed(page) {
         return no_text(Refusal::Broken);

@@ -12,133 +12,133 @@ use Rattle.refusals.specs.declared.Refusal.{Refusal}
 use Rattle.refusals.specs.declared.Refusal.TheVariants.{Depth, Full}
 use Rattle.refusals.specs.declared.Verdict.{Verdict}
 use Rattle.refusals.specs.declared.Verdict.TheVariants.{Passed, Refused}
-use Rattle.refusals.proofs.Lowest.{passed-parts}
-use Rattle.pages.specs.Bytes.{eqs, countOf}
-use Rattle.pages.specs.Quant.{anyTo}
-use Rattle.pages.proofs.Quant.{and-true, any-cong, first-at, first-le, first-found, first-missed}
-use Rattle.pages.proofs.Bytes.{eqs-refl}
-use Rattle.kinds.specs.Kinds.{fixedMax}
-use Rattle.types.specs.Store.{entriesMax, depthMax, offset, isEntry, equalTo, Formed}
-use Rattle.types.specs.Types.{typesIn}
-use Rattle.types.specs.Making.{Enterable, isMade, depthOf, roomy, withEntry, enterVerdict, enterAnswer, enterPage, Grows}
+use Rattle.refusals.proofs.Lowest.{passed_parts}
+use Rattle.pages.specs.Bytes.{eqs, count_of}
+use Rattle.pages.specs.Quant.{any_to}
+use Rattle.pages.proofs.Quant.{and_true, any_cong, first_at, first_le, first_found, first_missed}
+use Rattle.pages.proofs.Bytes.{eqs_refl}
+use Rattle.kinds.specs.Kinds.{fixed_max}
+use Rattle.types.specs.Store.{entries_max, depth_max, offset, is_entry, equal_to, Formed}
+use Rattle.types.specs.Types.{types_in}
+use Rattle.types.specs.Making.{Enterable, is_made, depth_of, roomy, with_entry, enter_verdict, enter_answer, enter_page, Grows}
 use Rattle.types.specs.declared.Made.{Made}
-use Rattle.types.proofs.Making.{numbered-at}
-use Rattle.types.proofs.Grown.{entry-grown, grows-refl, with-grows, with-count, with-sound, with-entry}
+use Rattle.types.proofs.Making.{numbered_at}
+use Rattle.types.proofs.Grown.{entry_grown, grows_refl, with_grows, with_count, with_sound, with_entry_lem}
 
 -- ---- what a type that was made left
 
 -- the number of a type that was made
-number-of : Made → ℕ
-number-of (Made.At t) = t
-number-of (Made.Refused r) = 0
+number_of_lem : Made → ℕ
+number_of_lem (Made.At t) = t
+number_of_lem (Made.Refused r) = 0
 
-pub at-inj : (t u : ℕ) → Made.At t ≡ Made.At u → t ≡ u
-unfolding number-of
-at-inj t u e = ap number-of e
+pub at_inj : (t u : ℕ) → Made.At t ≡ Made.At u → t ≡ u
+unfolding number_of_lem
+at_inj t u e = ap number_of_lem e
 
 module _ (page entry : List ℕ) (f : Formed page) (e : Enterable page entry f) where
   -- it was there, or it is new, at no great depth and with a place
   pub record Fresh : Type 0 where
-    pub new : countOf page ≤ equalTo page (countOf page) entry
-    pub flat : depthOf page entry ≤ depthMax
-    pub few : countOf page < entriesMax
-    pub room : offset page (countOf page) + length entry ≤ length page
+    pub new : count_of page ≤ equal_to page (count_of page) entry
+    pub flat : depth_of page entry ≤ depth_max
+    pub few : count_of page < entries_max
+    pub room : offset page (count_of page) + length entry ≤ length page
 
   pub data Case : Type 0 where
-    there : equalTo page (countOf page) entry < countOf page → enterPage page entry ≡ page → Case
-    fresh : Fresh → enterPage page entry ≡ withEntry page entry → Case
+    there : equal_to page (count_of page) entry < count_of page → enter_page page entry ≡ page → Case
+    fresh : Fresh → enter_page page entry ≡ with_entry page entry → Case
 
-  made-there : isMade page entry ≡ true → equalTo page (countOf page) entry < countOf page
-  unfolding isMade
-  made-there m = ltb-true (equalTo page (countOf page) entry) (countOf page) m
+  made_there : is_made page entry ≡ true → equal_to page (count_of page) entry < count_of page
+  unfolding is_made
+  made_there m = ltb-true (equal_to page (count_of page) entry) (count_of page) m
 
-  page-there : isMade page entry ≡ true → enterPage page entry ≡ page
-  unfolding enterPage enterVerdict
-  page-there m = rw m refl
+  page_there : is_made page entry ≡ true → enter_page page entry ≡ page
+  unfolding enter_page enter_verdict
+  page_there m = rw m refl
 
-  made-new : isMade page entry ≡ false → enterVerdict page entry ≡ Passed → Fresh
-  unfolding enterVerdict isMade roomy
-  made-new m v =
-      let w : lowest ((Depth when ltb depthMax (depthOf page entry)) ∷ (Full when not (roomy page entry)) ∷ []) ≡ Passed = rw m at v in
-      let a = passed-parts Depth (ltb depthMax (depthOf page entry)) ((Full when not (roomy page entry)) ∷ []) w in
-      let b = passed-parts Full (not (roomy page entry)) [] a.1 in
-      let r = and-true (ltb (countOf page) entriesMax) (leb (offset page (countOf page) + length entry) (length page)) (not-false (roomy page entry) b.0) in
+  made_new : is_made page entry ≡ false → enter_verdict page entry ≡ Passed → Fresh
+  unfolding enter_verdict is_made roomy
+  made_new m v =
+      let w : lowest ((Depth when ltb depth_max (depth_of page entry)) ∷ (Full when not (roomy page entry)) ∷ []) ≡ Passed = rw m at v in
+      let a = passed_parts Depth (ltb depth_max (depth_of page entry)) ((Full when not (roomy page entry)) ∷ []) w in
+      let b = passed_parts Full (not (roomy page entry)) [] a.1 in
+      let r = and_true (ltb (count_of page) entries_max) (leb (offset page (count_of page) + length entry) (length page)) (not-false (roomy page entry) b.0) in
       record {
-        new = ltb-false (equalTo page (countOf page) entry) (countOf page) m;
-        flat = ltb-false depthMax (depthOf page entry) a.0;
-        few = ltb-true (countOf page) entriesMax r.0;
-        room = leb-true (offset page (countOf page) + length entry) (length page) r.1;
+        new = ltb-false (equal_to page (count_of page) entry) (count_of page) m;
+        flat = ltb-false depth_max (depth_of page entry) a.0;
+        few = ltb-true (count_of page) entries_max r.0;
+        room = leb-true (offset page (count_of page) + length entry) (length page) r.1;
       }
 
-  page-refused : (r : Refusal) → enterVerdict page entry ≡ Refused r → enterPage page entry ≡ page
-  unfolding enterPage
-  page-refused r v = rw v refl
+  page_refused : (r : Refusal) → enter_verdict page entry ≡ Refused r → enter_page page entry ≡ page
+  unfolding enter_page
+  page_refused r v = rw v refl
 
-  page-new : isMade page entry ≡ false → enterVerdict page entry ≡ Passed → enterPage page entry ≡ withEntry page entry
-  unfolding enterPage
-  page-new m v = rw (v, m) refl
+  page_new : is_made page entry ≡ false → enter_verdict page entry ≡ Passed → enter_page page entry ≡ with_entry page entry
+  unfolding enter_page
+  page_new m v = rw (v, m) refl
 
-  pub entered-how : (t : ℕ) → enterAnswer page entry ≡ Made.At t → (fixedMax + equalTo page (countOf page) entry ≡ t) × Case
-  unfolding enterAnswer
-  entered-how t h = let z = numbered-at (enterVerdict page entry) (fixedMax + equalTo page (countOf page) entry) t h in (z.1, how z.0)
+  pub entered_how : (t : ℕ) → enter_answer page entry ≡ Made.At t → (fixed_max + equal_to page (count_of page) entry ≡ t) × Case
+  unfolding enter_answer
+  entered_how t h = let z = numbered_at (enter_verdict page entry) (fixed_max + equal_to page (count_of page) entry) t h in (z.1, how z.0)
     where
-      how : enterVerdict page entry ≡ Passed → Case
-      how v = go (isMade page entry) refl v
+      how : enter_verdict page entry ≡ Passed → Case
+      how v = go (is_made page entry) refl v
         where
-          go : (b : Bool) → isMade page entry ≡ b → enterVerdict page entry ≡ Passed → Case
-          go true m v = there (made-there m) (page-there m)
-          go false m v = fresh (made-new m v) (page-new m v)
+          go : (b : Bool) → is_made page entry ≡ b → enter_verdict page entry ≡ Passed → Case
+          go true m v = there (made_there m) (page_there m)
+          go false m v = fresh (made_new m v) (page_new m v)
 
   -- whatever comes of it, the store grows, and stays in form
-  pub enter-grows : Grows page (enterPage page entry) × Formed (enterPage page entry)
-  enter-grows = go (isMade page entry) refl (enterVerdict page entry) refl
+  pub enter_grows : Grows page (enter_page page entry) × Formed (enter_page page entry)
+  enter_grows = go (is_made page entry) refl (enter_verdict page entry) refl
     where
-      stays : enterPage page entry ≡ page → Grows page (enterPage page entry) × Formed (enterPage page entry)
-      stays q = rw q (grows-refl page, f)
+      stays : enter_page page entry ≡ page → Grows page (enter_page page entry) × Formed (enter_page page entry)
+      stays q = rw q (grows_refl page, f)
 
-      go : (b : Bool) → isMade page entry ≡ b → (v : Verdict) → enterVerdict page entry ≡ v → Grows page (enterPage page entry) × Formed (enterPage page entry)
-      go true m v h = stays (page-there m)
-      go false m (Refused r) h = stays (page-refused r h)
+      go : (b : Bool) → is_made page entry ≡ b → (v : Verdict) → enter_verdict page entry ≡ v → Grows page (enter_page page entry) × Formed (enter_page page entry)
+      go true m v h = stays (page_there m)
+      go false m (Refused r) h = stays (page_refused r h)
       go false m Passed h =
-          let z = made-new m h in
-          rw (page-new m h) (with-grows page entry f e z.new z.flat z.few z.room, with-sound page entry f e z.new z.flat z.few z.room)
+          let z = made_new m h in
+          rw (page_new m h) (with_grows page entry f e z.new z.flat z.few z.room, with_sound page entry f e z.new z.flat z.few z.room)
 
   -- what was entered has a number in use
-  pub enter-used : (t : ℕ) → enterAnswer page entry ≡ Made.At t → t < typesIn (enterPage page entry)
-  enter-used t h = let z = entered-how t h in go z.0 z.1
+  pub enter_used : (t : ℕ) → enter_answer page entry ≡ Made.At t → t < types_in (enter_page page entry)
+  enter_used t h = let z = entered_how t h in go z.0 z.1
     where
-      go : fixedMax + equalTo page (countOf page) entry ≡ t → Case → t < typesIn (enterPage page entry)
+      go : fixed_max + equal_to page (count_of page) entry ≡ t → Case → t < types_in (enter_page page entry)
       go n (there l q) = rw q (omega (arith, n, l))
       go n (fresh z q) =
-          rw (q, with-count page entry f e z.new z.flat z.few z.room) (omega (arith, n, first-le (isEntry page entry) (countOf page)))
+          rw (q, with_count page entry f e z.new z.flat z.few z.room) (omega (arith, n, first_le (is_entry page entry) (count_of page)))
 
   -- and is found under it in every store that grows out of the one it left
-  module _ (t : ℕ) (h : enterAnswer page entry ≡ Made.At t) (q : List ℕ) (g : Grows (enterPage page entry) q) (fq : Formed q) where
-    found-at : (i : ℕ) → i < countOf (enterPage page entry) → anyTo i (isEntry (enterPage page entry) entry) ≡ false
-        → isEntry (enterPage page entry) entry i ≡ true → fixedMax + i ≡ t → (enterAnswer q entry ≡ Made.At t) × (enterPage q entry ≡ q)
-    unfolding enterAnswer enterPage enterVerdict isMade
-    found-at i l miss hit n =
-        let same : (j : ℕ) → j < countOf (enterPage page entry) → isEntry q entry j ≡ isEntry (enterPage page entry) entry j =
-        λ j k. ap (λ (x : List ℕ). eqs x entry) (entry-grown (enterPage page entry) q enter-grows.1 g j k) in
-        let below : i < countOf q = omega (arith, g.more, l) in
-        let at : equalTo q (countOf q) entry ≡ i =
-        first-at (isEntry q entry) (countOf q) i below (any-cong (isEntry q entry) (isEntry (enterPage page entry) entry) i (λ j k. same j (omega arith)) ∙ miss) (same i l ∙ hit) in
-        let made : ltb (equalTo q (countOf q) entry) (countOf q) ≡ true = rw at (lt-ltb i (countOf q) below) in
+  module _ (t : ℕ) (h : enter_answer page entry ≡ Made.At t) (q : List ℕ) (g : Grows (enter_page page entry) q) (fq : Formed q) where
+    found_at : (i : ℕ) → i < count_of (enter_page page entry) → any_to i (is_entry (enter_page page entry) entry) ≡ false
+        → is_entry (enter_page page entry) entry i ≡ true → fixed_max + i ≡ t → (enter_answer q entry ≡ Made.At t) × (enter_page q entry ≡ q)
+    unfolding enter_answer enter_page enter_verdict is_made
+    found_at i l miss hit n =
+        let same : (j : ℕ) → j < count_of (enter_page page entry) → is_entry q entry j ≡ is_entry (enter_page page entry) entry j =
+        λ j k. ap (λ (x : List ℕ). eqs x entry) (entry_grown (enter_page page entry) q enter_grows.1 g j k) in
+        let below : i < count_of q = omega (arith, g.more, l) in
+        let at : equal_to q (count_of q) entry ≡ i =
+        first_at (is_entry q entry) (count_of q) i below (any_cong (is_entry q entry) (is_entry (enter_page page entry) entry) i (λ j k. same j (omega arith)) ∙ miss) (same i l ∙ hit) in
+        let made : ltb (equal_to q (count_of q) entry) (count_of q) ≡ true = rw at (lt-ltb i (count_of q) below) in
         (rw (made, at) (ap Made.At n), rw made refl)
 
-    pub enter-again : (enterAnswer q entry ≡ Made.At t) × (enterPage q entry ≡ q)
-    enter-again = let z = entered-how t h in go z.0 z.1
+    pub enter_again : (enter_answer q entry ≡ Made.At t) × (enter_page q entry ≡ q)
+    enter_again = let z = entered_how t h in go z.0 z.1
       where
-        go : fixedMax + equalTo page (countOf page) entry ≡ t → Case → (enterAnswer q entry ≡ Made.At t) × (enterPage q entry ≡ q)
+        go : fixed_max + equal_to page (count_of page) entry ≡ t → Case → (enter_answer q entry ≡ Made.At t) × (enter_page q entry ≡ q)
         go n (there l p) =
-            let z = first-found (isEntry page entry) (countOf page) l in
-            found-at (equalTo page (countOf page) entry) (rw p l) (rw p z.0) (rw p z.1) n
+            let z = first_found (is_entry page entry) (count_of page) l in
+            found_at (equal_to page (count_of page) entry) (rw p l) (rw p z.0) (rw p z.1) n
         go n (fresh z p) =
-            let k : equalTo page (countOf page) entry ≡ countOf page = omega (arith, z.new, first-le (isEntry page entry) (countOf page)) in
+            let k : equal_to page (count_of page) entry ≡ count_of page = omega (arith, z.new, first_le (is_entry page entry) (count_of page)) in
             let miss =
-            any-cong (isEntry (enterPage page entry) entry) (isEntry page entry) (countOf page)
-            (λ j l. ap (λ (x : List ℕ). eqs x entry) (entry-grown page (enterPage page entry) f enter-grows.0 j l))
-            ∙ first-missed (isEntry page entry) (countOf page) z.new in
-            let hit : isEntry (enterPage page entry) entry (countOf page) ≡ true =
-            rw p (rw (with-entry page entry f e z.new z.flat z.few z.room) (eqs-refl entry)) in
-            found-at (countOf page) (rw (p, with-count page entry f e z.new z.flat z.few z.room) (omega arith)) miss hit (rw k at n)
+            any_cong (is_entry (enter_page page entry) entry) (is_entry page entry) (count_of page)
+            (λ j l. ap (λ (x : List ℕ). eqs x entry) (entry_grown page (enter_page page entry) f enter_grows.0 j l))
+            ∙ first_missed (is_entry page entry) (count_of page) z.new in
+            let hit : is_entry (enter_page page entry) entry (count_of page) ≡ true =
+            rw p (rw (with_entry_lem page entry f e z.new z.flat z.few z.room) (eqs_refl entry)) in
+            found_at (count_of page) (rw (p, with_count page entry f e z.new z.flat z.few z.room) (omega arith)) miss hit (rw k at n)

@@ -7,91 +7,91 @@ use native.Mathlib.Omega.{arith}
 use lib.Dec.{ltb, leb, T}
 use lib.ListN.{length, replicate}
 use borrow.Author.Tests.{lt-ltb, le-ltb, ltb-false, le-leb, leb-true, leb-false, not-false}
-use Rattle.refusals.specs.Lowest.{Condition, ◌when◌, lowest, unlessRefused}
+use Rattle.refusals.specs.Lowest.{Condition, ◌when◌, lowest, unless_refused}
 use Rattle.refusals.specs.declared.Refusal.{Refusal}
 use Rattle.refusals.specs.declared.Refusal.TheVariants.{Undefined, Broken, Unused, Width, Depth, Full}
 use Rattle.refusals.specs.declared.Verdict.TheVariants.{Passed, Refused}
-use Rattle.refusals.proofs.Lowest.{first-holds, passed-parts}
-use Rattle.pages.specs.Bytes.{within, countBytes, countOf}
-use Rattle.pages.proofs.Quant.{and-true}
-use Rattle.names.specs.Calls.{lentBroken, usedOf, isUsed}
-use Rattle.kinds.specs.Kinds.{fixedMax, childrenMax, kindLast, isNamed, isStored, fewest, most}
-use Rattle.types.specs.Store.{depthMax, equalTo, formed}
-use Rattle.types.specs.Types.{typesIn, Measured}
-use Rattle.types.specs.Making.{entryOf, Enterable, Ready, isMade, depthOf, roomy, withEntry, enterVerdict, enterAnswer, enterPage}
-use Rattle.types.specs.Calls.{storeBroken, emptyVerdict, emptyPage, allBelow, partsUsed, isNew, makeVerdict, makeAnswer, makePage}
+use Rattle.refusals.proofs.Lowest.{first_holds, passed_parts}
+use Rattle.pages.specs.Bytes.{within, count_bytes, count_of}
+use Rattle.pages.proofs.Quant.{and_true}
+use Rattle.names.specs.Calls.{lent_broken, used_of, is_used}
+use Rattle.kinds.specs.Kinds.{fixed_max, children_max, kind_last, is_named, is_stored, fewest, most}
+use Rattle.types.specs.Store.{depth_max, equal_to, formed}
+use Rattle.types.specs.Types.{types_in, Measured}
+use Rattle.types.specs.Making.{entry_of, Enterable, Ready, is_made, depth_of, roomy, with_entry, enter_verdict, enter_answer, enter_page}
+use Rattle.types.specs.Calls.{store_broken, empty_verdict, empty_page, all_below, parts_used, is_new, make_verdict, make_answer, make_page}
 use Rattle.types.specs.declared.Made.{Made}
-use Rattle.types.proofs.Types.{most-few}
-use Rattle.types.proofs.Making.{numbered-at}
-use Rattle.types.proofs.Again.{enter-used}
-use Rattle.types.proofs.Fresh.{zeros-formed}
-use Rattle.types.proofs.Entries.{entry-whole, entry-parts}
+use Rattle.types.proofs.Types.{most_few}
+use Rattle.types.proofs.Making.{numbered_at}
+use Rattle.types.proofs.Again.{enter_used}
+use Rattle.types.proofs.Fresh.{zeros_formed}
+use Rattle.types.proofs.Entries.{entry_whole, entry_parts}
 
 -- ---- making a store
 
 module _ (page : List ℕ) where
-  pub empty-short : length page < countBytes → (Refused Broken ≡ emptyVerdict page) × (page ≡ emptyPage page)
-  unfolding emptyVerdict emptyPage
-  empty-short h = (rw (lt-ltb (length page) countBytes h), rw (lt-ltb (length page) countBytes h))
+  pub empty_short : length page < count_bytes → (Refused Broken ≡ empty_verdict page) × (page ≡ empty_page page)
+  unfolding empty_verdict empty_page
+  empty_short h = (rw (lt-ltb (length page) count_bytes h), rw (lt-ltb (length page) count_bytes h))
 
-  pub empty-made : countBytes ≤ length page → (Passed ≡ emptyVerdict page) × (replicate (length page) 0 ≡ emptyPage page)
-  unfolding emptyVerdict emptyPage
-  empty-made h = (rw (le-ltb (length page) countBytes h), rw (le-ltb (length page) countBytes h))
+  pub empty_made : count_bytes ≤ length page → (Passed ≡ empty_verdict page) × (replicate (length page) 0 ≡ empty_page page)
+  unfolding empty_verdict empty_page
+  empty_made h = (rw (le-ltb (length page) count_bytes h), rw (le-ltb (length page) count_bytes h))
 
-  pub empty-formed : countBytes ≤ length page → (n : ℕ) → formed (emptyPage page) n ≡ true
-  empty-formed h n = rw (← (empty-made h).1) (zeros-formed (length page) n h)
+  pub empty_formed : count_bytes ≤ length page → (n : ℕ) → formed (empty_page page) n ≡ true
+  empty_formed h n = rw (← (empty_made h).1) (zeros_formed (length page) n h)
 
 -- ---- names and store
 
 module _ (page names : List ℕ) (lent : Bool) where
-  pub broken-names : lentBroken names lent ≡ true → storeBroken page names lent ≡ true
-  unfolding storeBroken
-  broken-names l = rw l
+  pub broken_names : lent_broken names lent ≡ true → store_broken page names lent ≡ true
+  unfolding store_broken
+  broken_names l = rw l
 
-  module _ (l : lentBroken names lent ≡ false) where
-    pub broken-store : formed page (usedOf names lent) ≡ false → storeBroken page names lent ≡ true
-    unfolding storeBroken
-    broken-store f = rw (l, f)
+  module _ (l : lent_broken names lent ≡ false) where
+    pub broken_store : formed page (used_of names lent) ≡ false → store_broken page names lent ≡ true
+    unfolding store_broken
+    broken_store f = rw (l, f)
 
-    pub unbroken : formed page (usedOf names lent) ≡ true → storeBroken page names lent ≡ false
-    unfolding storeBroken
+    pub unbroken : formed page (used_of names lent) ≡ true → store_broken page names lent ≡ false
+    unfolding store_broken
     unbroken f = rw (l, f)
 
   -- where neither breaks its form
   -- whether it is broken, once the names are not
-  pub broken-or-not : lentBroken names lent ≡ false → (n : ℕ) → n ≡ usedOf names lent → (r : Bool) → r ≡ formed page n → storeBroken page names lent ≡ not r
-  unfolding storeBroken
-  broken-or-not l n is r e = rw (l, ← is, e) refl
+  pub broken_or_not : lent_broken names lent ≡ false → (n : ℕ) → n ≡ used_of names lent → (r : Bool) → r ≡ formed page n → store_broken page names lent ≡ not r
+  unfolding store_broken
+  broken_or_not l n is r e = rw (l, ← is, e) refl
 
-  pub unbroken-both : storeBroken page names lent ≡ false → (lentBroken names lent ≡ false) × (formed page (usedOf names lent) ≡ true)
-  unfolding storeBroken
-  unbroken-both e = go (lentBroken names lent) refl
+  pub unbroken_both : store_broken page names lent ≡ false → (lent_broken names lent ≡ false) × (formed page (used_of names lent) ≡ true)
+  unfolding store_broken
+  unbroken_both e = go (lent_broken names lent) refl
     where
-      go : (b : Bool) → lentBroken names lent ≡ b → (b ≡ false) × (formed page (usedOf names lent) ≡ true)
+      go : (b : Bool) → lent_broken names lent ≡ b → (b ≡ false) × (formed page (used_of names lent) ≡ true)
       go true l = let z : ◌≡◌ {A = Bool} true false = rw l at e in absurd (subst T z tt)
-      go false l = (refl, not-false (formed page (usedOf names lent)) (rw l at e))
+      go false l = (refl, not-false (formed page (used_of names lent)) (rw l at e))
 
 -- ---- the parts of a type
 
 module _ (page : List ℕ) (n k : ℕ) (cs : List ℕ) (m : ℕ) where
-  pub parts-above : allBelow (typesIn page) cs ≡ false → false ≡ partsUsed page n k cs m
-  unfolding partsUsed
-  parts-above b = rw b
+  pub parts_above : all_below (types_in page) cs ≡ false → false ≡ parts_used page n k cs m
+  unfolding parts_used
+  parts_above b = rw b
 
-  module _ (b : allBelow (typesIn page) cs ≡ true) where
-    pub parts-named : isNamed k ≡ true → isUsed n m ≡ partsUsed page n k cs m
-    unfolding partsUsed
-    parts-named h = rw (b, h)
+  module _ (b : all_below (types_in page) cs ≡ true) where
+    pub parts_named : is_named k ≡ true → is_used n m ≡ parts_used page n k cs m
+    unfolding parts_used
+    parts_named h = rw (b, h)
 
-    pub parts-nameless : isNamed k ≡ false → true ≡ partsUsed page n k cs m
-    unfolding partsUsed
-    parts-nameless h = rw (b, h)
+    pub parts_nameless : is_named k ≡ false → true ≡ parts_used page n k cs m
+    unfolding parts_used
+    parts_nameless h = rw (b, h)
 
 -- ---- making a type
 
 -- a kind that no store holds is fixed
-unstored-fixed : (k : ℕ) → k ≤ kindLast → isStored k ≡ false → k < fixedMax
-unstored-fixed k l s = leb-false fixedMax k (go (leb fixedMax k) (rw (le-leb k kindLast l) at s))
+unstored_fixed : (k : ℕ) → k ≤ kind_last → is_stored k ≡ false → k < fixed_max
+unstored_fixed k l s = leb-false fixed_max k (go (leb fixed_max k) (rw (le-leb k kind_last l) at s))
   where
     go : (b : Bool) → (b && true) ≡ false → b ≡ false
     go true e = e
@@ -100,139 +100,139 @@ unstored-fixed k l s = leb-false fixedMax k (go (leb fixedMax k) (rw (le-leb k k
 module _ (page names : List ℕ) (lent : Bool) (k : ℕ) (cs : List ℕ) (m : ℕ) where
   -- what `make_type` promises
   abbrev Makes : Made → List ℕ → Type 0
-  Makes r after = (r ≡ makeAnswer page names lent k cs m) × (after ≡ makePage page names lent k cs m)
+  Makes r after = (r ≡ make_answer page names lent k cs m) × (after ≡ make_page page names lent k cs m)
 
   -- the conditions of depth and room, and those before them
   abbrev deep : List Condition
   deep =
-      (Depth when (isNew page k cs m && ltb depthMax (depthOf page (entryOf k cs m))))
-      ∷ (Full when (isNew page k cs m && not (roomy page (entryOf k cs m))))
+      (Depth when (is_new page k cs m && ltb depth_max (depth_of page (entry_of k cs m))))
+      ∷ (Full when (is_new page k cs m && not (roomy page (entry_of k cs m))))
       ∷ []
 
   abbrev wide : List Condition
   wide = (Width when not (within (fewest k) (most k) (length cs))) ∷ deep
 
   abbrev unused : List Condition
-  unused = (Unused when not (partsUsed page (usedOf names lent) k cs m)) ∷ wide
+  unused = (Unused when not (parts_used page (used_of names lent) k cs m)) ∷ wide
 
-  refused : (q : Refusal) → makeVerdict page names lent k cs m ≡ Refused q → Makes (Made.Refused q) page
-  unfolding makeAnswer makePage
+  refused : (q : Refusal) → make_verdict page names lent k cs m ≡ Refused q → Makes (Made.Refused q) page
+  unfolding make_answer make_page
   refused q v = (rw v, rw v)
 
-  pub make-undefined : kindLast < k → Makes (Made.Refused Undefined) page
-  unfolding makeVerdict
-  make-undefined h = refused Undefined (rw (lt-ltb kindLast k h) (first-holds Undefined ((Broken when storeBroken page names lent) ∷ unused) refl))
+  pub make_undefined : kind_last < k → Makes (Made.Refused Undefined) page
+  unfolding make_verdict
+  make_undefined h = refused Undefined (rw (lt-ltb kind_last k h) (first_holds Undefined ((Broken when store_broken page names lent) ∷ unused) refl))
 
-  module _ (d : k ≤ kindLast) where
-    broken : storeBroken page names lent ≡ true → Makes (Made.Refused Broken) page
-    unfolding makeVerdict
-    broken b = refused Broken (rw (le-ltb kindLast k d, b) (first-holds Broken unused refl))
+  module _ (d : k ≤ kind_last) where
+    broken : store_broken page names lent ≡ true → Makes (Made.Refused Broken) page
+    unfolding make_verdict
+    broken b = refused Broken (rw (le-ltb kind_last k d, b) (first_holds Broken unused refl))
 
-    pub make-unnamed : lentBroken names lent ≡ true → Makes (Made.Refused Broken) page
-    make-unnamed l = broken (broken-names page names lent l)
+    pub make_unnamed : lent_broken names lent ≡ true → Makes (Made.Refused Broken) page
+    make_unnamed l = broken (broken_names page names lent l)
 
-    module _ (l : lentBroken names lent ≡ false) (n : ℕ) (is : n ≡ usedOf names lent) where
-      pub make-unformed : formed page n ≡ false → Makes (Made.Refused Broken) page
-      make-unformed f = broken (broken-store page names lent l (rw (← is) f))
+    module _ (l : lent_broken names lent ≡ false) (n : ℕ) (is : n ≡ used_of names lent) where
+      pub make_unformed : formed page n ≡ false → Makes (Made.Refused Broken) page
+      make_unformed f = broken (broken_store page names lent l (rw (← is) f))
 
       module _ (f : formed page n ≡ true) where
-        sound : storeBroken page names lent ≡ false
+        sound : store_broken page names lent ≡ false
         sound = unbroken page names lent l (rw (← is) f)
 
-        pub make-unused : partsUsed page n k cs m ≡ false → Makes (Made.Refused Unused) page
-        unfolding makeVerdict
-        make-unused u = refused Unused (rw (le-ltb kindLast k d, sound, ← is, u) (first-holds Unused wide refl))
+        pub make_unused : parts_used page n k cs m ≡ false → Makes (Made.Refused Unused) page
+        unfolding make_verdict
+        make_unused u = refused Unused (rw (le-ltb kind_last k d, sound, ← is, u) (first_holds Unused wide refl))
 
-        module _ (u : partsUsed page n k cs m ≡ true) where
-          pub make-miscounted : within (fewest k) (most k) (length cs) ≡ false → Makes (Made.Refused Width) page
-          unfolding makeVerdict
-          make-miscounted w = refused Width (rw (le-ltb kindLast k d, sound, ← is, u, w) (first-holds Width deep refl))
+        module _ (u : parts_used page n k cs m ≡ true) where
+          pub make_miscounted : within (fewest k) (most k) (length cs) ≡ false → Makes (Made.Refused Width) page
+          unfolding make_verdict
+          make_miscounted w = refused Width (rw (le-ltb kind_last k d, sound, ← is, u, w) (first_holds Width deep refl))
 
           module _ (w : within (fewest k) (most k) (length cs) ≡ true) where
-            verdict-is : makeVerdict page names lent k cs m ≡ lowest deep
-            unfolding makeVerdict
-            verdict-is = rw (le-ltb kindLast k d, sound, ← is, u, w)
+            verdict_is : make_verdict page names lent k cs m ≡ lowest deep
+            unfolding make_verdict
+            verdict_is = rw (le-ltb kind_last k d, sound, ← is, u, w)
 
-            pub make-fixed : isStored k ≡ false → Makes (Made.At k) page
-            unfolding makeAnswer makePage isNew
-            make-fixed s =
-                let v : makeVerdict page names lent k cs m ≡ Passed = verdict-is ∙ rw s refl in
-                (rw (v, lt-ltb k fixedMax (unstored-fixed k d s)), rw (v, s))
+            pub make_fixed : is_stored k ≡ false → Makes (Made.At k) page
+            unfolding make_answer make_page is_new
+            make_fixed s =
+                let v : make_verdict page names lent k cs m ≡ Passed = verdict_is ∙ rw s refl in
+                (rw (v, lt-ltb k fixed_max (unstored_fixed k d s)), rw (v, s))
 
-            module _ (s : isStored k ≡ true) where
+            module _ (s : is_stored k ≡ true) where
               -- a kind that is stored is entered
-              new-is : isNew page k cs m ≡ not (isMade page (entryOf k cs m))
-              unfolding isNew
-              new-is = rw s
+              new_is : is_new page k cs m ≡ not (is_made page (entry_of k cs m))
+              unfolding is_new
+              new_is = rw s
 
-              entered : makeVerdict page names lent k cs m ≡ enterVerdict page (entryOf k cs m)
-              unfolding enterVerdict
-              entered = verdict-is ∙ rw new-is
+              entered : make_verdict page names lent k cs m ≡ enter_verdict page (entry_of k cs m)
+              unfolding enter_verdict
+              entered = verdict_is ∙ rw new_is
 
-              pub make-entered : Makes (enterAnswer page (entryOf k cs m)) (enterPage page (entryOf k cs m))
-              unfolding makeAnswer makePage enterAnswer enterPage
-              make-entered =
-                  let b : ltb k fixedMax ≡ false = le-ltb k fixedMax (leb-true fixedMax k (and-true (leb fixedMax k) (leb k kindLast) s).0) in (
+              pub make_entered : Makes (enter_answer page (entry_of k cs m)) (enter_page page (entry_of k cs m))
+              unfolding make_answer make_page enter_answer enter_page
+              make_entered =
+                  let b : ltb k fixed_max ≡ false = le-ltb k fixed_max (leb-true fixed_max k (and_true (leb fixed_max k) (leb k kind_last) s).0) in (
                     rw (entered, b),
-                    rw (entered, new-is) (ap (λ (x : List ℕ). unlessRefused (enterVerdict page (entryOf k cs m)) x page) (turned (isMade page (entryOf k cs m)))),
+                    rw (entered, new_is) (ap (λ (x : List ℕ). unless_refused (enter_verdict page (entry_of k cs m)) x page) (turned (is_made page (entry_of k cs m)))),
                   )
                 where
-                  turned : (b : Bool) → cond b page (withEntry page (entryOf k cs m)) ≡ cond (not b) (withEntry page (entryOf k cs m)) page
+                  turned : (b : Bool) → cond b page (with_entry page (entry_of k cs m)) ≡ cond (not b) (with_entry page (entry_of k cs m)) page
                   turned true = refl
                   turned false = refl
 
-              pub make-few : length cs ≤ childrenMax
-              make-few = omega (arith, leb-true (length cs) (most k) (and-true (leb (fewest k) (length cs)) (leb (length cs) (most k)) w).1, most-few k)
+              pub make_few : length cs ≤ children_max
+              make_few = omega (arith, leb-true (length cs) (most k) (and_true (leb (fewest k) (length cs)) (leb (length cs) (most k)) w).1, most_few k)
 
-              pub make-enterable : Enterable page (entryOf k cs m) (record { names = n; form = f })
-              unfolding partsUsed
-              make-enterable =
-                  let p = and-true (allBelow (typesIn page) cs) (not (isNamed k) || isUsed n m) u in
-                  record { whole = entry-whole k cs m; parts = entry-parts k cs m n (typesIn page) s p.0 p.1 w }
+              pub make_enterable : Enterable page (entry_of k cs m) (record { names = n; form = f })
+              unfolding parts_used
+              make_enterable =
+                  let p = and_true (all_below (types_in page) cs) (not (is_named k) || is_used n m) u in
+                  record { whole = entry_whole k cs m; parts = entry_parts k cs m n (types_in page) s p.0 p.1 w }
 
-              pub make-ready : (os ds : List ℕ) → Measured page os ds → Ready page os ds (entryOf k cs m)
-              make-ready os ds g = record {
+              pub make_ready : (os ds : List ℕ) → Measured page os ds → Ready page os ds (entry_of k cs m)
+              make_ready os ds g = record {
                 measured = record {
                   held = record { sound = record { names = n; form = f }; size = g.held.size; places = g.held.places };
                   size = g.size;
                   known = g.known;
                 };
-                enterable = make-enterable;
+                enterable = make_enterable;
               }
 
   -- a type that was made is there
-  pub made-is : (t : ℕ) → makeAnswer page names lent k cs m ≡ Made.At t → t < typesIn (makePage page names lent k cs m)
-  unfolding makeAnswer makeVerdict
-  made-is t at = go (isStored k) refl
+  pub made_is : (t : ℕ) → make_answer page names lent k cs m ≡ Made.At t → t < types_in (make_page page names lent k cs m)
+  unfolding make_answer make_verdict
+  made_is t at = go (is_stored k) refl
     where
-      v : (lowest ((Undefined when ltb kindLast k) ∷ (Broken when storeBroken page names lent) ∷ unused) ≡ Passed)
-          × (cond (ltb k fixedMax) k (fixedMax + equalTo page (countOf page) (entryOf k cs m)) ≡ t)
-      v = numbered-at (makeVerdict page names lent k cs m) (cond (ltb k fixedMax) k (fixedMax + equalTo page (countOf page) (entryOf k cs m))) t at
+      v : (lowest ((Undefined when ltb kind_last k) ∷ (Broken when store_broken page names lent) ∷ unused) ≡ Passed)
+          × (cond (ltb k fixed_max) k (fixed_max + equal_to page (count_of page) (entry_of k cs m)) ≡ t)
+      v = numbered_at (make_verdict page names lent k cs m) (cond (ltb k fixed_max) k (fixed_max + equal_to page (count_of page) (entry_of k cs m))) t at
 
-      d : (ltb kindLast k ≡ false) × (lowest ((Broken when storeBroken page names lent) ∷ unused) ≡ Passed)
-      d = passed-parts Undefined (ltb kindLast k) ((Broken when storeBroken page names lent) ∷ unused) v.0
+      d : (ltb kind_last k ≡ false) × (lowest ((Broken when store_broken page names lent) ∷ unused) ≡ Passed)
+      d = passed_parts Undefined (ltb kind_last k) ((Broken when store_broken page names lent) ∷ unused) v.0
 
-      b : (storeBroken page names lent ≡ false) × (lowest unused ≡ Passed)
-      b = passed-parts Broken (storeBroken page names lent) unused d.1
+      b : (store_broken page names lent ≡ false) × (lowest unused ≡ Passed)
+      b = passed_parts Broken (store_broken page names lent) unused d.1
 
-      u : (not (partsUsed page (usedOf names lent) k cs m) ≡ false) × (lowest wide ≡ Passed)
-      u = passed-parts Unused (not (partsUsed page (usedOf names lent) k cs m)) wide b.1
+      u : (not (parts_used page (used_of names lent) k cs m) ≡ false) × (lowest wide ≡ Passed)
+      u = passed_parts Unused (not (parts_used page (used_of names lent) k cs m)) wide b.1
 
       w : (not (within (fewest k) (most k) (length cs)) ≡ false) × (lowest deep ≡ Passed)
-      w = passed-parts Width (not (within (fewest k) (most k) (length cs))) deep u.1
+      w = passed_parts Width (not (within (fewest k) (most k) (length cs))) deep u.1
 
-      known : k ≤ kindLast
-      known = ltb-false kindLast k d.0
+      known : k ≤ kind_last
+      known = ltb-false kind_last k d.0
 
-      go : (x : Bool) → isStored k ≡ x → t < typesIn (makePage page names lent k cs m)
+      go : (x : Bool) → is_stored k ≡ x → t < types_in (make_page page names lent k cs m)
       go true s =
-          let z = unbroken-both page names lent b.0 in
-          let used = not-false (partsUsed page (usedOf names lent) k cs m) u.0 in
+          let z = unbroken_both page names lent b.0 in
+          let used = not-false (parts_used page (used_of names lent) k cs m) u.0 in
           let counted = not-false (within (fewest k) (most k) (length cs)) w.0 in
-          let r = make-entered known z.0 (usedOf names lent) refl z.1 used counted s in
-          let e = make-enterable known z.0 (usedOf names lent) refl z.1 used counted s in
-          rw (← r.1) (enter-used page (entryOf k cs m) (record { names = usedOf names lent; form = z.1 }) e t (r.0 ∙ at))
+          let r = make_entered known z.0 (used_of names lent) refl z.1 used counted s in
+          let e = make_enterable known z.0 (used_of names lent) refl z.1 used counted s in
+          rw (← r.1) (enter_used page (entry_of k cs m) (record { names = used_of names lent; form = z.1 }) e t (r.0 ∙ at))
       go false s =
-          let l = unstored-fixed k known s in
-          let q : k ≡ t = rw (lt-ltb k fixedMax l) at v.1 in
+          let l = unstored_fixed k known s in
+          let q : k ≡ t = rw (lt-ltb k fixed_max l) at v.1 in
           omega (arith, l, q)

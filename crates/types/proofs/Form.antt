@@ -9,102 +9,102 @@ use lib.Dec.{ltb, leb, eqb}
 use lib.ListN.{length, get_or, take}
 use lib.Seq.{get_or-take}
 use borrow.Author.Tests.{lt-ltb, ltb-true, le-leb, lt-leb, leb-true, eqb-true, ltb-false}
-use Rattle.pages.specs.Quant.{allTo}
+use Rattle.pages.specs.Quant.{all_to}
 use Rattle.pages.specs.Bytes.{within}
-use Rattle.pages.proofs.Quant.{and-true, all-none, all-each}
-use Rattle.names.specs.Calls.{isUsed}
-use Rattle.kinds.specs.Kinds.{fixedMax, isNamed, isStored, fewest, most}
-use Rattle.types.specs.Store.{depthMax, headBytes, childBytes, childrenAt, kindAt, childAt, nameAt, sizeAt, offset, depthIn, larger, deepest, depthAt, depths, isBelow, childrenBelow, partsAt, wholeAt, Reached}
-use Rattle.types.proofs.Store.{size-head, size-children, offset-next, child-below, depth-fixed, depth-entry}
+use Rattle.pages.proofs.Quant.{and_true, all_none, all_each}
+use Rattle.names.specs.Calls.{is_used}
+use Rattle.kinds.specs.Kinds.{fixed_max, is_named, is_stored, fewest, most}
+use Rattle.types.specs.Store.{depth_max, head_bytes, child_bytes, children_at, kind_at, child_at, name_at, size_at, offset, depth_in, larger, deepest, depth_at, depths, is_below, children_below, parts_at, whole_at, Reached}
+use Rattle.types.proofs.Store.{size_head, size_children, offset_next, child_below, depth_fixed, depth_entry}
 
 -- ---- an entry with its parts
 
 -- its children, if it has any, are below it and lie in it
-pub parts-children : (page : List ℕ) (n t o : ℕ) → partsAt page n t o ≡ true → (headBytes + childBytes * childrenAt page o ≤ sizeAt page o)
-    × (childrenBelow page o t ≡ true)
-unfolding partsAt
-parts-children page n t o h = go (isNamed (kindAt page o)) refl (and-true (isStored (kindAt page o)) _ h).1
+pub parts_children : (page : List ℕ) (n t o : ℕ) → parts_at page n t o ≡ true → (head_bytes + child_bytes * children_at page o ≤ size_at page o)
+    × (children_below page o t ≡ true)
+unfolding parts_at
+parts_children page n t o h = go (is_named (kind_at page o)) refl (and_true (is_stored (kind_at page o)) _ h).1
   where
-    go : (b : Bool) → isNamed (kindAt page o) ≡ b
-        → cond b (eqb (childrenAt page o) 0 && isUsed n (nameAt page o))
-        (within (fewest (kindAt page o)) (most (kindAt page o)) (childrenAt page o) && childrenBelow page o t) ≡ true
-        → (headBytes + childBytes * childrenAt page o ≤ sizeAt page o) × (childrenBelow page o t ≡ true)
+    go : (b : Bool) → is_named (kind_at page o) ≡ b
+        → cond b (eqb (children_at page o) 0 && is_used n (name_at page o))
+        (within (fewest (kind_at page o)) (most (kind_at page o)) (children_at page o) && children_below page o t) ≡ true
+        → (head_bytes + child_bytes * children_at page o ≤ size_at page o) × (children_below page o t ≡ true)
     go true e p =
-        let z : childrenAt page o ≡ 0 = eqb-true (childrenAt page o) 0 (and-true (eqb (childrenAt page o) 0) _ p).0 in
-        (omega (arith, z, size-head page o), ap (λ (k : ℕ). allTo k (isBelow page o t)) z ∙ all-none (isBelow page o t))
-    go false e p = (omega (arith, size-children page o e), (and-true (within (fewest (kindAt page o)) (most (kindAt page o)) (childrenAt page o)) _ p).1)
+        let z : children_at page o ≡ 0 = eqb-true (children_at page o) 0 (and_true (eqb (children_at page o) 0) _ p).0 in
+        (omega (arith, z, size_head page o), ap (λ (k : ℕ). all_to k (is_below page o t)) z ∙ all_none (is_below page o t))
+    go false e p = (omega (arith, size_children page o e), (and_true (within (fewest (kind_at page o)) (most (kind_at page o)) (children_at page o)) _ p).1)
 
 -- what is below t is below what is larger
-pub below-more : (page : List ℕ) (o t u : ℕ) → t ≤ u → childrenBelow page o t ≡ true → childrenBelow page o u ≡ true
-below-more page o t u h b =
-    all-each (childrenAt page o) (isBelow page o u)
-    (λ i l. lt-ltb (childAt page o i) u (lower i (child-below page o t i b l)))
+pub below_more : (page : List ℕ) (o t u : ℕ) → t ≤ u → children_below page o t ≡ true → children_below page o u ≡ true
+below_more page o t u h b =
+    all_each (children_at page o) (is_below page o u)
+    (λ i l. lt-ltb (child_at page o i) u (lower i (child_below page o t i b l)))
   where
-    lower : (i : ℕ) → childAt page o i < t → childAt page o i < u
+    lower : (i : ℕ) → child_at page o i < t → child_at page o i < u
     lower i k = omega arith
 
 -- ---- depths as far as they are known
 
 module _ (ds es : List ℕ) (j : ℕ) (known : take j ds ≡ es) where
-  pub depth-same : (t : ℕ) → t < fixedMax + j → depthIn ds t ≡ depthIn es t
-  depth-same t h = go (ltb t fixedMax) refl
+  pub depth_same : (t : ℕ) → t < fixed_max + j → depth_in ds t ≡ depth_in es t
+  depth_same t h = go (ltb t fixed_max) refl
     where
-      go : (b : Bool) → ltb t fixedMax ≡ b → depthIn ds t ≡ depthIn es t
-      go true e = let l = ltb-true t fixedMax e in sym (depth-fixed ds t l) ∙ depth-fixed es t l
+      go : (b : Bool) → ltb t fixed_max ≡ b → depth_in ds t ≡ depth_in es t
+      go true e = let l = ltb-true t fixed_max e in sym (depth_fixed ds t l) ∙ depth_fixed es t l
       go false e =
-          let l : fixedMax ≤ t = ltb-false t fixedMax e in
-          sym (depth-entry ds t l) ∙ sym (get_or-take j ds (t - fixedMax) 0 (omega arith)) ∙ ap (λ (x : List ℕ). get_or x (t - fixedMax) 0) known ∙ depth-entry es t l
+          let l : fixed_max ≤ t = ltb-false t fixed_max e in
+          sym (depth_entry ds t l) ∙ sym (get_or-take j ds (t - fixed_max) 0 (omega arith)) ∙ ap (λ (x : List ℕ). get_or x (t - fixed_max) 0) known ∙ depth_entry es t l
 
   module _ (page : List ℕ) (o : ℕ) where
-    deepest-same : (k : ℕ) → ((i : ℕ) → i < k → childAt page o i < fixedMax + j) → deepest page ds o k ≡ deepest page es o k
+    deepest_same : (k : ℕ) → ((i : ℕ) → i < k → child_at page o i < fixed_max + j) → deepest page ds o k ≡ deepest page es o k
     unfolding deepest
-    deepest-same zero h = refl
-    deepest-same (suc k) h = ap₂ larger (deepest-same k (λ i l. h i (omega arith))) (depth-same (childAt page o k) (h k (omega arith)))
+    deepest_same zero h = refl
+    deepest_same (suc k) h = ap₂ larger (deepest_same k (λ i l. h i (omega arith))) (depth_same (child_at page o k) (h k (omega arith)))
 
-    pub depth-known : childrenBelow page o (fixedMax + j) ≡ true → depthAt page ds o ≡ depthAt page es o
-    depth-known b = ap suc (deepest-same (childrenAt page o) (λ i l. child-below page o (fixedMax + j) i b l))
+    pub depth_known : children_below page o (fixed_max + j) ≡ true → depth_at page ds o ≡ depth_at page es o
+    depth_known b = ap suc (deepest_same (children_at page o) (λ i l. child_below page o (fixed_max + j) i b l))
 
 module _ (page ds : List ℕ) (j o : ℕ) (r : Reached page ds j o) where
-  module _ (n : ℕ) (p : partsAt page n (fixedMax + j) o ≡ true) where
-    below : childrenBelow page o (fixedMax + j) ≡ true
-    below = (parts-children page n (fixedMax + j) o p).1
+  module _ (n : ℕ) (p : parts_at page n (fixed_max + j) o ≡ true) where
+    below : children_below page o (fixed_max + j) ≡ true
+    below = (parts_children page n (fixed_max + j) o p).1
 
-    pub depth-is : depthAt page ds o ≡ depthAt page (depths page j) o
-    depth-is = depth-known ds (depths page j) j r.known page o below
+    pub depth_is : depth_at page ds o ≡ depth_at page (depths page j) o
+    depth_is = depth_known ds (depths page j) j r.known page o below
 
     -- what its depth asks for
-    pub depth-asks : o + sizeAt page o ≤ length page → (o + headBytes ≤ length page) × (o + headBytes + childBytes * childrenAt page o ≤ length page)
-        × (childrenBelow page o (fixedMax + length ds) ≡ true)
-    depth-asks l = (
-      omega (arith, l, size-head page o),
-      omega (arith, l, (parts-children page n (fixedMax + j) o p).0),
-      below-more page o (fixedMax + j) (fixedMax + length ds) (omega (arith, r.few, r.size)) below,
+    pub depth_asks : o + size_at page o ≤ length page → (o + head_bytes ≤ length page) × (o + head_bytes + child_bytes * children_at page o ≤ length page)
+        × (children_below page o (fixed_max + length ds) ≡ true)
+    depth_asks l = (
+      omega (arith, l, size_head page o),
+      omega (arith, l, (parts_children page n (fixed_max + j) o p).0),
+      below_more page o (fixed_max + j) (fixed_max + length ds) (omega (arith, r.few, r.size)) below,
     )
 
   -- ---- entry j
 
   module _ (n : ℕ) where
-    next : offset page (suc j) ≡ o + sizeAt page o
-    next = rw r.at (rw (add-one j) at (sym (offset-next page j)))
+    next : offset page (suc j) ≡ o + size_at page o
+    next = rw r.at (rw (add-one j) at (sym (offset_next page j)))
 
-    pub whole-cut : length page < o + sizeAt page o → false ≡ wholeAt page n j
-    whole-cut h = rw (next, lt-leb (o + sizeAt page o) (length page) h)
+    pub whole_cut : length page < o + size_at page o → false ≡ whole_at page n j
+    whole_cut h = rw (next, lt-leb (o + size_at page o) (length page) h)
 
-    pub whole-headless : length page < o + headBytes → false ≡ wholeAt page n j
-    whole-headless h = whole-cut (omega (arith, size-head page o))
+    pub whole_headless : length page < o + head_bytes → false ≡ whole_at page n j
+    whole_headless h = whole_cut (omega (arith, size_head page o))
 
-    module _ (l : o + sizeAt page o ≤ length page) where
-      pub whole-partless : partsAt page n (fixedMax + j) o ≡ false → false ≡ wholeAt page n j
-      whole-partless p = rw (next, le-leb (o + sizeAt page o) (length page) l, ← r.at, p)
+    module _ (l : o + size_at page o ≤ length page) where
+      pub whole_partless : parts_at page n (fixed_max + j) o ≡ false → false ≡ whole_at page n j
+      whole_partless p = rw (next, le-leb (o + size_at page o) (length page) l, ← r.at, p)
 
-      pub whole-rest : partsAt page n (fixedMax + j) o ≡ true → leb (depthAt page ds o) depthMax ≡ wholeAt page n j
-      whole-rest p = rw (next, le-leb (o + sizeAt page o) (length page) l, ← r.at, p, depth-is n p)
+      pub whole_rest : parts_at page n (fixed_max + j) o ≡ true → leb (depth_at page ds o) depth_max ≡ whole_at page n j
+      whole_rest p = rw (next, le-leb (o + size_at page o) (length page) l, ← r.at, p, depth_is n p)
 
     -- what a whole entry has
-    pub whole-parts : wholeAt page n j ≡ true → (o + sizeAt page o ≤ length page) × (partsAt page n (fixedMax + j) o ≡ true) × (depthAt page ds o ≤ depthMax)
-    whole-parts h =
-        let a = and-true (leb (offset page (suc j)) (length page)) _ h in
-        let b = and-true (partsAt page n (fixedMax + j) (offset page j)) _ a.1 in
-        let p : partsAt page n (fixedMax + j) o ≡ true = rw r.at b.0 in
-        let e : depthAt page (depths page j) o ≤ depthMax = rw r.at (leb-true (depthAt page (depths page j) (offset page j)) depthMax b.1) in
-        (rw next at (leb-true (offset page (suc j)) (length page) a.0), p, rw (depth-is n p) e)
+    pub whole_parts : whole_at page n j ≡ true → (o + size_at page o ≤ length page) × (parts_at page n (fixed_max + j) o ≡ true) × (depth_at page ds o ≤ depth_max)
+    whole_parts h =
+        let a = and_true (leb (offset page (suc j)) (length page)) _ h in
+        let b = and_true (parts_at page n (fixed_max + j) (offset page j)) _ a.1 in
+        let p : parts_at page n (fixed_max + j) o ≡ true = rw r.at b.0 in
+        let e : depth_at page (depths page j) o ≤ depth_max = rw r.at (leb-true (depth_at page (depths page j) (offset page j)) depth_max b.1) in
+        (rw next at (leb-true (offset page (suc j)) (length page) a.0), p, rw (depth_is n p) e)

@@ -12,69 +12,69 @@ use Rattle.refusals.specs.Lowest.{◌when◌}
 use Rattle.refusals.specs.declared.Refusal.{Refusal}
 use Rattle.refusals.specs.declared.Refusal.TheVariants.{Broken, Unused}
 use Rattle.refusals.specs.declared.Verdict.TheVariants.{Passed, Refused}
-use Rattle.refusals.proofs.Lowest.{first-holds}
-use Rattle.pages.specs.Bytes.{countOf}
+use Rattle.refusals.proofs.Lowest.{first_holds}
+use Rattle.pages.specs.Bytes.{count_of}
 use Rattle.pages.specs.Pad.{pad}
-use Rattle.pages.proofs.Pad.{pad-more, pad-none, length-pad}
-use Rattle.names.specs.Calls.{lentBroken, usedOf}
-use Rattle.kinds.specs.Kinds.{fixedMax, childrenMax}
-use Rattle.types.specs.Store.{depthIn, depths, formed}
-use Rattle.types.specs.Types.{typesIn, kindOf, arity, Measured}
-use Rattle.types.specs.Calls.{storeBroken, listTo, typeAt, readVerdict, shown, readAnswer}
+use Rattle.pages.proofs.Pad.{pad_more, pad_none, length_pad}
+use Rattle.names.specs.Calls.{lent_broken, used_of}
+use Rattle.kinds.specs.Kinds.{fixed_max, children_max}
+use Rattle.types.specs.Store.{depth_in, depths, formed}
+use Rattle.types.specs.Types.{types_in, kind_of, arity, Measured}
+use Rattle.types.specs.Calls.{store_broken, list_to, type_at, read_verdict, shown, read_answer}
 use Rattle.types.specs.declared.Shape.{Shape}
-use Rattle.types.proofs.Form.{depth-same}
-use Rattle.types.proofs.Tables.{list-length}
+use Rattle.types.proofs.Form.{depth_same}
+use Rattle.types.proofs.Tables.{list_length}
 use Rattle.types.proofs.Types.{whole}
-use Rattle.types.proofs.Calls.{broken-names, broken-store, unbroken}
+use Rattle.types.proofs.Calls.{broken_names, broken_store, unbroken}
 
 -- ---- numbers of types, one after another in n places
 
 module _ (n : ℕ) (f : ℕ → ℕ) where
-  pub numbers-none : replicate n 0 ≡ pad n 0 (listTo 0 f)
-  numbers-none = sym (pad-none n)
+  pub numbers_none : replicate n 0 ≡ pad n 0 (list_to 0 f)
+  numbers_none = sym (pad_none n)
 
-  pub numbers-places : (l : List ℕ) (i : ℕ) → l ≡ pad n 0 (listTo i f) → length l ≡ n
-  numbers-places l i e = ap length e ∙ length-pad n 0 (listTo i f)
+  pub numbers_places : (l : List ℕ) (i : ℕ) → l ≡ pad n 0 (list_to i f) → length l ≡ n
+  numbers_places l i e = ap length e ∙ length_pad n 0 (list_to i f)
 
-  pub numbers-more : (i : ℕ) → i < n → set (pad n 0 (listTo i f)) i (f i) ≡ pad n 0 (listTo (i + 1) f)
-  numbers-more i h =
-      let e : length (listTo i f) ≡ i = list-length i f in
-      rw (add-one i) (rw e at (pad-more n 0 (listTo i f) (f i) (rw e h)))
+  pub numbers_more : (i : ℕ) → i < n → set (pad n 0 (list_to i f)) i (f i) ≡ pad n 0 (list_to (i + 1) f)
+  numbers_more i h =
+      let e : length (list_to i f) ≡ i = list_length i f in
+      rw (add-one i) (rw e at (pad_more n 0 (list_to i f) (f i) (rw e h)))
 
 -- ---- a type
 
-module _ (page os ds : List ℕ) (g : Measured page os ds) (t : ℕ) (u : t < typesIn page) where
-  pub depth-read : depthIn ds t ≡ depthIn (depths page (countOf page)) t
-  depth-read = depth-same ds (depths page (countOf page)) (countOf page) g.known t u
+module _ (page os ds : List ℕ) (g : Measured page os ds) (t : ℕ) (u : t < types_in page) where
+  pub depth_read : depth_in ds t ≡ depth_in (depths page (count_of page)) t
+  depth_read = depth_same ds (depths page (count_of page)) (count_of page) g.known t u
 
-  pub depth-there : t < fixedMax + length ds
-  depth-there = omega (arith, u, g.size, (whole page g.held.sound.names g.held.sound.form).few)
+  pub depth_there : t < fixed_max + length ds
+  depth_there = omega (arith, u, g.size, (whole page g.held.sound.names g.held.sound.form).few)
 
 -- Null, in every page
-pub null-is : (page : List ℕ) (r : Refusal)
-    → record { verdict = Refused r; shape = record { kind = 0; depth = 1; count = 0; children = replicate childrenMax 0; name = 0 } } ≡ shown (Refused r) page 0
-unfolding typeAt kindOf arity depthIn
-null-is page r = rw (pad-none childrenMax) refl
+pub null_is : (page : List ℕ) (r : Refusal)
+    → record { verdict = Refused r; shape = record { kind = 0; depth = 1; count = 0; children = replicate children_max 0; name = 0 } } ≡ shown (Refused r) page 0
+unfolding type_at kind_of arity depth_in
+null_is page r = rw (pad_none children_max) refl
 
 -- ---- the call
 
 module _ (page names : List ℕ) (lent : Bool) (t : ℕ) where
-  broken : storeBroken page names lent ≡ true → shown (Refused Broken) page 0 ≡ readAnswer page names lent t
-  unfolding readAnswer readVerdict
-  broken b = rw (b, first-holds Broken ((Unused when not (ltb t (typesIn page))) ∷ []) refl)
+  broken : store_broken page names lent ≡ true → shown (Refused Broken) page 0 ≡ read_answer page names lent t
+  unfolding read_answer read_verdict
+  broken b = rw (b, first_holds Broken ((Unused when not (ltb t (types_in page))) ∷ []) refl)
 
-  pub read-unnamed : lentBroken names lent ≡ true → shown (Refused Broken) page 0 ≡ readAnswer page names lent t
-  read-unnamed l = broken (broken-names page names lent l)
+  pub read_unnamed : lent_broken names lent ≡ true → shown (Refused Broken) page 0 ≡ read_answer page names lent t
+  read_unnamed l = broken (broken_names page names lent l)
 
-  module _ (l : lentBroken names lent ≡ false) (n : ℕ) (is : n ≡ usedOf names lent) where
-    pub read-unformed : formed page n ≡ false → shown (Refused Broken) page 0 ≡ readAnswer page names lent t
-    read-unformed f = broken (broken-store page names lent l (rw (← is) f))
+  module _ (l : lent_broken names lent ≡ false) (n : ℕ) (is : n ≡ used_of names lent) where
+    pub read_unformed : formed page n ≡ false → shown (Refused Broken) page 0 ≡ read_answer page names lent t
+    read_unformed f = broken (broken_store page names lent l (rw (← is) f))
 
     module _ (f : formed page n ≡ true) where
-      pub read-unused : typesIn page ≤ t → shown (Refused Unused) page 0 ≡ readAnswer page names lent t
-      unfolding readAnswer readVerdict
-      read-unused h = rw (unbroken page names lent l (rw (← is) f), le-ltb t (typesIn page) h)
+      pub read_unused : types_in page ≤ t → shown (Refused Unused) page 0 ≡ read_answer page names lent t
+      unfolding read_answer read_verdict
+      read_unused h = rw (unbroken page names lent l (rw (← is) f), le-ltb t (types_in page) h)
 
-      pub read-given : t < typesIn page → (s : Shape) → s ≡ typeAt page t → record { verdict = Passed; shape = s } ≡ readAnswer page names lent t
-      unfolding readAnswer readVerdict
-      read-given h s e = rw (unbroken page names lent l (rw (← is) f), lt-ltb t (typesIn page) h, e)
+      pub read_given : t < types_in page → (s : Shape) → s ≡ type_at page t → record { verdict = Passed; shape = s } ≡ read_answer page names lent t
+      unfolding read_answer read_verdict
+      read_given h s e = rw (unbroken page names lent l (rw (← is) f), lt-ltb t (types_in page) h, e)

@@ -8,30 +8,30 @@ use borrow.Author.Tests.{lt-ltb, le-ltb, ltb-true, ltb-false}
 use lib.Dec.{ltb}
 use Rattle.types.specs.Recur.{below, run, cov}
 
-pub below-lt : {R : Type 0} (d : R) (n : ℕ) (answers : ℕ → R) (c : ℕ) → c < n → below d n answers c ≡ answers c
+pub below_lt : {R : Type 0} (d : R) (n : ℕ) (answers : ℕ → R) (c : ℕ) → c < n → below d n answers c ≡ answers c
 unfolding below
-below-lt d n answers c h = rw (lt-ltb c n h) refl
+below_lt d n answers c h = rw (lt-ltb c n h) refl
 
-below-ge : {R : Type 0} (d : R) (n : ℕ) (answers : ℕ → R) (c : ℕ) → n ≤ c → below d n answers c ≡ d
+below_ge : {R : Type 0} (d : R) (n : ℕ) (answers : ℕ → R) (c : ℕ) → n ≤ c → below d n answers c ≡ d
 unfolding below
-below-ge d n answers c h = rw (le-ltb c n h) refl
+below_ge d n answers c h = rw (le-ltb c n h) refl
 
-below-same : {R : Type 0} (d : R) (n : ℕ) (p q : ℕ → R) → ((c : ℕ) → c < n → p c ≡ q c) → (c : ℕ) → below d n p c ≡ below d n q c
-below-same d n p q h c = go (ltb c n) refl
+below_same : {R : Type 0} (d : R) (n : ℕ) (p q : ℕ → R) → ((c : ℕ) → c < n → p c ≡ q c) → (c : ℕ) → below d n p c ≡ below d n q c
+below_same d n p q h c = go (ltb c n) refl
   where
     go : (b : Bool) → ltb c n ≡ b → below d n p c ≡ below d n q c
-    go true e = let l = ltb-true c n e in rw (below-lt d n p c l, below-lt d n q c l) (h c l)
-    go false e = let l = ltb-false c n e in rw (below-ge d n p c l, below-ge d n q c l) refl
+    go true e = let l = ltb-true c n e in rw (below_lt d n p c l, below_lt d n q c l) (h c l)
+    go false e = let l = ltb-false c n e in rw (below_ge d n p c l, below_ge d n q c l) refl
 
 -- enough steps are enough
-run-same : {R : Type 0} (d : R) (step : ℕ → (ℕ → R) → R) (f g n : ℕ) → n < f → n < g → run d step f n ≡ run d step g n
+run_same : {R : Type 0} (d : R) (step : ℕ → (ℕ → R) → R) (f g n : ℕ) → n < f → n < g → run d step f n ≡ run d step g n
 unfolding run
-run-same d step zero g n hf hg = absurd (not-suc-le-zero hf)
-run-same d step (suc f) zero n hf hg = absurd (not-suc-le-zero hg)
-run-same d step (suc f) (suc g) n hf hg =
-    ap (step n) (fun_ext (below-same d n (run d step f) (run d step g) (λ c h. run-same d step f g c (omega arith) (omega arith))))
+run_same d step zero g n hf hg = absurd (not-suc-le-zero hf)
+run_same d step (suc f) zero n hf hg = absurd (not-suc-le-zero hg)
+run_same d step (suc f) (suc g) n hf hg =
+    ap (step n) (fun_ext (below_same d n (run d step f) (run d step g) (λ c h. run_same d step f g c (omega arith) (omega arith))))
 
-pub cov-eq : {R : Type 0} (d : R) (step : ℕ → (ℕ → R) → R) (n : ℕ) → cov d step n ≡ step n (below d n (cov d step))
+pub cov_eq : {R : Type 0} (d : R) (step : ℕ → (ℕ → R) → R) (n : ℕ) → cov d step n ≡ step n (below d n (cov d step))
 unfolding cov run
-cov-eq d step n =
-    ap (step n) (fun_ext (below-same d n (run d step n) (λ c. run d step (suc c) c) (λ c h. run-same d step n (suc c) c h (omega arith))))
+cov_eq d step n =
+    ap (step n) (fun_ext (below_same d n (run d step n) (λ c. run d step (suc c) c) (λ c h. run_same d step n (suc c) c h (omega arith))))

@@ -1,121 +1,137 @@
 -- The store, entry by entry: one law for each return. Assumes nothing.
 use mathlib.Core.Path.{◌≡◌, refl, ap}
-use mathlib.Core.Bool.{Bool, true, false, cond}
+use mathlib.Core.Bool.{Bool, true, false, ◌&&◌, cond}
 use mathlib.Core.List.{List}
 use Prim.Native.Nat.{ℕ, zero, suc, ◌+◌, ◌-◌, ◌*◌, ◌<◌, ◌≤◌}
 use native.Mathlib.Numerals.{add-one}
 use native.Mathlib.Omega.{arith}
-use lib.Dec.{ltb}
-use lib.ListN.{get_or, take, drop}
+use lib.Dec.{ltb, leb}
+use lib.ListN.{length, get_or, take, drop}
 use borrow.Author.Tests.{lt-ltb, le-ltb, ltb-true, le-leb, lt-leb, eq-eqb, ne_eqb}
-use Rattle.pages.specs.Bytes.{countBytes}
-use Rattle.pages.proofs.Quant.{all-at}
-use Rattle.names.specs.Calls.{isUsed}
-use Rattle.kinds.specs.Kinds.{fixedMax, isNamed, isStored, fewest, most}
-use Rattle.types.specs.Store.{headBytes, childBytes, nameBytes, childrenAt, kindAt, childAt, nameAt, sizeAt, entryAt, offset, depthIn, larger, deepest, isBelow, childrenBelow, partsAt}
+use Rattle.pages.specs.Bytes.{count_bytes}
+use Rattle.pages.proofs.Quant.{all_at}
+use Rattle.names.specs.Calls.{is_used}
+use Rattle.kinds.specs.Kinds.{fixed_max, is_named, is_stored, fewest, most}
+use Rattle.types.specs.Store.{head_bytes, child_bytes, name_bytes, children_at, kind_at, child_at, name_at, size_at, entry_at, offset, depth_in, larger, deepest, depth_max, depth_at, depths, is_below, children_below, parts_at, equal_to, good_at, whole_at, new_at}
 
 -- ---- sizes
 
 module _ (page : List ℕ) (o : ℕ) where
-  pub size-named : isNamed (kindAt page o) ≡ true → headBytes + nameBytes ≡ sizeAt page o
-  unfolding sizeAt
-  size-named h = rw h
+  pub size_named : is_named (kind_at page o) ≡ true → head_bytes + name_bytes ≡ size_at page o
+  unfolding size_at
+  size_named h = rw h
 
-  pub size-children : isNamed (kindAt page o) ≡ false → headBytes + childBytes * childrenAt page o ≡ sizeAt page o
-  unfolding sizeAt
-  size-children h = rw h
+  pub size_children : is_named (kind_at page o) ≡ false → head_bytes + child_bytes * children_at page o ≡ size_at page o
+  unfolding size_at
+  size_children h = rw h
 
-  pub size-head : headBytes ≤ sizeAt page o
-  unfolding sizeAt
-  size-head = omega arith
+  pub size_head : head_bytes ≤ size_at page o
+  unfolding size_at
+  size_head = omega arith
 
 -- ---- offsets
 
-pub offset-next : (page : List ℕ) (j : ℕ) → offset page j + sizeAt page (offset page j) ≡ offset page (j + 1)
+pub offset_next : (page : List ℕ) (j : ℕ) → offset page j + size_at page (offset page j) ≡ offset page (j + 1)
 unfolding offset
-offset-next page j = rw (add-one j)
+offset_next page j = rw (add-one j)
 
 -- entries begin one after another
-offset-up : (page : List ℕ) (i k : ℕ) → offset page i ≤ offset page (i + k)
+offset_up : (page : List ℕ) (i k : ℕ) → offset page i ≤ offset page (i + k)
 unfolding offset
-offset-up page i zero = let e : i + 0 ≡ i = omega arith in rw e (omega arith)
-offset-up page i (suc k) = let e : i + suc k ≡ suc (i + k) = omega arith in rw e (omega (arith, offset-up page i k))
+offset_up page i zero = let e : i + 0 ≡ i = omega arith in rw e (omega arith)
+offset_up page i (suc k) = let e : i + suc k ≡ suc (i + k) = omega arith in rw e (omega (arith, offset_up page i k))
 
-pub offset-le : (page : List ℕ) (i j : ℕ) → i ≤ j → offset page i ≤ offset page j
-offset-le page i j h = let e : i + (j - i) ≡ j = omega arith in rw e at (offset-up page i (j - i))
+pub offset_le : (page : List ℕ) (i j : ℕ) → i ≤ j → offset page i ≤ offset page j
+offset_le page i j h = let e : i + (j - i) ≡ j = omega arith in rw e at (offset_up page i (j - i))
 
 -- an entry before the end lies before it
-pub offset-in : (page : List ℕ) (i j n : ℕ) → i < j → offset page j ≤ n → offset page i + sizeAt page (offset page i) ≤ n
-offset-in page i j n h l = omega (arith, offset-next page i, offset-le page (i + 1) j (omega arith))
+pub offset_in : (page : List ℕ) (i j n : ℕ) → i < j → offset page j ≤ n → offset page i + size_at page (offset page i) ≤ n
+offset_in page i j n h l = omega (arith, offset_next page i, offset_le page (i + 1) j (omega arith))
 
 -- ---- the parts of an entry
 
 module _ (page : List ℕ) (n t o : ℕ) where
-  pub parts-unstored : isStored (kindAt page o) ≡ false → false ≡ partsAt page n t o
-  unfolding partsAt
-  parts-unstored h = rw h
+  pub parts_unstored : is_stored (kind_at page o) ≡ false → false ≡ parts_at page n t o
+  unfolding parts_at
+  parts_unstored h = rw h
 
-  module _ (s : isStored (kindAt page o) ≡ true) where
-    module _ (m : isNamed (kindAt page o) ≡ true) where
-      pub parts-childful : (childrenAt page o ≡ 0 → ⊥) → false ≡ partsAt page n t o
-      unfolding partsAt
-      parts-childful h = rw (s, m, ne_eqb (childrenAt page o) 0 h)
+  module _ (s : is_stored (kind_at page o) ≡ true) where
+    module _ (m : is_named (kind_at page o) ≡ true) where
+      pub parts_childful : (children_at page o ≡ 0 → ⊥) → false ≡ parts_at page n t o
+      unfolding parts_at
+      parts_childful h = rw (s, m, ne_eqb (children_at page o) 0 h)
 
-      pub parts-name : childrenAt page o ≡ 0 → isUsed n (nameAt page o) ≡ partsAt page n t o
-      unfolding partsAt
-      parts-name h = rw (s, m, eq-eqb (childrenAt page o) 0 h)
+      pub parts_name : children_at page o ≡ 0 → is_used n (name_at page o) ≡ parts_at page n t o
+      unfolding parts_at
+      parts_name h = rw (s, m, eq-eqb (children_at page o) 0 h)
 
-    module _ (m : isNamed (kindAt page o) ≡ false) where
-      pub parts-few : childrenAt page o < fewest (kindAt page o) → false ≡ partsAt page n t o
-      unfolding partsAt
-      parts-few h = rw (s, m, lt-leb (fewest (kindAt page o)) (childrenAt page o) h)
+    module _ (m : is_named (kind_at page o) ≡ false) where
+      pub parts_few : children_at page o < fewest (kind_at page o) → false ≡ parts_at page n t o
+      unfolding parts_at
+      parts_few h = rw (s, m, lt-leb (fewest (kind_at page o)) (children_at page o) h)
 
-      module _ (l : fewest (kindAt page o) ≤ childrenAt page o) where
-        pub parts-many : most (kindAt page o) < childrenAt page o → false ≡ partsAt page n t o
-        unfolding partsAt
-        parts-many h = rw (s, m, le-leb (fewest (kindAt page o)) (childrenAt page o) l, lt-leb (childrenAt page o) (most (kindAt page o)) h)
+      module _ (l : fewest (kind_at page o) ≤ children_at page o) where
+        pub parts_many : most (kind_at page o) < children_at page o → false ≡ parts_at page n t o
+        unfolding parts_at
+        parts_many h = rw (s, m, le-leb (fewest (kind_at page o)) (children_at page o) l, lt-leb (children_at page o) (most (kind_at page o)) h)
 
-        pub parts-rest : childrenAt page o ≤ most (kindAt page o) → childrenBelow page o t ≡ partsAt page n t o
-        unfolding partsAt
-        parts-rest h = rw (s, m, le-leb (fewest (kindAt page o)) (childrenAt page o) l, le-leb (childrenAt page o) (most (kindAt page o)) h)
+        pub parts_rest : children_at page o ≤ most (kind_at page o) → children_below page o t ≡ parts_at page n t o
+        unfolding parts_at
+        parts_rest h = rw (s, m, le-leb (fewest (kind_at page o)) (children_at page o) l, le-leb (children_at page o) (most (kind_at page o)) h)
 
 -- ---- depth
 
 module _ (ds : List ℕ) (t : ℕ) where
-  pub depth-fixed : t < fixedMax → 1 ≡ depthIn ds t
-  unfolding depthIn
-  depth-fixed h = rw (lt-ltb t fixedMax h)
+  pub depth_fixed : t < fixed_max → 1 ≡ depth_in ds t
+  unfolding depth_in
+  depth_fixed h = rw (lt-ltb t fixed_max h)
 
-  pub depth-entry : fixedMax ≤ t → get_or ds (t - fixedMax) 0 ≡ depthIn ds t
-  unfolding depthIn
-  depth-entry h = rw (le-ltb t fixedMax h)
+  pub depth_entry : fixed_max ≤ t → get_or ds (t - fixed_max) 0 ≡ depth_in ds t
+  unfolding depth_in
+  depth_entry h = rw (le-ltb t fixed_max h)
 
-pub deepest-none : (page ds : List ℕ) (o : ℕ) → 0 ≡ deepest page ds o 0
+pub deepest_none : (page ds : List ℕ) (o : ℕ) → 0 ≡ deepest page ds o 0
 unfolding deepest
-deepest-none page ds o = refl
+deepest_none page ds o = refl
 
-pub deepest-next : (page ds : List ℕ) (o i : ℕ) → larger (deepest page ds o i) (depthIn ds (childAt page o i)) ≡ deepest page ds o (i + 1)
+pub deepest_next : (page ds : List ℕ) (o i : ℕ) → larger (deepest page ds o i) (depth_in ds (child_at page o i)) ≡ deepest page ds o (i + 1)
 unfolding deepest
-deepest-next page ds o i = rw (add-one i)
+deepest_next page ds o i = rw (add-one i)
 
-pub larger-most : (a b n : ℕ) → a < n → b < n → larger a b < n
-larger-most a b n h k = go (ltb a b)
+pub larger_most : (a b n : ℕ) → a < n → b < n → larger a b < n
+larger_most a b n h k = go (ltb a b)
   where
     go : (x : Bool) → cond x b a < n
     go true = k
     go false = h
 
 -- a child of an entry whose children are below t is
-pub child-below : (page : List ℕ) (o t i : ℕ) → childrenBelow page o t ≡ true → i < childrenAt page o → childAt page o i < t
-child-below page o t i h l = ltb-true (childAt page o i) t (all-at (isBelow page o t) (childrenAt page o) i h l)
+pub child_below : (page : List ℕ) (o t i : ℕ) → children_below page o t ≡ true → i < children_at page o → child_at page o i < t
+child_below page o t i h l = ltb-true (child_at page o i) t (all_at (is_below page o t) (children_at page o) i h l)
 
 -- ---- entries as parts of the page
 
-pub offset-start : (page : List ℕ) → countBytes ≡ offset page 0
+pub offset_start : (page : List ℕ) → count_bytes ≡ offset page 0
 unfolding offset
-offset-start page = refl
+offset_start page = refl
 
-pub entry-part : (page : List ℕ) (at next : ℕ) → next ≡ at + sizeAt page at → take (next - at) (drop at page) ≡ entryAt page at
-entry-part page at next e =
-    let s : next - at ≡ sizeAt page at = omega arith in
+pub entry_part : (page : List ℕ) (at next : ℕ) → next ≡ at + size_at page at → take (next - at) (drop at page) ≡ entry_at page at
+entry_part page at next e =
+    let s : next - at ≡ size_at page at = omega arith in
     ap (λ (k : ℕ). take k (drop at page)) s
+
+-- ---- a good entry is whole and new
+
+pub good_both : (page : List ℕ) (n j : ℕ) → good_at page n j ≡ (whole_at page n j && new_at page j)
+unfolding good_at
+good_both page n j =
+    go (leb (offset page (suc j)) (length page)) (parts_at page n (fixed_max + j) (offset page j)) (new_at page j)
+    (leb (depth_at page (depths page j) (offset page j)) depth_max)
+  where
+    go : (a b c d : Bool) → (a && (b && (c && d))) ≡ ((a && (b && d)) && c)
+    go false b c d = refl
+    go true false c d = refl
+    go true true false false = refl
+    go true true false true = refl
+    go true true true false = refl
+    go true true true true = refl

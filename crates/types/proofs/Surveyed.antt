@@ -9,196 +9,193 @@ use lib.Dec.{T}
 use lib.ListN.{length, get_or, take, drop, set, replicate, length-set}
 use lib.Seq.{take_at}
 use borrow.Author.Tests.{le-leb, lt-leb}
-use Rattle.pages.specs.Quant.{anyTo, allTo, firstTo}
-use Rattle.pages.specs.Bytes.{zeros, countBytes, countOf}
-use Rattle.pages.proofs.Quant.{all-none, all-more, all-failed, any-none, any-more, first-none, first-at}
-use Rattle.chains.specs.Prints.{printsMax}
-use Rattle.names.specs.Calls.{lentBroken, usedOf}
-use Rattle.kinds.specs.Kinds.{fixedMax}
-use Rattle.types.specs.Store.{entriesMax, depthMax, sizeAt, offset, depthAt, depths, partsAt, wholeAt, newAt, goodAt, formed, Reached}
+use Rattle.pages.specs.Quant.{any_to, all_to, first_to}
+use Rattle.pages.specs.Bytes.{zeros, count_bytes, count_of}
+use Rattle.pages.proofs.Quant.{all_none, all_more, all_failed, any_none, any_more, first_none, first_at}
+use Rattle.chains.specs.Prints.{prints_max}
+use Rattle.names.specs.Calls.{lent_broken, used_of}
+use Rattle.kinds.specs.Kinds.{fixed_max}
+use Rattle.types.specs.Store.{entries_max, depth_max, size_at, offset, depth_at, depths, parts_at, whole_at, new_at, good_at, formed, Reached}
 use Rattle.types.specs.Types.{Measured}
-use Rattle.types.specs.Survey.{Placed, Chained, counted, badAt, goodTo, filled, offsetsLeft, depthsLeft, openedOffsets, openedDepths}
-use Rattle.types.proofs.Store.{offset-start, offset-next}
-use Rattle.types.proofs.Form.{depth-is, whole-parts}
-use Rattle.types.proofs.Tables.{depths-length, places-next, depths-next, filled-at}
-use Rattle.types.proofs.Prints.{chained-none}
+use Rattle.types.specs.Survey.{Placed, Chained, counted, bad_at, good_to, filled, offsets_left, depths_left, opened_offsets, opened_depths}
+use Rattle.types.proofs.Store.{offset_start, offset_next, good_both}
+use Rattle.types.proofs.Form.{depth_is, whole_parts}
+use Rattle.types.proofs.Tables.{depths_length, places_next, depths_next, filled_at}
+use Rattle.types.proofs.Prints.{chained_none}
 
 -- what `survey` promises
 abbrev Surveyed : List ℕ → ℕ → List ℕ → List ℕ → Bool → List ℕ → List ℕ → Type 0
-Surveyed page n os₀ ds₀ r os ds = (r ≡ formed page n) × (r ≡ true → Measured page os ds) × (os ≡ offsetsLeft page n os₀) × (ds ≡ depthsLeft page n ds₀)
+Surveyed page n os₀ ds₀ r os ds = (r ≡ formed page n) × (r ≡ true → Measured page os ds) × (os ≡ offsets_left page n os₀) × (ds ≡ depths_left page n ds₀)
 
 -- a no promises nothing that a yes does
-no-more : {A : Type 0} → false ≡ true → A
-no-more h = absurd (subst T (sym h) tt)
+no_more : {A : Type 0} → false ≡ true → A
+no_more h = absurd (subst T (sym h) tt)
 
 -- ---- a page whose entries are not looked at
 
 module _ (page : List ℕ) (n : ℕ) (os₀ ds₀ : List ℕ) where
   unlooked : counted page ≡ false → false ≡ formed page n → Surveyed page n os₀ ds₀ false os₀ ds₀
-  unfolding offsetsLeft depthsLeft
-  unlooked c f = (f, no-more, rw c, rw c)
+  unfolding offsets_left depths_left
+  unlooked c f = (f, no_more, rw c, rw c)
 
-  pub survey-short : length page < countBytes → Surveyed page n os₀ ds₀ false os₀ ds₀
+  pub survey_short : length page < count_bytes → Surveyed page n os₀ ds₀ false os₀ ds₀
   unfolding formed counted
-  survey-short h = unlooked (rw (lt-leb countBytes (length page) h)) (rw (lt-leb countBytes (length page) h))
+  survey_short h = unlooked (rw (lt-leb count_bytes (length page) h)) (rw (lt-leb count_bytes (length page) h))
 
-  pub survey-many : countBytes ≤ length page → (k : ℕ) → k ≡ countOf page → entriesMax < k → Surveyed page n os₀ ds₀ false os₀ ds₀
+  pub survey_many : count_bytes ≤ length page → (k : ℕ) → k ≡ count_of page → entries_max < k → Surveyed page n os₀ ds₀ false os₀ ds₀
   unfolding formed counted
-  survey-many two k is h =
-      unlooked (rw (le-leb countBytes (length page) two, ← is, lt-leb k entriesMax h))
-      (rw (le-leb countBytes (length page) two, ← is, lt-leb k entriesMax h))
+  survey_many two k is h =
+      unlooked (rw (le-leb count_bytes (length page) two, ← is, lt-leb k entries_max h))
+      (rw (le-leb count_bytes (length page) two, ← is, lt-leb k entries_max h))
 
 -- ---- a page of k entries that are looked at, the tables having come as os₀ and ds₀
 
 pub record Looked (page : List ℕ) (k : ℕ) (os₀ ds₀ : List ℕ) : Type 0 where
-  pub two : countBytes ≤ length page
-  pub is : k ≡ countOf page
-  pub few : k ≤ entriesMax
-  pub room : length os₀ ≡ suc entriesMax
-  pub size : length ds₀ ≡ entriesMax
+  pub two : count_bytes ≤ length page
+  pub is : k ≡ count_of page
+  pub few : k ≤ entries_max
+  pub room : length os₀ ≡ suc entries_max
+  pub size : length ds₀ ≡ entries_max
 
 module _ {page : List ℕ} {k : ℕ} {os₀ ds₀ : List ℕ} (c : Looked page k os₀ ds₀) (n : ℕ) where
   looked : counted page ≡ true
   unfolding counted
-  looked = rw (le-leb countBytes (length page) c.two, ← c.is, le-leb k entriesMax c.few)
+  looked = rw (le-leb count_bytes (length page) c.two, ← c.is, le-leb k entries_max c.few)
 
-  formed-rest : (b : Bool) → allTo k (goodAt page n) ≡ b → (b && zeros (drop (offset page k) page)) ≡ formed page n
+  formed_rest : (b : Bool) → all_to k (good_at page n) ≡ b → (b && zeros (drop (offset page k) page)) ≡ formed page n
   unfolding formed
-  formed-rest b h = rw (le-leb countBytes (length page) c.two, ← c.is, le-leb k entriesMax c.few, h)
+  formed_rest b h = rw (le-leb count_bytes (length page) c.two, ← c.is, le-leb k entries_max c.few, h)
 
   -- the tables, where j entries are good before the first that is not
-  left : (j : ℕ) → firstTo k (badAt page n) ≡ j
-      → (filled (offset page) (suc j) os₀ ≡ offsetsLeft page n os₀) × (depths page j ++ drop j ds₀ ≡ depthsLeft page n ds₀)
-  unfolding offsetsLeft depthsLeft goodTo
+  left : (j : ℕ) → first_to k (bad_at page n) ≡ j
+      → (filled (offset page) (suc j) os₀ ≡ offsets_left page n os₀) × (depths page j ++ drop j ds₀ ≡ depths_left page n ds₀)
+  unfolding offsets_left depths_left good_to
   left j e = (rw (looked, ← c.is, e), rw (looked, ← c.is, e))
 
 -- where the test stands: the first j entries are good, and entry j begins at o
 pub record Going (page : List ℕ) (n k : ℕ) (os₀ ds₀ heads links os ds : List ℕ) (o j : ℕ) : Type 0 where
   pub look : Looked page k os₀ ds₀
-  pub within-k : j ≤ k
+  pub within_k : j ≤ k
   pub at : o ≡ offset page j
   pub inside : o ≤ length page
-  pub room : length os ≡ suc entriesMax
+  pub room : length os ≡ suc entries_max
   pub placed : os ≡ filled (offset page) j os₀
-  pub size : length ds ≡ entriesMax
+  pub size : length ds ≡ entries_max
   pub known : ds ≡ depths page j ++ drop j ds₀
   pub chained : Chained page heads links j
-  pub good : allTo j (goodAt page n) ≡ true
-  pub none-bad : anyTo j (badAt page n) ≡ false
+  pub good : all_to j (good_at page n) ≡ true
+  pub none_bad : any_to j (bad_at page n) ≡ false
 
-pub going-start : {page : List ℕ} {k : ℕ} {os₀ ds₀ : List ℕ} (c : Looked page k os₀ ds₀) (n : ℕ) (heads links : List ℕ)
-    → heads ≡ replicate printsMax 0 → links ≡ replicate entriesMax 0 → Going page n k os₀ ds₀ heads links os₀ ds₀ countBytes 0
+pub going_start : {page : List ℕ} {k : ℕ} {os₀ ds₀ : List ℕ} (c : Looked page k os₀ ds₀) (n : ℕ) (heads links : List ℕ)
+    → heads ≡ replicate prints_max 0 → links ≡ replicate entries_max 0 → Going page n k os₀ ds₀ heads links os₀ ds₀ count_bytes 0
 unfolding depths
-going-start {page} c n heads links e f = record {
+going_start {page} c n heads links e f = record {
   look = c;
-  within-k = omega arith;
-  at = offset-start page;
+  within_k = omega arith;
+  at = offset_start page;
   inside = c.two;
   room = c.room;
   placed = refl;
   size = c.size;
   known = refl;
-  chained = chained-none page heads links e f;
-  good = all-none (goodAt page n);
-  none-bad = any-none (badAt page n);
+  chained = chained_none page heads links e f;
+  good = all_none (good_at page n);
+  none_bad = any_none (bad_at page n);
 }
 
 module _ {page : List ℕ} {n k : ℕ} {os₀ ds₀ heads links os ds : List ℕ} {o j : ℕ} (g : Going page n k os₀ ds₀ heads links os ds o j) where
   -- the offset of entry j, or of the end, is written down
-  placed-here : set os j o ≡ filled (offset page) (suc j) os₀
-  placed-here = places-next (offset page) j os₀ os o g.placed (omega (arith, g.within-k, g.look.few, g.look.room)) g.at
+  placed_here : set os j o ≡ filled (offset page) (suc j) os₀
+  placed_here = places_next (offset page) j os₀ os o g.placed (omega (arith, g.within_k, g.look.few, g.look.room)) g.at
 
-  place-at : (i : ℕ) → i ≤ j → get_or (set os j o) i 0 ≡ offset page i
-  place-at i l = rw placed-here (filled-at (offset page) (suc j) (drop (suc j) os₀) i (omega arith))
+  place_at : (i : ℕ) → i ≤ j → get_or (set os j o) i 0 ≡ offset page i
+  place_at i l = rw placed_here (filled_at (offset page) (suc j) (drop (suc j) os₀) i (omega arith))
 
-  depths-known : take j ds ≡ depths page j
-  depths-known = rw g.known (take_at (depths page j) (drop j ds₀) j (depths-length page j))
+  depths_known : take j ds ≡ depths page j
+  depths_known = rw g.known (take_at (depths page j) (drop j ds₀) j (depths_length page j))
 
-  pub going-room : j < length os
-  going-room = omega (arith, g.room, g.within-k, g.look.few)
+  pub going_room : j < length os
+  going_room = omega (arith, g.room, g.within_k, g.look.few)
 
   module _ (h : j < k) where
-    pub going-reached : Reached page ds j o
-    going-reached = record { at = g.at; inside = g.inside; few = omega (arith, g.look.few); size = g.size; known = depths-known }
+    pub going_reached : Reached page ds j o
+    going_reached = record { at = g.at; inside = g.inside; few = omega (arith, g.look.few); size = g.size; known = depths_known }
 
     -- after the offset of entry j
-    pub going-placed : Placed page (set os j o) j
-    going-placed = record { inside = rw (← g.at) g.inside; room = omega (arith, length-set os j o, going-room); places = place-at }
+    pub going_placed : Placed page (set os j o) j
+    going_placed = record { inside = rw (← g.at) g.inside; room = omega (arith, length-set os j o, going_room); places = place_at }
 
-    failed : goodAt page n j ≡ false → Surveyed page n os₀ ds₀ false (set os j o) ds
+    failed : good_at page n j ≡ false → Surveyed page n os₀ ds₀ false (set os j o) ds
     failed b =
-        let l = left g.look n j (first-at (badAt page n) k j h g.none-bad (ap not b)) in
-        (formed-rest g.look n false (all-failed (goodAt page n) k j h b), no-more, placed-here ∙ l.0, g.known ∙ l.1)
+        let l = left g.look n j (first_at (bad_at page n) k j h g.none_bad (ap not b)) in
+        (formed_rest g.look n false (all_failed (good_at page n) k j h b), no_more, placed_here ∙ l.0, g.known ∙ l.1)
 
-    pub going-broken : wholeAt page n j ≡ false → Surveyed page n os₀ ds₀ false (set os j o) ds
-    unfolding goodAt
-    going-broken w = failed (rw w)
+    pub going_broken : whole_at page n j ≡ false → Surveyed page n os₀ ds₀ false (set os j o) ds
+    going_broken w = failed (rw (good_both page n j, w))
 
-    module _ (w : wholeAt page n j ≡ true) where
-      pub going-parts : (o + sizeAt page o ≤ length page) × (partsAt page n (fixedMax + j) o ≡ true) × (depthAt page ds o ≤ depthMax)
-      going-parts = whole-parts page ds j o going-reached n w
+    module _ (w : whole_at page n j ≡ true) where
+      pub going_parts : (o + size_at page o ≤ length page) × (parts_at page n (fixed_max + j) o ≡ true) × (depth_at page ds o ≤ depth_max)
+      going_parts = whole_parts page ds j o going_reached n w
 
-      pub going-in : offset page (suc j) ≤ length page
-      going-in = rw (← add-one j, ← offset-next page j, ← g.at) going-parts.0
+      pub going_in : offset page (suc j) ≤ length page
+      going_in = rw (← add-one j, ← offset_next page j, ← g.at) going_parts.0
 
-      pub going-equal : newAt page j ≡ false → Surveyed page n os₀ ds₀ false (set os j o) ds
-      unfolding goodAt
-      going-equal b = failed (rw (w, b))
+      pub going_equal : new_at page j ≡ false → Surveyed page n os₀ ds₀ false (set os j o) ds
+      going_equal b = failed (rw (good_both page n j, w, b))
 
-      pub going-next : newAt page j ≡ true → (d p : ℕ) → d ≡ depthAt page ds o → p ≡ o + sizeAt page o
+      pub going_next : new_at page j ≡ true → (d p : ℕ) → d ≡ depth_at page ds o → p ≡ o + size_at page o
           → (heads' links' : List ℕ) → Chained page heads' links' (suc j) → Going page n k os₀ ds₀ heads' links' (set os j o) (set ds j d) p (j + 1)
-      unfolding goodAt
-      going-next b d p e f heads' links' c =
-          let y : depthAt page ds o ≡ depthAt page (depths page j) (offset page j) =
-          rw (← g.at) (depth-is page ds j o going-reached n going-parts.1) in
+      going_next b d p e f heads' links' c =
+          let y : depth_at page ds o ≡ depth_at page (depths page j) (offset page j) =
+          rw (← g.at) (depth_is page ds j o going_reached n going_parts.1) in
           record {
             look = g.look;
-            within-k = omega arith;
-            at = f ∙ rw g.at (offset-next page j);
-            inside = rw f going-parts.0;
+            within_k = omega arith;
+            at = f ∙ rw g.at (offset_next page j);
+            inside = rw f going_parts.0;
             room = length-set os j o ∙ g.room;
-            placed = rw (add-one j) placed-here;
+            placed = rw (add-one j) placed_here;
             size = length-set ds j d ∙ g.size;
-            known = rw (add-one j) (depths-next page j ds₀ ds d g.known (omega (arith, g.look.few, g.look.size)) (e ∙ y));
+            known = rw (add-one j) (depths_next page j ds₀ ds d g.known (omega (arith, g.look.few, g.look.size)) (e ∙ y));
             chained = rw (add-one j) c;
-            good = all-more (goodAt page n) j g.good (rw (w, b));
-            none-bad = any-more (badAt page n) j g.none-bad (rw (w, b));
+            good = all_more (good_at page n) j g.good (rw (good_both page n j, w, b));
+            none_bad = any_more (bad_at page n) j g.none_bad (rw (good_both page n j, w, b));
           }
 
-  pub going-end : k ≤ j → (b : Bool) → b ≡ zeros (drop o page) → Surveyed page n os₀ ds₀ b (set os k o) ds
-  going-end h b z = rw (← all) (f, measured, placed-here ∙ l.0, g.known ∙ l.1)
+  pub going_end : k ≤ j → (b : Bool) → b ≡ zeros (drop o page) → Surveyed page n os₀ ds₀ b (set os k o) ds
+  going_end h b z = rw (← all) (f, measured, placed_here ∙ l.0, g.known ∙ l.1)
     where
       all : j ≡ k
-      all = omega (arith, g.within-k)
+      all = omega (arith, g.within_k)
 
-      l : (filled (offset page) (suc j) os₀ ≡ offsetsLeft page n os₀) × (depths page j ++ drop j ds₀ ≡ depthsLeft page n ds₀)
-      l = left g.look n j (rw (← all) (first-none (badAt page n) j g.none-bad))
+      l : (filled (offset page) (suc j) os₀ ≡ offsets_left page n os₀) × (depths page j ++ drop j ds₀ ≡ depths_left page n ds₀)
+      l = left g.look n j (rw (← all) (first_none (bad_at page n) j g.none_bad))
 
       f : b ≡ formed page n
-      f = z ∙ ap (λ (x : ℕ). zeros (drop x page)) (g.at ∙ ap (offset page) all) ∙ formed-rest g.look n true (rw all at g.good)
+      f = z ∙ ap (λ (x : ℕ). zeros (drop x page)) (g.at ∙ ap (offset page) all) ∙ formed_rest g.look n true (rw all at g.good)
 
-      counted-all : j ≡ countOf page
-      counted-all = all ∙ g.look.is
+      counted_all : j ≡ count_of page
+      counted_all = all ∙ g.look.is
 
       measured : b ≡ true → Measured page (set os j o) ds
       measured t = record {
         held = record {
           sound = record { names = n; form = sym f ∙ t };
           size = length-set os j o ∙ g.room;
-          places = λ i m. place-at i (omega (arith, counted-all));
+          places = λ i m. place_at i (omega (arith, counted_all));
         };
         size = g.size;
-        known = rw (← counted-all) depths-known;
+        known = rw (← counted_all) depths_known;
       }
 
 -- ---- names and store
 
 module _ (page names : List ℕ) (lent : Bool) (os ds : List ℕ) where
-  pub unopened : lentBroken names lent ≡ true → (os ≡ openedOffsets page names lent os) × (ds ≡ openedDepths page names lent ds)
-  unfolding openedOffsets openedDepths
+  pub unopened : lent_broken names lent ≡ true → (os ≡ opened_offsets page names lent os) × (ds ≡ opened_depths page names lent ds)
+  unfolding opened_offsets opened_depths
   unopened l = (rw l, rw l)
 
-  pub opened-is : lentBroken names lent ≡ false → (n : ℕ) → n ≡ usedOf names lent
-      → (offsetsLeft page n os ≡ openedOffsets page names lent os) × (depthsLeft page n ds ≡ openedDepths page names lent ds)
-  unfolding openedOffsets openedDepths
-  opened-is l n is = (rw (l, ← is), rw (l, ← is))
+  pub opened_is : lent_broken names lent ≡ false → (n : ℕ) → n ≡ used_of names lent
+      → (offsets_left page n os ≡ opened_offsets page names lent os) × (depths_left page n ds ≡ opened_depths page names lent ds)
+  unfolding opened_offsets opened_depths
+  opened_is l n is = (rw (l, ← is), rw (l, ← is))

@@ -8,199 +8,199 @@ use native.Mathlib.Omega.{arith}
 use lib.Dec.{ltb, leb, eqb}
 use lib.ListN.{length, get_or, drop}
 use borrow.Author.Tests.{lt-ltb, le-ltb, lt-leb, leb-true, eqb-true, ne_eqb, ltb-true, ltb-false}
-use Rattle.pages.specs.Quant.{allTo}
-use Rattle.pages.specs.Bytes.{zeros, within, countBytes, countOf}
-use Rattle.pages.proofs.Quant.{and-true, all-at}
-use Rattle.pages.proofs.Bytes.{and-false}
-use Rattle.names.specs.Calls.{isUsed}
-use Rattle.kinds.specs.Kinds.{fixedMax, childrenMax, isNamed, isStored, fewest, most}
-use Rattle.types.specs.Store.{typesMax, entriesMax, depthMax, headBytes, childBytes, nameBytes, childrenAt, kindAt, nameAt, sizeAt, entryAt, offset, depthAt, depths, childrenBelow, partsAt, equalTo, wholeAt, newAt, goodAt, formed, Formed}
-use Rattle.types.specs.Types.{typesIn, placeOf, kindOf, arity, childOf, Held}
-use Rattle.types.proofs.Store.{size-named, size-head, child-below}
-use Rattle.types.proofs.Form.{parts-children}
+use Rattle.pages.specs.Quant.{all_to}
+use Rattle.pages.specs.Bytes.{zeros, within, count_bytes, count_of}
+use Rattle.pages.proofs.Quant.{and_true, all_at}
+use Rattle.pages.proofs.Bytes.{and_false}
+use Rattle.names.specs.Calls.{is_used}
+use Rattle.kinds.specs.Kinds.{fixed_max, children_max, is_named, is_stored, fewest, most}
+use Rattle.types.specs.Store.{types_max, entries_max, depth_max, head_bytes, child_bytes, name_bytes, children_at, kind_at, name_at, size_at, entry_at, offset, depth_at, depths, children_below, parts_at, equal_to, good_at, formed, Formed}
+use Rattle.types.specs.Types.{types_in, place_of, kind_of, arity, child_of, Held}
+use Rattle.types.proofs.Store.{size_named, size_head, child_below}
+use Rattle.types.proofs.Form.{parts_children}
 
 -- ---- what a store in form has
 
 pub record Whole (page : List ℕ) (n : ℕ) : Type 0 where
-  pub two : countBytes ≤ length page
-  pub few : countOf page ≤ entriesMax
-  pub good : (j : ℕ) → j < countOf page → goodAt page n j ≡ true
-  pub clear : zeros (drop (offset page (countOf page)) page) ≡ true
+  pub two : count_bytes ≤ length page
+  pub few : count_of page ≤ entries_max
+  pub good : (j : ℕ) → j < count_of page → good_at page n j ≡ true
+  pub clear : zeros (drop (offset page (count_of page)) page) ≡ true
 
 pub whole : (page : List ℕ) (n : ℕ) → formed page n ≡ true → Whole page n
 unfolding formed
 whole page n h =
-    let a = and-true (leb countBytes (length page)) _ h in
-    let b = and-true (leb (countOf page) entriesMax) _ a.1 in
-    let d = and-true (allTo (countOf page) (goodAt page n)) _ b.1 in
+    let a = and_true (leb count_bytes (length page)) _ h in
+    let b = and_true (leb (count_of page) entries_max) _ a.1 in
+    let d = and_true (all_to (count_of page) (good_at page n)) _ b.1 in
     record {
-      two = leb-true countBytes (length page) a.0;
-      few = leb-true (countOf page) entriesMax b.0;
-      good = λ j l. all-at (goodAt page n) (countOf page) j d.0 l;
+      two = leb-true count_bytes (length page) a.0;
+      few = leb-true (count_of page) entries_max b.0;
+      good = λ j l. all_at (good_at page n) (count_of page) j d.0 l;
       clear = d.1;
     }
 
 -- what a good entry is
 pub record Good (page : List ℕ) (n j : ℕ) : Type 0 where
-  pub inside : offset page j + sizeAt page (offset page j) ≤ length page
-  pub parts : partsAt page n (fixedMax + j) (offset page j) ≡ true
-  pub new : j ≤ equalTo page j (entryAt page (offset page j))
-  pub flat : depthAt page (depths page j) (offset page j) ≤ depthMax
+  pub inside : offset page j + size_at page (offset page j) ≤ length page
+  pub parts : parts_at page n (fixed_max + j) (offset page j) ≡ true
+  pub new : j ≤ equal_to page j (entry_at page (offset page j))
+  pub flat : depth_at page (depths page j) (offset page j) ≤ depth_max
 
-pub good : (page : List ℕ) (n j : ℕ) → goodAt page n j ≡ true → Good page n j
-unfolding goodAt offset
+pub good : (page : List ℕ) (n j : ℕ) → good_at page n j ≡ true → Good page n j
+unfolding good_at offset
 good page n j h =
-    let g = and-true (wholeAt page n j) (newAt page j) h in
-    let a = and-true (leb (offset page (suc j)) (length page)) _ g.0 in
-    let b = and-true (partsAt page n (fixedMax + j) (offset page j)) _ a.1 in
+    let a = and_true (leb (offset page (suc j)) (length page)) _ h in
+    let b = and_true (parts_at page n (fixed_max + j) (offset page j)) _ a.1 in
+    let d = and_true (leb j (equal_to page j (entry_at page (offset page j)))) _ b.1 in
     record {
       inside = leb-true (offset page (suc j)) (length page) a.0;
       parts = b.0;
-      new = leb-true j (equalTo page j (entryAt page (offset page j))) g.1;
-      flat = leb-true (depthAt page (depths page j) (offset page j)) depthMax b.1;
+      new = leb-true j (equal_to page j (entry_at page (offset page j))) d.0;
+      flat = leb-true (depth_at page (depths page j) (offset page j)) depth_max d.1;
     }
 
-pub most-few : (k : ℕ) → most k ≤ childrenMax
+pub most_few : (k : ℕ) → most k ≤ children_max
 unfolding most
-most-few k = go (within 25 26 k) (within 19 24 k) (within 27 31 k)
+most_few k = go (within 25 26 k) (within 19 24 k) (within 27 31 k)
   where
-    go : (a b c : Bool) → cond a 2 (cond b 1 (cond c childrenMax 0)) ≤ childrenMax
+    go : (a b c : Bool) → cond a 2 (cond b 1 (cond c children_max 0)) ≤ children_max
     go true b c = omega arith
     go false true c = omega arith
     go false false true = omega arith
     go false false false = omega arith
 
 -- fixed types and those with a name have no child
-within-not : (a b k : ℕ) → (k < a) ⊎ (b < k) → within a b k ≡ false
-within-not a b k (inl l) = rw (lt-leb a k l)
-within-not a b k (inr l) = rw (lt-leb k b l) (and-false (leb a k))
+within_not : (a b k : ℕ) → (k < a) ⊎ (b < k) → within a b k ≡ false
+within_not a b k (inl l) = rw (lt-leb a k l)
+within_not a b k (inr l) = rw (lt-leb k b l) (and_false (leb a k))
 
-fixed-few : (t : ℕ) → t < fixedMax → fewest t ≡ 0
+fixed_few : (t : ℕ) → t < fixed_max → fewest t ≡ 0
 unfolding fewest
-fixed-few t l =
-    rw (within-not 25 26 t (inl (omega arith)), within-not 19 24 t (inl (omega arith)), ne_eqb t 31 (λ e. omega (arith, e))) refl
+fixed_few t l =
+    rw (within_not 25 26 t (inl (omega arith)), within_not 19 24 t (inl (omega arith)), ne_eqb t 31 (λ e. omega (arith, e))) refl
 
-named-few : (k : ℕ) → isNamed k ≡ true → fewest k ≡ 0
+named_few : (k : ℕ) → is_named k ≡ true → fewest k ≡ 0
 unfolding fewest
-named-few k h =
-    let l = leb-true 32 k (and-true (leb 32 k) _ h).0 in
-    rw (within-not 25 26 k (inr (omega arith)), within-not 19 24 k (inr (omega arith)), ne_eqb k 31 (λ e. omega (arith, e))) refl
+named_few k h =
+    let l = leb-true 32 k (and_true (leb 32 k) _ h).0 in
+    rw (within_not 25 26 k (inr (omega arith)), within_not 19 24 k (inr (omega arith)), ne_eqb k 31 (λ e. omega (arith, e))) refl
 
 -- an entry with its parts has as many children as its kind wants
-parts-within : (page : List ℕ) (n t o : ℕ) → partsAt page n t o ≡ true
-    → (fewest (kindAt page o) ≤ childrenAt page o) × (childrenAt page o ≤ most (kindAt page o))
-unfolding partsAt
-parts-within page n t o h = go (isNamed (kindAt page o)) refl (and-true (isStored (kindAt page o)) _ h).1
+parts_within : (page : List ℕ) (n t o : ℕ) → parts_at page n t o ≡ true
+    → (fewest (kind_at page o) ≤ children_at page o) × (children_at page o ≤ most (kind_at page o))
+unfolding parts_at
+parts_within page n t o h = go (is_named (kind_at page o)) refl (and_true (is_stored (kind_at page o)) _ h).1
   where
-    go : (b : Bool) → isNamed (kindAt page o) ≡ b → cond b (eqb (childrenAt page o) 0 && isUsed n (nameAt page o))
-        (within (fewest (kindAt page o)) (most (kindAt page o)) (childrenAt page o) && childrenBelow page o t) ≡ true
-        → (fewest (kindAt page o) ≤ childrenAt page o) × (childrenAt page o ≤ most (kindAt page o))
+    go : (b : Bool) → is_named (kind_at page o) ≡ b → cond b (eqb (children_at page o) 0 && is_used n (name_at page o))
+        (within (fewest (kind_at page o)) (most (kind_at page o)) (children_at page o) && children_below page o t) ≡ true
+        → (fewest (kind_at page o) ≤ children_at page o) × (children_at page o ≤ most (kind_at page o))
     go true e p =
-        let z : childrenAt page o ≡ 0 = eqb-true (childrenAt page o) 0 (and-true (eqb (childrenAt page o) 0) _ p).0 in
-        (rw (named-few (kindAt page o) e) (omega arith), rw z (omega arith))
+        let z : children_at page o ≡ 0 = eqb-true (children_at page o) 0 (and_true (eqb (children_at page o) 0) _ p).0 in
+        (rw (named_few (kind_at page o) e) (omega arith), rw z (omega arith))
     go false e p =
-        let w = and-true (leb (fewest (kindAt page o)) (childrenAt page o)) _ (and-true (within (fewest (kindAt page o)) (most (kindAt page o)) (childrenAt page o)) _ p).0 in
-        (leb-true (fewest (kindAt page o)) (childrenAt page o) w.0, leb-true (childrenAt page o) (most (kindAt page o)) w.1)
+        let w = and_true (leb (fewest (kind_at page o)) (children_at page o)) _ (and_true (within (fewest (kind_at page o)) (most (kind_at page o)) (children_at page o)) _ p).0 in
+        (leb-true (fewest (kind_at page o)) (children_at page o) w.0, leb-true (children_at page o) (most (kind_at page o)) w.1)
 
 -- ---- reading a type
 
-pub kind-fixed : (page : List ℕ) (t : ℕ) → t < fixedMax → t ≡ kindOf page t
-unfolding kindOf
-kind-fixed page t h = rw (lt-ltb t fixedMax h) refl
+pub kind_fixed : (page : List ℕ) (t : ℕ) → t < fixed_max → t ≡ kind_of page t
+unfolding kind_of
+kind_fixed page t h = rw (lt-ltb t fixed_max h) refl
 
-pub kind-entry : (page : List ℕ) (t : ℕ) → fixedMax ≤ t → kindAt page (placeOf page t) ≡ kindOf page t
-unfolding kindOf
-kind-entry page t h = rw (le-ltb t fixedMax h) refl
+pub kind_entry : (page : List ℕ) (t : ℕ) → fixed_max ≤ t → kind_at page (place_of page t) ≡ kind_of page t
+unfolding kind_of
+kind_entry page t h = rw (le-ltb t fixed_max h) refl
 
-pub arity-fixed : (page : List ℕ) (t : ℕ) → t < fixedMax → 0 ≡ arity page t
+pub arity_fixed : (page : List ℕ) (t : ℕ) → t < fixed_max → 0 ≡ arity page t
 unfolding arity
-arity-fixed page t h = rw (lt-ltb t fixedMax h) refl
+arity_fixed page t h = rw (lt-ltb t fixed_max h) refl
 
-pub arity-entry : (page : List ℕ) (t : ℕ) → fixedMax ≤ t → childrenAt page (placeOf page t) ≡ arity page t
+pub arity_entry : (page : List ℕ) (t : ℕ) → fixed_max ≤ t → children_at page (place_of page t) ≡ arity page t
 unfolding arity
-arity-entry page t h = rw (le-ltb t fixedMax h) refl
+arity_entry page t h = rw (le-ltb t fixed_max h) refl
 
 module _ (page : List ℕ) (f : Formed page) where
-  pub all-good : (j : ℕ) → j < countOf page → Good page f.names j
-  all-good j l = good page f.names j ((whole page f.names f.form).good j l)
+  pub all_good : (j : ℕ) → j < count_of page → Good page f.names j
+  all_good j l = good page f.names j ((whole page f.names f.form).good j l)
 
-  pub types-few : typesIn page ≤ typesMax
-  types-few = omega (arith, (whole page f.names f.form).few)
+  pub types_few : types_in page ≤ types_max
+  types_few = omega (arith, (whole page f.names f.form).few)
 
-  pub end-inside : offset page (countOf page) ≤ length page
+  pub end_inside : offset page (count_of page) ≤ length page
   unfolding offset
-  end-inside = go (countOf page) refl
+  end_inside = go (count_of page) refl
     where
-      go : (k : ℕ) → countOf page ≡ k → offset page k ≤ length page
+      go : (k : ℕ) → count_of page ≡ k → offset page k ≤ length page
       go zero e = (whole page f.names f.form).two
-      go (suc k) e = (all-good k (omega (arith, e))).inside
+      go (suc k) e = (all_good k (omega (arith, e))).inside
 
-  module _ (t : ℕ) (u : t < typesIn page) where
+  module _ (t : ℕ) (u : t < types_in page) where
     -- it has as many children as its kind wants
-    pub arity-within : (fewest (kindOf page t) ≤ arity page t) × (arity page t ≤ most (kindOf page t))
-    arity-within = go (ltb t fixedMax) refl
+    pub arity_within : (fewest (kind_of page t) ≤ arity page t) × (arity page t ≤ most (kind_of page t))
+    arity_within = go (ltb t fixed_max) refl
       where
-        go : (b : Bool) → ltb t fixedMax ≡ b → (fewest (kindOf page t) ≤ arity page t) × (arity page t ≤ most (kindOf page t))
+        go : (b : Bool) → ltb t fixed_max ≡ b → (fewest (kind_of page t) ≤ arity page t) × (arity page t ≤ most (kind_of page t))
         go true e =
-            let l = ltb-true t fixedMax e in
-            rw (← arity-fixed page t l, ← kind-fixed page t l, fixed-few t l) (omega arith, omega arith)
+            let l = ltb-true t fixed_max e in
+            rw (← arity_fixed page t l, ← kind_fixed page t l, fixed_few t l) (omega arith, omega arith)
         go false e =
-            let l = ltb-false t fixedMax e in
-            rw (← arity-entry page t l, ← kind-entry page t l)
-            (parts-within page f.names (fixedMax + (t - fixedMax)) (placeOf page t) (all-good (t - fixedMax) (omega arith)).parts)
+            let l = ltb-false t fixed_max e in
+            rw (← arity_entry page t l, ← kind_entry page t l)
+            (parts_within page f.names (fixed_max + (t - fixed_max)) (place_of page t) (all_good (t - fixed_max) (omega arith)).parts)
 
-    pub few-children : arity page t ≤ childrenMax
-    few-children = omega (arith, arity-within.1, most-few (kindOf page t))
+    pub few_children : arity page t ≤ children_max
+    few_children = omega (arith, arity_within.1, most_few (kind_of page t))
 
     -- an entry lies in the page, and its offset in the table
-    module _ (l : fixedMax ≤ t) where
-      pub entry-inside : placeOf page t + sizeAt page (placeOf page t) ≤ length page
-      entry-inside = (all-good (t - fixedMax) (omega arith)).inside
+    module _ (l : fixed_max ≤ t) where
+      pub entry_inside : place_of page t + size_at page (place_of page t) ≤ length page
+      entry_inside = (all_good (t - fixed_max) (omega arith)).inside
 
-      pub head-inside : placeOf page t + headBytes ≤ length page
-      head-inside = omega (arith, entry-inside, size-head page (placeOf page t))
+      pub head_inside : place_of page t + head_bytes ≤ length page
+      head_inside = omega (arith, entry_inside, size_head page (place_of page t))
 
     -- a type with a child is an entry; the child lies in it, and below it
     module _ (i : ℕ) (h : i < arity page t) where
-      pub child-above : fixedMax ≤ t
-      child-above = go (ltb t fixedMax) refl
+      pub child_above : fixed_max ≤ t
+      child_above = go (ltb t fixed_max) refl
         where
-          go : (b : Bool) → ltb t fixedMax ≡ b → fixedMax ≤ t
-          go true e = absurd (omega (arith, arity-fixed page t (ltb-true t fixedMax e)))
-          go false e = ltb-false t fixedMax e
+          go : (b : Bool) → ltb t fixed_max ≡ b → fixed_max ≤ t
+          go true e = absurd (omega (arith, arity_fixed page t (ltb-true t fixed_max e)))
+          go false e = ltb-false t fixed_max e
 
-      pub child-inside : placeOf page t + headBytes + childBytes * i + 2 ≤ length page
-      child-inside =
-          let g = all-good (t - fixedMax) (omega (arith, child-above)) in
-          let p = (parts-children page f.names (fixedMax + (t - fixedMax)) (placeOf page t) g.parts).0 in
-          omega (arith, g.inside, p, arity-entry page t child-above)
+      pub child_inside : place_of page t + head_bytes + child_bytes * i + 2 ≤ length page
+      child_inside =
+          let g = all_good (t - fixed_max) (omega (arith, child_above)) in
+          let p = (parts_children page f.names (fixed_max + (t - fixed_max)) (place_of page t) g.parts).0 in
+          omega (arith, g.inside, p, arity_entry page t child_above)
 
-      pub child-lower : childOf page t i < t
-      unfolding childOf
-      child-lower =
-          let g = all-good (t - fixedMax) (omega (arith, child-above)) in
-          let p = (parts-children page f.names (fixedMax + (t - fixedMax)) (placeOf page t) g.parts).1 in
-          let e : fixedMax + (t - fixedMax) ≡ t = omega (arith, child-above) in
-          rw e at (child-below page (placeOf page t) (fixedMax + (t - fixedMax)) i p (rw (arity-entry page t child-above) h))
+      pub child_lower : child_of page t i < t
+      unfolding child_of
+      child_lower =
+          let g = all_good (t - fixed_max) (omega (arith, child_above)) in
+          let p = (parts_children page f.names (fixed_max + (t - fixed_max)) (place_of page t) g.parts).1 in
+          let e : fixed_max + (t - fixed_max) ≡ t = omega (arith, child_above) in
+          rw e at (child_below page (place_of page t) (fixed_max + (t - fixed_max)) i p (rw (arity_entry page t child_above) h))
 
     -- a type with a name is an entry, and the name lies in it
-    module _ (h : isNamed (kindOf page t) ≡ true) where
-      pub name-above : fixedMax ≤ t
-      name-above = go (ltb t fixedMax) refl
+    module _ (h : is_named (kind_of page t) ≡ true) where
+      pub name_above : fixed_max ≤ t
+      name_above = go (ltb t fixed_max) refl
         where
-          go : (b : Bool) → ltb t fixedMax ≡ b → fixedMax ≤ t
+          go : (b : Bool) → ltb t fixed_max ≡ b → fixed_max ≤ t
           go true e =
-              let k : isNamed t ≡ true = rw (kind-fixed page t (ltb-true t fixedMax e)) h in
-              absurd (omega (arith, ltb-true t fixedMax e, leb-true 32 t (and-true (leb 32 t) _ k).0))
-          go false e = ltb-false t fixedMax e
+              let k : is_named t ≡ true = rw (kind_fixed page t (ltb-true t fixed_max e)) h in
+              absurd (omega (arith, ltb-true t fixed_max e, leb-true 32 t (and_true (leb 32 t) _ k).0))
+          go false e = ltb-false t fixed_max e
 
-      pub name-inside : placeOf page t + headBytes + nameBytes ≤ length page
-      name-inside = omega (arith, entry-inside name-above, size-named page (placeOf page t) (rw (kind-entry page t name-above) h))
+      pub name_inside : place_of page t + head_bytes + name_bytes ≤ length page
+      name_inside = omega (arith, entry_inside name_above, size_named page (place_of page t) (rw (kind_entry page t name_above) h))
 
 -- the offset of an entry stands in the table
-module _ (page offsets : List ℕ) (h : Held page offsets) (t : ℕ) (u : t < typesIn page) where
-  pub offset-asks : fixedMax ≤ t → (fixedMax ≤ t) × (t < fixedMax + length offsets) × (length offsets ≡ suc entriesMax)
-  offset-asks l = (l, omega (arith, h.size, (whole page h.sound.names h.sound.form).few), h.size)
+module _ (page offsets : List ℕ) (h : Held page offsets) (t : ℕ) (u : t < types_in page) where
+  pub offset_asks : fixed_max ≤ t → (fixed_max ≤ t) × (t < fixed_max + length offsets) × (length offsets ≡ suc entries_max)
+  offset_asks l = (l, omega (arith, h.size, (whole page h.sound.names h.sound.form).few), h.size)
 
-  pub offset-is : (r : ℕ) → fixedMax ≤ t → r ≡ get_or offsets (t - fixedMax) 0 → r ≡ placeOf page t
-  offset-is r l e = e ∙ h.places (t - fixedMax) (omega arith)
+  pub offset_is : (r : ℕ) → fixed_max ≤ t → r ≡ get_or offsets (t - fixed_max) 0 → r ≡ place_of page t
+  offset_is r l e = e ∙ h.places (t - fixed_max) (omega arith)

@@ -1,28 +1,28 @@
--- What the code knows of a name's width: it is one byte. Of the other laws only `named-made` (Entries.antt) says so; the rest hold of any
+-- What the code knows of a name's width: it is one byte. Of the other laws only `named_made` (Entries.antt) says so; the rest hold of any
 -- width. Assumes nothing.
 use mathlib.Core.Path.{◌≡◌, refl}
 use mathlib.Core.List.{List, [], ◌∷◌}
 use Prim.Native.Nat.{ℕ, ◌+◌, ◌%◌, ◌^◌, ◌≤◌}
 use native.Mathlib.Omega.{arith}
 use lib.ListN.{get_or}
-use Rattle.pages.specs.Bytes.{bigEndian}
-use Rattle.pages.proofs.Bytes.{number-one, big-one}
-use Rattle.names.specs.Table.{namesMax}
-use Rattle.types.specs.Store.{headBytes, nameBytes, nameAt}
+use Rattle.pages.specs.Bytes.{big_endian}
+use Rattle.pages.proofs.Bytes.{number_one, big_one}
+use Rattle.names.specs.Table.{names_max}
+use Rattle.types.specs.Store.{head_bytes, name_bytes, name_at}
 
-pub name-width : nameBytes ≡ 1
-unfolding nameBytes
-name-width = refl
+pub name_width : name_bytes ≡ 1
+unfolding name_bytes
+name_width = refl
 
-pub name-byte : (page : List ℕ) (o : ℕ) → nameAt page o ≡ get_or page (o + headBytes) 0
-unfolding nameBytes
-name-byte page o = number-one page (o + headBytes)
+pub name_byte_lem : (page : List ℕ) (o : ℕ) → name_at page o ≡ get_or page (o + head_bytes) 0
+unfolding name_bytes
+name_byte_lem page o = number_one page (o + head_bytes)
 
-pub byte-name : (m : ℕ) → bigEndian nameBytes m ≡ m % 256 ∷ []
-unfolding nameBytes
-byte-name m = big-one m
+pub byte_name : (m : ℕ) → big_endian name_bytes m ≡ m % 256 ∷ []
+unfolding name_bytes
+byte_name m = big_one m
 
 -- the number of every name there can be fits
-pub names-fit : namesMax ≤ 256 ^ nameBytes
-unfolding nameBytes
-names-fit = omega arith
+pub names_fit : names_max ≤ 256 ^ name_bytes
+unfolding name_bytes
+names_fit = omega arith

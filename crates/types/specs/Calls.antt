@@ -1,111 +1,111 @@
 -- What the calls on a store of types answer, and leave in the page (document 01, "Types" and the table of refusals). Names are lent
 -- where `lent` is true.
 use Rattle.std.specs.Prelude.{Bool, true, ◌&&◌, ◌||◌, not, cond, List, [], ◌∷◌, ◌++◌, ℕ, zero, suc, ◌+◌, ltb, length, set, replicate}
-use Rattle.refusals.specs.Lowest.{◌when◌, lowest, unlessRefused}
+use Rattle.refusals.specs.Lowest.{◌when◌, lowest, unless_refused}
 use Rattle.refusals.specs.declared.Refusal.TheVariants.{Undefined, Broken, Unused, Width, Depth, Full}
 use Rattle.refusals.specs.declared.Verdict.{Verdict}
 use Rattle.refusals.specs.declared.Verdict.TheVariants.{Passed, Refused}
-use Rattle.pages.specs.Bytes.{within, countBytes, countOf}
+use Rattle.pages.specs.Bytes.{within, count_bytes, count_of}
 use Rattle.pages.specs.Pad.{pad}
-use Rattle.names.specs.Calls.{lentBroken, usedOf, isUsed}
-use Rattle.kinds.specs.Kinds.{fixedMax, childrenMax, kindLast, isNamed, isStored, fewest, most, constVariant}
-use Rattle.types.specs.Store.{depthMax, entryAt, depthIn, depths, equalTo, formed}
-use Rattle.types.specs.Types.{typesIn, placeOf, kindOf, arity, childOf, nameOf}
-use Rattle.types.specs.Making.{entryOf, isMade, depthOf, roomy, withEntry, numbered, enterAnswer, enterPage}
+use Rattle.names.specs.Calls.{lent_broken, used_of, is_used}
+use Rattle.kinds.specs.Kinds.{fixed_max, children_max, kind_last, is_named, is_stored, fewest, most, const_variant}
+use Rattle.types.specs.Store.{depth_max, entry_at, depth_in, depths, equal_to, formed}
+use Rattle.types.specs.Types.{types_in, place_of, kind_of, arity, child_of, name_of}
+use Rattle.types.specs.Making.{entry_of, is_made, depth_of, roomy, with_entry, numbered, enter_answer, enter_page}
 use Rattle.types.specs.declared.Made.{Made}
 use Rattle.types.specs.declared.Shape.{Shape}
 use Rattle.types.specs.declared.TypeRead.{TypeRead}
 
 -- do the names that are lent, or the store beside them, break their form, the store also by a name number not in use
-unfoldable pub storeBroken : List ℕ → List ℕ → Bool → Bool
-storeBroken page names lent = lentBroken names lent || not (formed page (usedOf names lent))
+unfoldable pub store_broken : List ℕ → List ℕ → Bool → Bool
+store_broken page names lent = lent_broken names lent || not (formed page (used_of names lent))
 
 -- ---- making a store
 
 -- refused (2) is a page too short for the count; what else it holds does not matter yet
-unfoldable pub emptyVerdict : List ℕ → Verdict
-emptyVerdict page = lowest ((Broken when ltb (length page) countBytes) ∷ [])
+unfoldable pub empty_verdict : List ℕ → Verdict
+empty_verdict page = lowest ((Broken when ltb (length page) count_bytes) ∷ [])
 
 -- a store of the fixed types alone is all zeros
-unfoldable pub emptyPage : List ℕ → List ℕ
-emptyPage page = unlessRefused (emptyVerdict page) (replicate (length page) 0) page
+unfoldable pub empty_page : List ℕ → List ℕ
+empty_page page = unless_refused (empty_verdict page) (replicate (length page) 0) page
 
 -- ---- making a type: a kind, its children, and its name, which only a kind with one looks at
 
 -- are all of these numbers below t
-abbrev pub allBelow : ℕ → List ℕ → Bool
-allBelow t [] = true
-allBelow t (c ∷ cs) = ltb c t && allBelow t cs
+abbrev pub all_below : ℕ → List ℕ → Bool
+all_below t [] = true
+all_below t (c ∷ cs) = ltb c t && all_below t cs
 
 -- are the children in use, surplus ones among them, and the name, of n
-unfoldable pub partsUsed : List ℕ → ℕ → ℕ → List ℕ → ℕ → Bool
-partsUsed page n k children name = allBelow (typesIn page) children && (not (isNamed k) || isUsed n name)
+unfoldable pub parts_used : List ℕ → ℕ → ℕ → List ℕ → ℕ → Bool
+parts_used page n k children name = all_below (types_in page) children && (not (is_named k) || is_used n name)
 
 -- is the type one that a store holds, and not there yet
-unfoldable pub isNew : List ℕ → ℕ → List ℕ → ℕ → Bool
-isNew page k children name = isStored k && not (isMade page (entryOf k children name))
+unfoldable pub is_new : List ℕ → ℕ → List ℕ → ℕ → Bool
+is_new page k children name = is_stored k && not (is_made page (entry_of k children name))
 
 -- why it is refused, if it is: 1 the kind, 2 the names or the store, 3 a child or the name, 6 how many children, 7 the depth, 10 no
 -- number or no place left
-unfoldable pub makeVerdict : List ℕ → List ℕ → Bool → ℕ → List ℕ → ℕ → Verdict
-makeVerdict page names lent k children name =
+unfoldable pub make_verdict : List ℕ → List ℕ → Bool → ℕ → List ℕ → ℕ → Verdict
+make_verdict page names lent k children name =
     lowest
-    ((Undefined when ltb kindLast k)
-    ∷ (Broken when storeBroken page names lent)
-    ∷ (Unused when not (partsUsed page (usedOf names lent) k children name))
+    ((Undefined when ltb kind_last k)
+    ∷ (Broken when store_broken page names lent)
+    ∷ (Unused when not (parts_used page (used_of names lent) k children name))
     ∷ (Width when not (within (fewest k) (most k) (length children)))
-    ∷ (Depth when (isNew page k children name && ltb depthMax (depthOf page (entryOf k children name))))
-    ∷ (Full when (isNew page k children name && not (roomy page (entryOf k children name))))
+    ∷ (Depth when (is_new page k children name && ltb depth_max (depth_of page (entry_of k children name))))
+    ∷ (Full when (is_new page k children name && not (roomy page (entry_of k children name))))
     ∷ [])
 
 -- kinds 0 to 18 answer their own number, others that of their equal, else the next
-unfoldable pub makeAnswer : List ℕ → List ℕ → Bool → ℕ → List ℕ → ℕ → Made
-makeAnswer page names lent k children name =
-    numbered (makeVerdict page names lent k children name)
-    (cond (ltb k fixedMax) k (fixedMax + equalTo page (countOf page) (entryOf k children name)))
+unfoldable pub make_answer : List ℕ → List ℕ → Bool → ℕ → List ℕ → ℕ → Made
+make_answer page names lent k children name =
+    numbered (make_verdict page names lent k children name)
+    (cond (ltb k fixed_max) k (fixed_max + equal_to page (count_of page) (entry_of k children name)))
 
 -- the page afterwards: changed only by a new type that is not refused
-unfoldable pub makePage : List ℕ → List ℕ → Bool → ℕ → List ℕ → ℕ → List ℕ
-makePage page names lent k children name =
-    unlessRefused (makeVerdict page names lent k children name) (cond (isNew page k children name) (withEntry page (entryOf k children name)) page) page
+unfoldable pub make_page : List ℕ → List ℕ → Bool → ℕ → List ℕ → ℕ → List ℕ
+make_page page names lent k children name =
+    unless_refused (make_verdict page names lent k children name) (cond (is_new page k children name) (with_entry page (entry_of k children name)) page) page
 
 -- ---- reading a type
 
 -- what a function says of the numbers below n, in order
-abbrev pub listTo : ℕ → (ℕ → ℕ) → List ℕ
-listTo zero f = []
-listTo (suc n) f = listTo n f ++ (f n ∷ [])
+abbrev pub list_to : ℕ → (ℕ → ℕ) → List ℕ
+list_to zero f = []
+list_to (suc n) f = list_to n f ++ (f n ∷ [])
 
 -- the type with number t: its kind, its depth, its children with zeros after them, its name, 0 where it has none
-unfoldable pub typeAt : List ℕ → ℕ → Shape
-typeAt page t = record {
-  kind = kindOf page t;
-  depth = depthIn (depths page (countOf page)) t;
+unfoldable pub type_at : List ℕ → ℕ → Shape
+type_at page t = record {
+  kind = kind_of page t;
+  depth = depth_in (depths page (count_of page)) t;
   count = arity page t;
-  children = pad childrenMax 0 (listTo (arity page t) (childOf page t));
-  name = cond (isNamed (kindOf page t)) (nameOf page t) 0;
+  children = pad children_max 0 (list_to (arity page t) (child_of page t));
+  name = cond (is_named (kind_of page t)) (name_of page t) 0;
 }
 
 -- 2 the names or the store, 3 the number
-unfoldable pub readVerdict : List ℕ → List ℕ → Bool → ℕ → Verdict
-readVerdict page names lent t = lowest ((Broken when storeBroken page names lent) ∷ (Unused when not (ltb t (typesIn page))) ∷ [])
+unfoldable pub read_verdict : List ℕ → List ℕ → Bool → ℕ → Verdict
+read_verdict page names lent t = lowest ((Broken when store_broken page names lent) ∷ (Unused when not (ltb t (types_in page))) ∷ [])
 
 -- a type, or Null beside the refusal
 abbrev pub shown : Verdict → List ℕ → ℕ → TypeRead
-shown Passed page t = record { verdict = Passed; shape = typeAt page t }
-shown (Refused r) page t = record { verdict = Refused r; shape = typeAt page 0 }
+shown Passed page t = record { verdict = Passed; shape = type_at page t }
+shown (Refused r) page t = record { verdict = Refused r; shape = type_at page 0 }
 
-unfoldable pub readAnswer : List ℕ → List ℕ → Bool → ℕ → TypeRead
-readAnswer page names lent t = shown (readVerdict page names lent t) page t
+unfoldable pub read_answer : List ℕ → List ℕ → Bool → ℕ → TypeRead
+read_answer page names lent t = shown (read_verdict page names lent t) page t
 
 -- ---- a type's const form (`into_const`, `const_variant`), made if it is new
 
 -- the entry of type t under its const kind
-unfoldable pub constEntry : List ℕ → ℕ → List ℕ
-constEntry page t = set (entryAt page (placeOf page t)) 1 (constVariant (kindOf page t))
+unfoldable pub const_entry : List ℕ → ℕ → List ℕ
+const_entry page t = set (entry_at page (place_of page t)) 1 (const_variant (kind_of page t))
 
-unfoldable pub constAnswer : List ℕ → ℕ → Made
-constAnswer page t = cond (ltb t fixedMax) (Made.At (constVariant t)) (enterAnswer page (constEntry page t))
+unfoldable pub const_answer : List ℕ → ℕ → Made
+const_answer page t = cond (ltb t fixed_max) (Made.At (const_variant t)) (enter_answer page (const_entry page t))
 
-unfoldable pub constPage : List ℕ → ℕ → List ℕ
-constPage page t = cond (ltb t fixedMax) page (enterPage page (constEntry page t))
+unfoldable pub const_page : List ℕ → ℕ → List ℕ
+const_page page t = cond (ltb t fixed_max) page (enter_page page (const_entry page t))

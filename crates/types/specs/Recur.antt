@@ -11,6 +11,6 @@ unfoldable pub run : {R : Type 0} → R → (ℕ → (ℕ → R) → R) → ℕ 
 run d step zero n = d
 run d step (suc f) n = step n (below d n (run d step f))
 
--- the answer for n: its step, over the answers below n (`cov-eq` in proofs/Recur.antt)
+-- the answer for n: its step, over the answers below n (`cov_eq` in proofs/Recur.antt)
 unfoldable pub cov : {R : Type 0} → R → (ℕ → (ℕ → R) → R) → ℕ → R
 cov d step n = run d step (suc n) n

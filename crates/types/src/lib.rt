@@ -3,17 +3,17 @@
 
 ghost use Rattle.std.specs.Prelude.{◌≡◌, true, cond, not, List, [], ◌∷◌, ℕ, suc, ◌+◌, ◌-◌, ◌*◌, ◌≤◌, ◌<◌, length, get_or, set, replicate};
 ghost use Rattle.refusals.specs.declared.Verdict.TheVariants.{Refused};
-ghost use Rattle.pages.specs.Quant.{anyTo, allTo};
-ghost use Rattle.pages.specs.Bytes.{within, countBytes};
+ghost use Rattle.pages.specs.Quant.{any_to, all_to};
+ghost use Rattle.pages.specs.Bytes.{within, count_bytes};
 ghost use Rattle.pages.specs.Pad.{pad};
-ghost use Rattle.chains.specs.Last.{lastBelow, Links};
-ghost use Rattle.chains.specs.Prints.{printOf};
-ghost use Rattle.kinds.specs.Kinds.{fixedMax, childrenMax, isNamed, fewest, most};
-ghost use Rattle.types.specs.Store.{entriesMax, headBytes, childBytes, childrenAt, sizeAt, offset, depthIn, larger, depthAt, isBelow, childrenBelow, partsAt, isEntry, equalTo, wholeAt, newAt, formed, Reached};
-ghost use Rattle.types.specs.Types.{typesIn, kindOf, arity, childOf, nameOf, Held, Measured};
-ghost use Rattle.types.specs.Making.{entryOf, entryMax, Ready, enterAnswer, enterPage, takenBack};
-ghost use Rattle.types.specs.Calls.{storeBroken, emptyVerdict, emptyPage, allBelow, partsUsed, makeAnswer, makePage, listTo, typeAt, shown, readAnswer, constEntry, constAnswer, constPage};
-ghost use Rattle.types.specs.Survey.{printAt, Placed, Chained, offsetsLeft, depthsLeft, openedOffsets, openedDepths};
+ghost use Rattle.chains.specs.Last.{last_below, Links};
+ghost use Rattle.chains.specs.Prints.{print_of};
+ghost use Rattle.kinds.specs.Kinds.{fixed_max, children_max, is_named, fewest, most};
+ghost use Rattle.types.specs.Store.{entries_max, head_bytes, child_bytes, children_at, size_at, offset, depth_in, larger, depth_at, is_below, children_below, parts_at, is_entry, equal_to, whole_at, new_at, formed, Reached};
+ghost use Rattle.types.specs.Types.{types_in, kind_of, arity, child_of, name_of, Held, Measured};
+ghost use Rattle.types.specs.Making.{entry_of, entry_max, Ready, enter_answer, enter_page, taken_back};
+ghost use Rattle.types.specs.Calls.{store_broken, empty_verdict, empty_page, all_below, parts_used, make_answer, make_page, list_to, type_at, shown, read_answer, const_entry, const_answer, const_page};
+ghost use Rattle.types.specs.Survey.{print_at, Placed, Chained, offsets_left, depths_left, opened_offsets, opened_depths};
 
 use kinds::{CHILDREN, FIXED, Kind};
 use names::{Symbol, symbol_index};
@@ -89,8 +89,8 @@ pub struct TypeRead {
 
 // How many bytes the entry at o takes.
 fn entry_size(page: &[u8], o: usize) -> usize
-    requires { o + headBytes ≤ length page.now }
-    ensures { (result ≡ sizeAt page.now o) × (result < 65536) }
+    requires { o + head_bytes ≤ length page.now }
+    ensures { (result ≡ size_at page.now o) × (result < 65536) }
 {
     if kinds::is_named(page[o + 1]) {
         return HEAD_BYTES + NAME_BYTES;
@@ -100,8 +100,8 @@ fn entry_size(page: &[u8], o: usize) -> usize
 
 // Whether the first k children of the entry at o are numbered below t.
 fn are_below(page: &[u8], o: usize, k: usize, t: usize) -> bool
-    requires { (o + headBytes + childBytes * k ≤ length page.now) × (k < 256) }
-    ensures { result ≡ allTo k (isBelow page.now o t) }
+    requires { (o + head_bytes + child_bytes * k ≤ length page.now) × (k < 256) }
+    ensures { result ≡ all_to k (is_below page.now o t) }
 {
     let mut i: usize = 0;
     while i < k {
@@ -115,8 +115,8 @@ fn are_below(page: &[u8], o: usize, k: usize, t: usize) -> bool
 
 // Whether the entry at o has a kind that is stored, with a name in use, of n, or with as many children as the kind takes, all below t.
 fn has_parts(page: &[u8], n: usize, t: usize, o: usize) -> bool
-    requires { (o + headBytes ≤ length page.now) × (o + sizeAt page.now o ≤ length page.now) }
-    ensures { result ≡ partsAt page.now n t o }
+    requires { (o + head_bytes ≤ length page.now) × (o + size_at page.now o ≤ length page.now) }
+    ensures { result ≡ parts_at page.now n t o }
 {
     let kind = page[o + 1];
     let children = index(page[o]);
@@ -141,7 +141,7 @@ fn has_parts(page: &[u8], n: usize, t: usize, o: usize) -> bool
 // The first of the first j entries that has these bytes, or j.
 fn find_entry(page: &[u8], j: usize, entry: &[u8]) -> usize
     requires { offset page.now j ≤ length page.now }
-    ensures { (result ≡ equalTo page.now j entry.now) × (result ≤ j) }
+    ensures { (result ≡ equal_to page.now j entry.now) × (result ≤ j) }
 {
     let mut at: usize = COUNT_BYTES;
     let mut i: usize = 0;
@@ -158,8 +158,8 @@ fn find_entry(page: &[u8], j: usize, entry: &[u8]) -> usize
 
 // The depth of a type, where depths has those of the entries.
 fn depth_in(depths: &[u8], t: usize) -> usize
-    requires { t < fixedMax + length depths.now }
-    ensures { (result ≡ depthIn depths.now t) × (result < 256) }
+    requires { t < fixed_max + length depths.now }
+    ensures { (result ≡ depth_in depths.now t) × (result < 256) }
 {
     if t < FIXED {
         return 1;
@@ -176,8 +176,8 @@ fn larger_of(a: usize, b: usize) -> usize
 
 // The depth of the entry at o.
 fn entry_depth(page: &[u8], depths: &[u8], o: usize) -> usize
-    requires { (o + headBytes ≤ length page.now) × (o + headBytes + childBytes * childrenAt page.now o ≤ length page.now) × (childrenBelow page.now o (fixedMax + length depths.now) ≡ true) }
-    ensures { (result ≡ depthAt page.now depths.now o) × (result ≤ 256) }
+    requires { (o + head_bytes ≤ length page.now) × (o + head_bytes + child_bytes * children_at page.now o ≤ length page.now) × (children_below page.now o (fixed_max + length depths.now) ≡ true) }
+    ensures { (result ≡ depth_at page.now depths.now o) × (result ≤ 256) }
 {
     let children = index(page[o]);
     let mut deepest: usize = 0;
@@ -194,7 +194,7 @@ fn entry_depth(page: &[u8], depths: &[u8], o: usize) -> usize
 // Whether entry j, which begins at o, lies in the page, has its parts, and is not too deep.
 fn is_whole(page: &[u8], n: usize, j: usize, o: usize, depths: &[u8]) -> bool
     requires { Reached page.now depths.now j o }
-    ensures { result ≡ wholeAt page.now n j }
+    ensures { result ≡ whole_at page.now n j }
 {
     if page.len() < o + HEAD_BYTES {
         return false;
@@ -218,8 +218,8 @@ fn is_among(
     head: usize,
     entry: &[u8],
 ) -> bool
-    requires { Placed page.now offsets.now j × (j ≤ length links.now) × Links (printAt page.now) links.now j × (head ≡ lastBelow (printAt page.now) j (printOf entry.now)) }
-    ensures { result ≡ anyTo j (isEntry page.now entry.now) }
+    requires { Placed page.now offsets.now j × (j ≤ length links.now) × Links (print_at page.now) links.now j × (head ≡ last_below (print_at page.now) j (print_of entry.now)) }
+    ensures { result ≡ any_to j (is_entry page.now entry.now) }
 {
     let mut next = head;
     while next > 0 {
@@ -236,8 +236,8 @@ fn is_among(
 
 // Whether entry j, which lies in the page, is equal to none before it. It is put into the chain of its print.
 fn is_new(page: &[u8], offsets: &[usize], heads: &mut [u16], links: &mut [u16], j: usize) -> bool
-    requires { (j < entriesMax) × (offset page.now (suc j) ≤ length page.now) × Placed page.now offsets.now j × Chained page.now heads.old links.old j }
-    ensures { (result ≡ newAt page.now j) × Chained page.now heads.new links.new (suc j) }
+    requires { (j < entries_max) × (offset page.now (suc j) ≤ length page.now) × Placed page.now offsets.now j × Chained page.now heads.old links.old j }
+    ensures { (result ≡ new_at page.now j) × Chained page.now heads.new links.new (suc j) }
 {
     let start = offsets[j];
     let end = start + entry_size(page, start);
@@ -266,21 +266,21 @@ fn set_offset(offsets: &mut [usize], j: usize, o: usize)
 
 // No depth yet.
 pub fn no_depths() -> Depths
-    ensures { result ≡ replicate entriesMax 0 }
+    ensures { result ≡ replicate entries_max 0 }
 {
     [0; ENTRIES]
 }
 
 // No offset yet.
 pub fn no_offsets() -> Offsets
-    ensures { result ≡ replicate (suc entriesMax) 0 }
+    ensures { result ≡ replicate (suc entries_max) 0 }
 {
     [0; ENTRIES + 1]
 }
 
 // Places for what is before each entry in its chain.
 fn no_links() -> [u16; ENTRIES]
-    ensures { result ≡ replicate entriesMax 0 }
+    ensures { result ≡ replicate entries_max 0 }
 {
     [0; ENTRIES]
 }
@@ -288,8 +288,8 @@ fn no_links() -> [u16; ENTRIES]
 // Whether the page is a store in form, with n name numbers in use. The offsets and depths of its entries are written down, up to the
 // first that breaks it. Each entry is compared with those before it that have its print.
 pub fn survey(page: &[u8], n: usize, offsets: &mut [usize], depths: &mut [u8]) -> bool
-    requires { (length offsets.old ≡ suc entriesMax) × (length depths.old ≡ entriesMax) }
-    ensures { (result ≡ formed page.now n) × (result ≡ true → Measured page.now offsets.new depths.new) × (offsets.new ≡ offsetsLeft page.now n offsets.old) × (depths.new ≡ depthsLeft page.now n depths.old) }
+    requires { (length offsets.old ≡ suc entries_max) × (length depths.old ≡ entries_max) }
+    ensures { (result ≡ formed page.now n) × (result ≡ true → Measured page.now offsets.new depths.new) × (offsets.new ≡ offsets_left page.now n offsets.old) × (depths.new ≡ depths_left page.now n depths.old) }
 {
     if page.len() < COUNT_BYTES {
         return false;
@@ -321,15 +321,15 @@ pub fn survey(page: &[u8], n: usize, offsets: &mut [usize], depths: &mut [u8]) -
 
 // How many types there are, and so the next one's number.
 pub fn count(page: &[u8]) -> usize
-    requires { countBytes ≤ length page.now }
-    ensures { result ≡ typesIn page.now }
+    requires { count_bytes ≤ length page.now }
+    ensures { result ≡ types_in page.now }
 {
     FIXED + pages::count(page)
 }
 
 // The bytes of the count of entries.
 pub fn front(page: &[u8]) -> Word
-    requires { countBytes ≤ length page.now }
+    requires { count_bytes ≤ length page.now }
     ensures { result ≡ get_or page.now 0 0 ∷ get_or page.now 1 0 ∷ [] }
 {
     [page[0], page[1]]
@@ -337,8 +337,8 @@ pub fn front(page: &[u8]) -> Word
 
 // Where the entry of a type begins, as the table has it; for the next type's number, where the last entry ends.
 pub fn offset_of(offsets: &[usize], t: usize) -> usize
-    requires { (fixedMax ≤ t) × (t < fixedMax + length offsets.now) × (length offsets.now ≡ suc entriesMax) }
-    ensures { result ≡ get_or offsets.now (t - fixedMax) 0 }
+    requires { (fixed_max ≤ t) × (t < fixed_max + length offsets.now) × (length offsets.now ≡ suc entries_max) }
+    ensures { result ≡ get_or offsets.now (t - fixed_max) 0 }
 {
     offsets[t - FIXED]
 }
@@ -346,8 +346,8 @@ pub fn offset_of(offsets: &[usize], t: usize) -> usize
 // The kind of a type.
 pub fn kind_of(page: &[u8], offsets: &[usize], t: usize) -> Kind
     requires held { Held page.now offsets.now }
-    requires t_bound { t < typesIn page.now }
-    ensures { result ≡ kindOf page.now t }
+    requires t_bound { t < types_in page.now }
+    ensures { result ≡ kind_of page.now t }
 {
     if t < FIXED {
         return t as u8;
@@ -358,8 +358,8 @@ pub fn kind_of(page: &[u8], offsets: &[usize], t: usize) -> Kind
 // How many children a type has.
 pub fn arity(page: &[u8], offsets: &[usize], t: usize) -> usize
     requires held { Held page.now offsets.now }
-    requires t_bound { t < typesIn page.now }
-    ensures { (result ≡ arity page.now t) × (result ≤ childrenMax) }
+    requires t_bound { t < types_in page.now }
+    ensures { (result ≡ arity page.now t) × (result ≤ children_max) }
 {
     if t < FIXED {
         return 0;
@@ -370,8 +370,8 @@ pub fn arity(page: &[u8], offsets: &[usize], t: usize) -> usize
 // Child i of a type, numbered below it.
 pub fn child_of(page: &[u8], offsets: &[usize], t: usize, i: usize) -> usize
     requires held { Held page.now offsets.now }
-    requires t_bound { (t < typesIn page.now) × (i < arity page.now t) }
-    ensures { (result ≡ childOf page.now t i) × (result < t) }
+    requires t_bound { (t < types_in page.now) × (i < arity page.now t) }
+    ensures { (result ≡ child_of page.now t i) × (result < t) }
 {
     pages::word_at(page, offset_of(offsets, t) + HEAD_BYTES + CHILD_BYTES * i)
 }
@@ -379,8 +379,8 @@ pub fn child_of(page: &[u8], offsets: &[usize], t: usize, i: usize) -> usize
 // The name of a type whose kind has one.
 pub fn name_of(page: &[u8], offsets: &[usize], t: usize) -> Symbol
     requires held { Held page.now offsets.now }
-    requires t_bound { (t < typesIn page.now) × (isNamed (kindOf page.now t) ≡ true) }
-    ensures { result ≡ nameOf page.now t }
+    requires t_bound { (t < types_in page.now) × (is_named (kind_of page.now t) ≡ true) }
+    ensures { result ≡ name_of page.now t }
 {
     index(page[offset_of(offsets, t) + HEAD_BYTES]) as Symbol
 }
@@ -388,7 +388,7 @@ pub fn name_of(page: &[u8], offsets: &[usize], t: usize) -> Symbol
 // Enters an entry in a store that an entry call found in form: the number of its equal, else the next. The tables grow with it.
 pub fn enter(page: &mut [u8], offsets: &mut [usize], depths: &mut [u8], entry: &[u8]) -> Made
     requires { Ready page.old offsets.old depths.old entry.now }
-    ensures { (result ≡ enterAnswer page.old entry.now) × (page.new ≡ enterPage page.old entry.now) × (Measured page.new offsets.new depths.new) }
+    ensures { (result ≡ enter_answer page.old entry.now) × (page.new ≡ enter_page page.old entry.now) × (Measured page.new offsets.new depths.new) }
 {
     let n = pages::count(page);
     let k = find_entry(page, n, entry);
@@ -416,7 +416,7 @@ pub fn enter(page: &mut [u8], offsets: &mut [usize], depths: &mut [u8], entry: &
 
 // Makes the page a store of the fixed types alone.
 pub fn empty_types(page: &mut [u8]) -> Verdict
-    ensures { (result ≡ emptyVerdict page.old) × (page.new ≡ emptyPage page.old) }
+    ensures { (result ≡ empty_verdict page.old) × (page.new ≡ empty_page page.old) }
 {
     if page.len() < COUNT_BYTES {
         return Verdict::Refused(Refusal::Broken);
@@ -427,15 +427,15 @@ pub fn empty_types(page: &mut [u8]) -> Verdict
 
 // No byte of an entry yet.
 fn no_bytes() -> EntryBytes
-    ensures { result ≡ replicate entryMax 0 }
+    ensures { result ≡ replicate entry_max 0 }
 {
     [0; ENTRY_BYTES]
 }
 
 // The entry of a type: of a kind with a name that name, of another kind its children. The number of a name in use fits its byte.
 pub fn entry_of(kind: Kind, children: &[u16], name: Symbol) -> Entry
-    requires { length children.now ≤ childrenMax }
-    ensures { (result.bytes ≡ pad entryMax 0 (entryOf kind children.now name)) × (result.size ≡ length (entryOf kind children.now name)) × (result.size ≤ entryMax) }
+    requires { length children.now ≤ children_max }
+    ensures { (result.bytes ≡ pad entry_max 0 (entry_of kind children.now name)) × (result.size ≡ length (entry_of kind children.now name)) × (result.size ≤ entry_max) }
 {
     let mut bytes = no_bytes();
     if kinds::is_named(kind) {
@@ -464,9 +464,9 @@ pub fn enter_type(
     children: &[u16],
     name: Symbol,
 ) -> Made
-    requires children_len_bound { length children.now ≤ childrenMax }
-    requires ready { Ready page.old offsets.old depths.old (entryOf kind children.now name) }
-    ensures { (result ≡ enterAnswer page.old (entryOf kind children.now name)) × (page.new ≡ enterPage page.old (entryOf kind children.now name)) × (Measured page.new offsets.new depths.new) }
+    requires children_len_bound { length children.now ≤ children_max }
+    requires ready { Ready page.old offsets.old depths.old (entry_of kind children.now name) }
+    ensures { (result ≡ enter_answer page.old (entry_of kind children.now name)) × (page.new ≡ enter_page page.old (entry_of kind children.now name)) × (Measured page.new offsets.new depths.new) }
 {
     let entry = entry_of(kind, children, name);
     let bytes = entry.bytes;
@@ -476,7 +476,7 @@ pub fn enter_type(
 
 // Whether all of these numbers are below t.
 fn all_below(children: &[u16], t: usize) -> bool
-    ensures { result ≡ allBelow t children.now }
+    ensures { result ≡ all_below t children.now }
 {
     let mut i: usize = 0;
     while i < children.len() {
@@ -490,8 +490,8 @@ fn all_below(children: &[u16], t: usize) -> bool
 
 // Whether the children of a type are in use and, if its kind has one, its name, of n.
 fn parts_used(page: &[u8], n: usize, kind: Kind, children: &[u16], name: Symbol) -> bool
-    requires { countBytes ≤ length page.now }
-    ensures { result ≡ partsUsed page.now n kind children.now name }
+    requires { count_bytes ≤ length page.now }
+    ensures { result ≡ parts_used page.now n kind children.now name }
 {
     if !all_below(children, FIXED + pages::count(page)) {
         return false;
@@ -518,7 +518,7 @@ pub fn make_type(
     children: &[u16],
     name: Symbol,
 ) -> Made
-    ensures { (result ≡ makeAnswer page.old names.now lent kind children.now name) × (page.new ≡ makePage page.old names.now lent kind children.now name) }
+    ensures { (result ≡ make_answer page.old names.now lent kind children.now name) × (page.new ≡ make_page page.old names.now lent kind children.now name) }
 {
     if kinds::GENERIC < kind {
         return Made::Refused(Refusal::Undefined);
@@ -546,7 +546,7 @@ pub fn make_type(
 
 // No child yet.
 fn no_children() -> Children
-    ensures { result ≡ replicate childrenMax 0 }
+    ensures { result ≡ replicate children_max 0 }
 {
     [0; CHILDREN]
 }
@@ -562,8 +562,8 @@ pub fn set_type(types: &mut [u16], i: usize, t: usize)
 // The children of a type, with zeros after them.
 fn children_of(page: &[u8], offsets: &[usize], t: usize) -> Children
     requires held { Held page.now offsets.now }
-    requires t_bound { t < typesIn page.now }
-    ensures { result ≡ pad childrenMax 0 (listTo (arity page.now t) (childOf page.now t)) }
+    requires t_bound { t < types_in page.now }
+    ensures { result ≡ pad children_max 0 (list_to (arity page.now t) (child_of page.now t)) }
 {
     let mut children = no_children();
     let count = arity(page, offsets, t);
@@ -579,8 +579,8 @@ fn children_of(page: &[u8], offsets: &[usize], t: usize) -> Children
 // The name of a type, 0 where it has none.
 fn name_or_zero(page: &[u8], offsets: &[usize], t: usize) -> Symbol
     requires held { Held page.now offsets.now }
-    requires t_bound { t < typesIn page.now }
-    ensures { result ≡ cond (isNamed (kindOf page.now t)) (nameOf page.now t) 0 }
+    requires t_bound { t < types_in page.now }
+    ensures { result ≡ cond (is_named (kind_of page.now t)) (name_of page.now t) 0 }
 {
     if kinds::is_named(kind_of(page, offsets, t)) {
         return name_of(page, offsets, t);
@@ -591,8 +591,8 @@ fn name_or_zero(page: &[u8], offsets: &[usize], t: usize) -> Symbol
 // A type by value.
 fn shape_of(page: &[u8], offsets: &[usize], depths: &[u8], t: usize) -> Shape
     requires measured { Measured page.now offsets.now depths.now }
-    requires t_bound { t < typesIn page.now }
-    ensures { result ≡ typeAt page.now t }
+    requires t_bound { t < types_in page.now }
+    ensures { result ≡ type_at page.now t }
 {
     Shape {
         kind: kind_of(page, offsets, t),
@@ -621,7 +621,7 @@ fn no_type(refusal: Refusal) -> TypeRead
 
 // The type with number t. Names are looked at where `lent` is true.
 pub fn read_type(page: &[u8], names: &[u8], lent: bool, t: usize) -> TypeRead
-    ensures { result ≡ readAnswer page.now names.now lent t }
+    ensures { result ≡ read_answer page.now names.now lent t }
 {
     if names::is_broken(names, lent) {
         return no_type(Refusal::Broken);
@@ -643,7 +643,7 @@ pub fn read_type(page: &[u8], names: &[u8], lent: bool, t: usize) -> TypeRead
 
 // Writes another kind into an entry.
 fn set_kind(bytes: &mut [u8], kind: Kind)
-    requires { headBytes ≤ length bytes.old }
+    requires { head_bytes ≤ length bytes.old }
     ensures { bytes.new ≡ set bytes.old 1 kind }
 {
     bytes[1] = kind;
@@ -652,8 +652,8 @@ fn set_kind(bytes: &mut [u8], kind: Kind)
 // The entry of a type that is not fixed, under its const kind.
 fn const_entry(page: &[u8], offsets: &[usize], t: usize) -> Entry
     requires held { Held page.now offsets.now }
-    requires fixed_max_le_t { (fixedMax ≤ t) × (t < typesIn page.now) }
-    ensures { (result.bytes ≡ pad entryMax 0 (constEntry page.now t)) × (result.size ≡ length (constEntry page.now t)) × (result.size ≤ entryMax) }
+    requires fixed_max_le_t { (fixed_max ≤ t) × (t < types_in page.now) }
+    ensures { (result.bytes ≡ pad entry_max 0 (const_entry page.now t)) × (result.size ≡ length (const_entry page.now t)) × (result.size ≤ entry_max) }
 {
     let at = offset_of(offsets, t);
     let size = entry_size(page, at);
@@ -667,8 +667,8 @@ fn const_entry(page: &[u8], offsets: &[usize], t: usize) -> Entry
 // next. The tables grow with it.
 pub fn const_form(page: &mut [u8], offsets: &mut [usize], depths: &mut [u8], t: usize) -> Made
     requires measured { Measured page.old offsets.old depths.old }
-    requires t_bound { t < typesIn page.old }
-    ensures { (result ≡ constAnswer page.old t) × (page.new ≡ constPage page.old t) × (Measured page.new offsets.new depths.new) }
+    requires t_bound { t < types_in page.old }
+    ensures { (result ≡ const_answer page.old t) × (page.new ≡ const_page page.old t) × (Measured page.new offsets.new depths.new) }
 {
     if t < FIXED {
         return Made::At(index(kinds::const_variant(t as u8)));
@@ -681,8 +681,8 @@ pub fn const_form(page: &mut [u8], offsets: &mut [usize], depths: &mut [u8], t: 
 
 // Takes back the entries from index `end` on, the count's bytes having been these.
 pub fn take_back(page: &mut [u8], count: Word, end: usize)
-    requires { (countBytes ≤ end) × (end ≤ length page.old) }
-    ensures { page.new ≡ takenBack page.old count end }
+    requires { (count_bytes ≤ end) × (end ≤ length page.old) }
+    ensures { page.new ≡ taken_back page.old count end }
 {
     pages::clear(&mut page[end..]);
     pages::put_bytes(page, 0, &count);
@@ -696,8 +696,8 @@ pub fn opened(
     offsets: &mut [usize],
     depths: &mut [u8],
 ) -> bool
-    requires { (length offsets.old ≡ suc entriesMax) × (length depths.old ≡ entriesMax) }
-    ensures { (storeBroken page.now names.now lent ≡ not result) × (result ≡ true → Measured page.now offsets.new depths.new) × (offsets.new ≡ openedOffsets page.now names.now lent offsets.old) × (depths.new ≡ openedDepths page.now names.now lent depths.old) }
+    requires { (length offsets.old ≡ suc entries_max) × (length depths.old ≡ entries_max) }
+    ensures { (store_broken page.now names.now lent ≡ not result) × (result ≡ true → Measured page.now offsets.new depths.new) × (offsets.new ≡ opened_offsets page.now names.now lent offsets.old) × (depths.new ≡ opened_depths page.now names.now lent depths.old) }
 {
     if names::is_broken(names, lent) {
         return false;

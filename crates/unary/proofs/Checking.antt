@@ -13,49 +13,49 @@ use lib.ListN.{length, get_or, take, set, length-set, replicate, length-replicat
 use lib.Seq.{get_or-set_same, get_or-set_other}
 use borrow.Author.Tests.{eqb-true, eqb-false, eq-eqb, ne_eqb}
 use Rattle.refusals.specs.declared.Refusal.{Refusal}
-use Rattle.pages.proofs.Bytes.{made-at}
-use Rattle.kinds.specs.Kinds.{isUnion}
-use Rattle.types.specs.Store.{typesMax, Formed}
-use Rattle.types.specs.Types.{typesIn, kindOf, Measured}
+use Rattle.pages.proofs.Bytes.{made_at}
+use Rattle.kinds.specs.Kinds.{is_union}
+use Rattle.types.specs.Store.{types_max, Formed}
+use Rattle.types.specs.Types.{types_in, kind_of, Measured}
 use Rattle.types.specs.Making.{Grows}
-use Rattle.types.specs.Calls.{allBelow}
+use Rattle.types.specs.Calls.{all_below}
 use Rattle.types.specs.declared.Made.{Made}
-use Rattle.types.proofs.Types.{types-few}
-use Rattle.types.proofs.Grown.{grows-refl, grows-trans}
+use Rattle.types.proofs.Types.{types_few}
+use Rattle.types.proofs.Grown.{grows_refl, grows_trans}
 use Rattle.matching.specs.declared.Checked.{Checked}
-use Rattle.operators.specs.Operators.{noFamily, familyOf}
-use Rattle.operators.specs.Outcome.{noError, outcome, plainUnary}
+use Rattle.operators.specs.Operators.{no_family, family_of}
+use Rattle.operators.specs.Outcome.{no_error, outcome, plain_unary}
 use Rattle.operators.specs.declared.Errors.{Errors}
 use Rattle.operators.specs.declared.Outcome.{Outcome}
-use Rattle.members.specs.Members.{membersMax, sizeOf, member, Entered, entered, unionOf, concluded, conclude}
+use Rattle.members.specs.Members.{members_max, size_of, member, Entered, entered, union_of, concluded, conclude}
 use Rattle.members.specs.declared.Conclusion.{Conclusion}
-use Rattle.members.proofs.Members.{size-few, member-lower}
+use Rattle.members.proofs.Members.{size_few, member_lower}
 use Rattle.members.proofs.Merging.{Merges}
-use Rattle.members.proofs.Unions.{merged-some, union-sound}
-use Rattle.unary.proofs.Passing.{passing-some}
-use Rattle.unary.proofs.Failing.{errors-passes}
-use Rattle.unary.proofs.Answers.{under, under-is, answer-plain, answer-union, ResultsSound, results-of}
-use Rattle.unary.proofs.Answers.{Passing, member-passes, answer-sound, answer-again}
-use Rattle.unary.specs.Unary.{so_far, stopped, oneMore, resultNext, resultsTo, together}
-use Rattle.unary.specs.Unary.{unaryErrors, unaryResult, Remembered, Working, checkUnary}
+use Rattle.members.proofs.Unions.{merged_some, union_sound}
+use Rattle.unary.proofs.Passing.{passing_some}
+use Rattle.unary.proofs.Failing.{errors_passes}
+use Rattle.unary.proofs.Answers.{under, under_is, answer_plain, answer_union, ResultsSound, results_of}
+use Rattle.unary.proofs.Answers.{Passing, member_passes_lem, answer_sound, answer_again}
+use Rattle.unary.specs.Unary.{so_far, stopped, one_more, result_next, results_to, together}
+use Rattle.unary.specs.Unary.{unary_errors, unary_result, Remembered, Working, check_unary}
 
 -- ---- what is remembered
 
-pub remembered-none : (page : List ℕ) → Remembered page (replicate typesMax 0)
-remembered-none page = record {
-  size = length-replicate {A = ℕ} typesMax 0;
-  right = λ t r e q g f. absurd (omega (arith, e, made-at typesMax t));
+pub remembered_none : (page : List ℕ) → Remembered page (replicate types_max 0)
+remembered_none page = record {
+  size = length-replicate {A = ℕ} types_max 0;
+  right = λ t r e q g f. absurd (omega (arith, e, made_at types_max t));
 }
 
-remembered-grown : (p q done : List ℕ) → Formed p → Grows p q → Remembered p done → Remembered q done
-remembered-grown p q done f g m = record {
+remembered_grown : (p q done : List ℕ) → Formed p → Grows p q → Remembered p done → Remembered q done
+remembered_grown p q done f g m = record {
   size = m.size;
-  right = λ t r e s h fs. m.right t r e s (grows-trans p q s f g h) fs;
+  right = λ t r e s h fs. m.right t r e s (grows_trans p q s f g h) fs;
 }
 
 -- what a working type came to, and what is promised of it
 abbrev pub Done : ℕ → List ℕ → List ℕ → List ℕ → List ℕ → List ℕ → Made → Type 0
-Done t page after os ds done r = (entered r after ≡ unaryResult t page) × (Measured after os ds × Remembered after done)
+Done t page after os ds done r = (entered r after ≡ unary_result t page) × (Measured after os ds × Remembered after done)
 
 module _ {page os ds done : List ℕ} {op t : ℕ} (w : Working page os ds done op t) where
   form : Formed page
@@ -64,31 +64,31 @@ module _ {page os ds done : List ℕ} {op t : ℕ} (w : Working page os ds done 
   passing : Passing op page t
   passing = (form, w.used, w.passing)
 
-  pub low : t < typesMax
-  low = omega (arith, w.used, types-few page form)
+  pub low : t < types_max
+  low = omega (arith, w.used, types_few page form)
 
-  pub done-plain : {k r : ℕ} → k ≡ kindOf page t → isUnion k ≡ false → r ≡ familyOf k → Done t page page os ds done (Made.At r)
-  done-plain is h e = (rw (e, is) (sym (answer-plain t page (rw is at h))), (w.measured, w.remembered))
+  pub done_plain : {k r : ℕ} → k ≡ kind_of page t → is_union k ≡ false → r ≡ family_of k → Done t page page os ds done (Made.At r)
+  done_plain is h e = (rw (e, is) (sym (answer_plain t page (rw is at h))), (w.measured, w.remembered))
 
   -- met before
-  pub done-before : {n : ℕ} → n ≡ get_or done t 0 → (n ≡ 0 → ⊥) → Done t page page os ds done (Made.At (n - 1))
-  done-before {n} e h =
+  pub done_before : {n : ℕ} → n ≡ get_or done t 0 → (n ≡ 0 → ⊥) → Done t page page os ds done (Made.At (n - 1))
+  done_before {n} e h =
       let s : get_or done t 0 ≡ suc (n - 1) = sym e ∙ positive n h in
-      (sym (w.remembered.right t (n - 1) s page (grows-refl page) form), (w.measured, w.remembered))
+      (sym (w.remembered.right t (n - 1) s page (grows_refl page) form), (w.measured, w.remembered))
     where
       positive : (n : ℕ) → (n ≡ 0 → ⊥) → n ≡ suc (n - 1)
       positive zero h = absurd (h refl)
       positive (suc n) h = omega arith
 
   module _ {after os' ds' done' : List ℕ} where
-    pub done-low : {m : Made} → Done t page after os' ds' done' m → {r : ℕ} → m ≡ Made.At r → r < typesMax
-    done-low z {r} e =
-        let s = answer-sound op w.operator t page passing in
-        omega (arith, s.used r (sym (ap (λ (o : Entered). o.made) z.0) ∙ e), types-few (unaryResult t page).store s.form)
+    pub done_low : {m : Made} → Done t page after os' ds' done' m → {r : ℕ} → m ≡ Made.At r → r < types_max
+    done_low z {r} e =
+        let s = answer_sound op w.operator t page passing in
+        omega (arith, s.used r (sym (ap (λ (o : Entered). o.made) z.0) ∙ e), types_few (unary_result t page).store s.form)
 
     -- what it came to, remembered
-    pub done-noted : {r : ℕ} → Done t page after os' ds' done' (Made.At r) → Done t page after os' ds' (set done' t (r + 1)) (Made.At r)
-    done-noted {r} z = rw (add-one r) (
+    pub done_noted : {r : ℕ} → Done t page after os' ds' done' (Made.At r) → Done t page after os' ds' (set done' t (r + 1)) (Made.At r)
+    done_noted {r} z = rw (add-one r) (
       z.0,
       (
         z.1.0,
@@ -100,44 +100,44 @@ module _ {page os ds done : List ℕ} {op t : ℕ} (w : Working page os ds done 
     )
       where
         go : (u x : ℕ) → get_or (set done' t (suc r)) u 0 ≡ suc x → (q : List ℕ) → Grows after q → Formed q → (b : Bool) → eqb u t ≡ b
-            → unaryResult u q ≡ entered (Made.At x) q
+            → unary_result u q ≡ entered (Made.At x) q
         go u x e q g f true b =
             let h = eqb-true u t b in
             let noted = get_or-set_same done' t (suc r) 0 (omega (arith, low, z.1.1.size)) in
             let v : x ≡ r = omega (arith, sym noted ∙ ap (λ (y : ℕ). get_or (set done' t (suc r)) y 0) (sym h) ∙ e) in
-            rw (h, v) (answer-again op w.operator t page passing r (sym (ap (λ (o : Entered). o.made) z.0)) q (rw (← z.0) g) f)
+            rw (h, v) (answer_again op w.operator t page passing r (sym (ap (λ (o : Entered). o.made) z.0)) q (rw (← z.0) g) f)
         go u x e q g f false b = z.1.1.right u x (sym (get_or-set_other done' t u (suc r) 0 (eqb-false u t b)) ∙ e) q g f
 
 -- ---- the members, one after another
 
 -- a refusal ends them
-results-stay : (rule : ℕ → List ℕ → Entered) (page : List ℕ) (t i n : ℕ) (q : Refusal) (s : List ℕ) → i ≤ n
-    → resultsTo rule page t i ≡ stopped q s → resultsTo rule page t n ≡ stopped q s
-unfolding resultsTo resultNext
-results-stay rule page t i zero q s l e = let z : i ≡ 0 = omega arith in rw z at e
-results-stay rule page t i (suc n) q s l e =
-    ⊎_elim (λ (x : i ≡ suc n). rw x at e) (λ (x : i < suc n). rw (results-stay rule page t i n q s (le_of_suc-le-suc x) e) refl)
+results_stay : (rule : ℕ → List ℕ → Entered) (page : List ℕ) (t i n : ℕ) (q : Refusal) (s : List ℕ) → i ≤ n
+    → results_to rule page t i ≡ stopped q s → results_to rule page t n ≡ stopped q s
+unfolding results_to result_next
+results_stay rule page t i zero q s l e = let z : i ≡ 0 = omega arith in rw z at e
+results_stay rule page t i (suc n) q s l e =
+    ⊎_elim (λ (x : i ≡ suc n). rw x at e) (λ (x : i < suc n). rw (results_stay rule page t i n q s (le_of_suc-le-suc x) e) refl)
     (eq-or-lt_of_le l)
 
 -- where the walk over the members of t stands: the first i are checked, their k distinct results stand in `results`, and the store is p
 pub record Trying (page : List ℕ) (t n i k : ℕ) (results p os ds done : List ℕ) : Type 0 where
-  pub within-n : i ≤ n
+  pub within_n : i ≤ n
   pub few : k ≤ i
   pub some : 0 < i → 0 < k
-  pub places : length results ≡ membersMax
-  pub reached : resultsTo (under t) page t i ≡ so_far (take k results) p
+  pub places : length results ≡ members_max
+  pub reached : results_to (under t) page t i ≡ so_far (take k results) p
   pub measured : Measured p os ds
   pub remembered : Remembered p done
 
-module _ {page os₀ ds₀ done₀ : List ℕ} {op t : ℕ} (w : Working page os₀ ds₀ done₀ op t) (h : isUnion (kindOf page t) ≡ true)
-    {n : ℕ} (all : n ≡ sizeOf page t) where
+module _ {page os₀ ds₀ done₀ : List ℕ} {op t : ℕ} (w : Working page os₀ ds₀ done₀ op t) (h : is_union (kind_of page t) ≡ true)
+    {n : ℕ} (all : n ≡ size_of page t) where
   base : Formed page
   base = w.measured.held.sound
 
-  pub tried-none : (results : List ℕ) → length results ≡ membersMax → Trying page t n 0 0 results page os₀ ds₀ done₀
-  unfolding resultsTo
-  tried-none results l = record {
-    within-n = omega arith;
+  pub tried_none : (results : List ℕ) → length results ≡ members_max → Trying page t n 0 0 results page os₀ ds₀ done₀
+  unfolding results_to
+  tried_none results l = record {
+    within_n = omega arith;
     few = omega arith;
     some = λ x. x;
     places = l;
@@ -148,22 +148,22 @@ module _ {page os₀ ds₀ done₀ : List ℕ} {op t : ℕ} (w : Working page os
 
   module _ {i k : ℕ} {results p os ds done : List ℕ} (z : Trying page t n i k results p os ds done) where
     sound : ResultsSound page (so_far (take k results) p)
-    sound = results-of op w.operator page t (passing w) h i (omega (arith, all, z.within-n)) (take k results) p z.reached
+    sound = results_of op w.operator page t (passing w) h i (omega (arith, all, z.within_n)) (take k results) p z.reached
 
-    pub tried-size : length p ≡ length page
-    tried-size = sound.0.size
+    pub tried_size : length p ≡ length page
+    tried_size = sound.0.size
 
     module _ (l : i < n) {x : ℕ} (is : x ≡ member page t i) where
-      here : i < sizeOf page t
+      here : i < size_of page t
       here = rw (← all) l
 
-      pub member-low : x < t
-      member-low = rw is (member-lower page base t w.used h i here)
+      pub member_low : x < t
+      member_low = rw is (member_lower page base t w.used h i here)
 
       -- what its check asks for
-      pub member-works : Working p os ds done op x
-      member-works =
-          let m = member-passes op (passing w) h i here p sound.1 sound.0 in
+      pub member_works : Working p os ds done op x
+      member_works =
+          let m = member_passes_lem op (passing w) h i here p sound.1 sound.0 in
           record {
             measured = z.measured;
             used = rw is m.1;
@@ -173,21 +173,21 @@ module _ {page os₀ ds₀ done₀ : List ℕ} {op t : ℕ} (w : Working page os
           }
 
       -- there is a place for its result
-      pub member-room : k < membersMax
-      member-room = omega (arith, z.few, here, size-few page base t w.used)
+      pub member_room : k < members_max
+      member_room = omega (arith, z.few, here, size_few page base t w.used)
 
       module _ {m : Made} {q os' ds' done' : List ℕ} (d : Done x p q os' ds' done' m) where
-        next : resultsTo (under t) page t (suc i) ≡ oneMore (take k results) m q
-        unfolding resultsTo resultNext
-        next = rw (z.reached, ← is, under-is t x p member-low, ← d.0) refl
+        next : results_to (under t) page t (suc i) ≡ one_more (take k results) m q
+        unfolding results_to result_next
+        next = rw (z.reached, ← is, under_is t x p member_low, ← d.0) refl
 
-        pub tried-next : {r : ℕ} → m ≡ Made.At r → {k' : ℕ} {results' : List ℕ} → Merges results results' k r k'
+        pub tried_next : {r : ℕ} → m ≡ Made.At r → {k' : ℕ} {results' : List ℕ} → Merges results results' k r k'
             → Trying page t n (i + 1) k' results' q os' ds' done'
-        unfolding oneMore
-        tried-next {r} e c = record {
-          within-n = omega arith;
+        unfolding one_more
+        tried_next {r} e c = record {
+          within_n = omega arith;
           few = omega (arith, z.few, c.0);
-          some = λ y. omega (arith, c.3, merged-some r (take k results));
+          some = λ y. omega (arith, c.3, merged_some r (take k results));
           places = c.2;
           reached = rw (add-one i, c.1) (next ∙ rw e refl);
           measured = d.1.0;
@@ -195,68 +195,68 @@ module _ {page os₀ ds₀ done₀ : List ℕ} {op t : ℕ} (w : Working page os
         }
 
         -- a refusal is that of the whole
-        pub tried-stop : {y : Refusal} → m ≡ Made.Refused y → Done t page q os' ds' done' m
-        unfolding together oneMore
-        tried-stop {y} e =
-            let s : resultsTo (under t) page t (sizeOf page t) ≡ stopped y q =
-            results-stay (under t) page t (suc i) (sizeOf page t) y q here (next ∙ rw e refl) in
-            (sym (answer-union t page h ∙ rw (s, e) refl), d.1)
+        pub tried_stop : {y : Refusal} → m ≡ Made.Refused y → Done t page q os' ds' done' m
+        unfolding together one_more
+        tried_stop {y} e =
+            let s : results_to (under t) page t (size_of page t) ≡ stopped y q =
+            results_stay (under t) page t (suc i) (size_of page t) y q here (next ∙ rw e refl) in
+            (sym (answer_union t page h ∙ rw (s, e) refl), d.1)
 
     -- all members checked: their union is entered
     module _ (l : n ≤ i) where
-      at-end : resultsTo (under t) page t (sizeOf page t) ≡ so_far (take k results) p
-      at-end = let e : i ≡ n = omega (arith, z.within-n) in rw (← all, ← e) z.reached
+      at_end : results_to (under t) page t (size_of page t) ≡ so_far (take k results) p
+      at_end = let e : i ≡ n = omega (arith, z.within_n) in rw (← all, ← e) z.reached
 
-      pub union-asks : Measured p os ds × ((0 < k) × (k ≤ length results) × (allBelow (typesIn p) (take k results) ≡ true))
-      union-asks = (
+      pub union_asks : Measured p os ds × ((0 < k) × (k ≤ length results) × (all_below (types_in p) (take k results) ≡ true))
+      union_asks = (
         z.measured,
         (
-          z.some (omega (arith, all, passing-some page op t w.passing base w.used h)),
-          omega (arith, z.few, z.within-n, all, z.places, size-few page base t w.used),
+          z.some (omega (arith, all, passing_some page op t w.passing base w.used h)),
+          omega (arith, z.few, z.within_n, all, z.places, size_few page base t w.used),
           sound.2,
         ),
       )
 
-      pub union-done : {r : Made} {q os' ds' : List ℕ} → entered r q ≡ unionOf p (take k results) → Measured q os' ds'
+      pub union_done : {r : Made} {q os' ds' : List ℕ} → entered r q ≡ union_of p (take k results) → Measured q os' ds'
           → Done t page q os' ds' done r
       unfolding together
-      union-done {r} {q} e m =
-          let g : Grows p q = rw (← e) at (union-sound p sound.1 (take k results) sound.2).grown in
-          (e ∙ sym (answer-union t page h ∙ rw at-end refl), (m, remembered-grown p q done sound.1 g z.remembered))
+      union_done {r} {q} e m =
+          let g : Grows p q = rw (← e) at (union_sound p sound.1 (take k results) sound.2).grown in
+          (e ∙ sym (answer_union t page h ∙ rw at_end refl), (m, remembered_grown p q done sound.1 g z.remembered))
 
 -- ---- on a Known type, and on checked types
 
-module _ {page os ds : List ℕ} (m : Measured page os ds) {op t : ℕ} (o : 0 < op) (u : t < typesIn page) {e : Errors}
-    (is : e ≡ unaryErrors page op t) where
-  pub known-fails : (e.count ≡ 0 → ⊥) → {f : Outcome} → f ≡ outcome Checked.Unknown e
-      → (concluded (Conclusion.Is f) page ≡ checkUnary page op (Checked.Known t)) × Measured page os ds
-  unfolding checkUnary
-  known-fails c d = (rw (d, ← is, ne_eqb e.count 0 c) refl, m)
+module _ {page os ds : List ℕ} (m : Measured page os ds) {op t : ℕ} (o : 0 < op) (u : t < types_in page) {e : Errors}
+    (is : e ≡ unary_errors page op t) where
+  pub known_fails : (e.count ≡ 0 → ⊥) → {f : Outcome} → f ≡ outcome Checked.Unknown e
+      → (concluded (Conclusion.Is f) page ≡ check_unary page op (Checked.Known t)) × Measured page os ds
+  unfolding check_unary
+  known_fails c d = (rw (d, ← is, ne_eqb e.count 0 c) refl, m)
 
   module _ (c : e.count ≡ 0) where
-    none : eqb (unaryErrors page op t).count 0 ≡ true
+    none : eqb (unary_errors page op t).count 0 ≡ true
     none = rw (← is) (eq-eqb e.count 0 c)
 
-    pub known-works : {done : List ℕ} → done ≡ replicate typesMax 0 → Working page os ds done op t
-    known-works d = record {
+    pub known_works : {done : List ℕ} → done ≡ replicate types_max 0 → Working page os ds done op t
+    known_works d = record {
       measured = m;
       used = u;
-      passing = sym (errors-passes page op t m.held.sound u) ∙ none;
+      passing = sym (errors_passes page op t m.held.sound u) ∙ none;
       operator = o;
-      remembered = rw d (remembered-none page);
+      remembered = rw d (remembered_none page);
     }
 
-    pub known-done : {r : Made} {q : List ℕ} → entered r q ≡ unaryResult t page → {d : Conclusion} → d ≡ conclude r
-        → concluded d q ≡ checkUnary page op (Checked.Known t)
-    unfolding checkUnary
-    known-done a d = rw (none, ← a, d) refl
+    pub known_done : {r : Made} {q : List ℕ} → entered r q ≡ unary_result t page → {d : Conclusion} → d ≡ conclude r
+        → concluded d q ≡ check_unary page op (Checked.Known t)
+    unfolding check_unary
+    known_done a d = rw (none, ← a, d) refl
 
-pub unknown-checked : (page : List ℕ) (op : ℕ)
-    → concluded (Conclusion.Is (outcome Checked.Unknown noError)) page ≡ checkUnary page op Checked.Unknown
-unfolding checkUnary
-unknown-checked page op = refl
+pub unknown_checked : (page : List ℕ) (op : ℕ)
+    → concluded (Conclusion.Is (outcome Checked.Unknown no_error)) page ≡ check_unary page op Checked.Unknown
+unfolding check_unary
+unknown_checked page op = refl
 
-pub function-checked : (page : List ℕ) (op t : ℕ)
-    → concluded (Conclusion.Is (plainUnary op noFamily)) page ≡ checkUnary page op (Checked.Function t)
-unfolding checkUnary
-function-checked page op t = refl
+pub function_checked : (page : List ℕ) (op t : ℕ)
+    → concluded (Conclusion.Is (plain_unary op no_family)) page ≡ check_unary page op (Checked.Function t)
+unfolding check_unary
+function_checked page op t = refl

@@ -2,13 +2,13 @@
 #![tactic(auto)]
 
 ghost use Rattle.std.specs.Prelude.{◌≡◌, true, ◌+◌, ◌<◌, length, get_or, set, replicate};
-ghost use Rattle.kinds.specs.Kinds.{isUnion};
-ghost use Rattle.types.specs.Store.{typesMax};
-ghost use Rattle.types.specs.Types.{typesIn, kindOf, Held, Measured};
-ghost use Rattle.matching.specs.Matching.{inUse};
+ghost use Rattle.kinds.specs.Kinds.{is_union};
+ghost use Rattle.types.specs.Store.{types_max};
+ghost use Rattle.types.specs.Types.{types_in, kind_of, Held, Measured};
+ghost use Rattle.matching.specs.Matching.{in_use};
 ghost use Rattle.members.specs.Members.{entered, concluded};
 ghost use Rattle.members.specs.Leaves.{Leaves};
-ghost use Rattle.unary.specs.Unary.{unaryPasses, unaryErrors, unaryResult, Remembered, Working, checkUnary};
+ghost use Rattle.unary.specs.Unary.{unary_passes, unary_errors, unary_result, Remembered, Working, check_unary};
 
 use matching::Checked;
 use members::{
@@ -20,9 +20,9 @@ use types::{Made, TYPES, kind_of};
 // Whether the check of a type has no error: the operator's own rule is tried on the leaf that stands for it, and hands back its errors.
 fn does_pass(page: &[u8], offsets: &[usize], leaves: &[u16], op: usize, t: usize) -> bool
     requires held { Held page.now offsets.now }
-    requires leaves { Leaves true page.now leaves.now (typesIn page.now) }
-    requires op_nonzero { (0 < op) × (t < typesIn page.now) }
-    ensures { result ≡ unaryPasses page.now op t }
+    requires leaves { Leaves true page.now leaves.now (types_in page.now) }
+    requires op_nonzero { (0 < op) × (t < types_in page.now) }
+    ensures { result ≡ unary_passes page.now op t }
 {
     operators::does_pass(operators::plain_unary(op, kind_of(page, offsets, leaf_at(leaves, t))))
 }
@@ -30,9 +30,9 @@ fn does_pass(page: &[u8], offsets: &[usize], leaves: &[u16], op: usize, t: usize
 // The errors of the check of a union: how many members fail, and the first of them, or that there is none.
 fn any_errors(page: &[u8], offsets: &[usize], leaves: &[u16], op: usize, t: usize) -> Errors
     requires held { Held page.now offsets.now }
-    requires leaves { Leaves true page.now leaves.now (typesIn page.now) }
-    requires op_nonzero { (0 < op) × (t < typesIn page.now) × (isUnion (kindOf page.now t) ≡ true) }
-    ensures { result ≡ unaryErrors page.now op t }
+    requires leaves { Leaves true page.now leaves.now (types_in page.now) }
+    requires op_nonzero { (0 < op) × (t < types_in page.now) × (is_union (kind_of page.now t) ≡ true) }
+    ensures { result ≡ unary_errors page.now op t }
 {
     let mut types = no_members();
     let size = flatten(page, offsets, t, &mut types);
@@ -61,9 +61,9 @@ fn any_errors(page: &[u8], offsets: &[usize], leaves: &[u16], op: usize, t: usiz
 // The errors of the check of a type.
 fn errors_of(page: &[u8], offsets: &[usize], leaves: &[u16], op: usize, t: usize) -> Errors
     requires held { Held page.now offsets.now }
-    requires leaves { Leaves true page.now leaves.now (typesIn page.now) }
-    requires op_nonzero { (0 < op) × (t < typesIn page.now) }
-    ensures { result ≡ unaryErrors page.now op t }
+    requires leaves { Leaves true page.now leaves.now (types_in page.now) }
+    requires op_nonzero { (0 < op) × (t < types_in page.now) }
+    ensures { result ≡ unary_errors page.now op t }
 {
     let kind = kind_of(page, offsets, t);
     if kinds::is_union(kind) {
@@ -78,14 +78,14 @@ type Done = [usize; TYPES];
 
 // Nothing answered yet.
 fn none_done() -> Done
-    ensures { result ≡ replicate typesMax 0 }
+    ensures { result ≡ replicate types_max 0 }
 {
     [0; TYPES]
 }
 
 // One more than what the check of a type answered; 0 where it did not yet.
 fn done_at(done: &[usize], t: usize) -> usize
-    requires { (length done.now ≡ typesMax) × (t < typesMax) }
+    requires { (length done.now ≡ types_max) × (t < types_max) }
     ensures { result ≡ get_or done.now t 0 }
 {
     done[t]
@@ -93,7 +93,7 @@ fn done_at(done: &[usize], t: usize) -> usize
 
 // Writes down what the check of a type answered.
 fn set_done(done: &mut [usize], t: usize, r: usize)
-    requires { (length done.old ≡ typesMax) × (t < typesMax) × (r < typesMax) }
+    requires { (length done.old ≡ types_max) × (t < types_max) × (r < types_max) }
     ensures { done.new ≡ set done.old t (r + 1) }
 {
     done[t] = r + 1;
@@ -110,7 +110,7 @@ fn check_unary_operator(
     t: usize,
 ) -> Made
     requires { Working page.old offsets.old depths.old done.old op t }
-    ensures page_after { entered result page.new ≡ unaryResult t page.old }
+    ensures page_after { entered result page.new ≡ unary_result t page.old }
     ensures measured { Measured page.new offsets.new depths.new × Remembered page.new done.new }
 {
     let kind = kind_of(page, offsets, t);
@@ -139,8 +139,8 @@ fn check_unary_any(
     t: usize,
 ) -> Made
     requires working { Working page.old offsets.old depths.old done.old op t }
-    requires t_value { isUnion (kindOf page.old t) ≡ true }
-    ensures page_after { entered result page.new ≡ unaryResult t page.old }
+    requires t_value { is_union (kind_of page.old t) ≡ true }
+    ensures page_after { entered result page.new ≡ unary_result t page.old }
     ensures measured { Measured page.new offsets.new depths.new × Remembered page.new done.new }
 {
     let mut types = no_members();
@@ -170,9 +170,9 @@ fn check_known(
     t: usize,
 ) -> Conclusion
     requires measured { Measured page.old offsets.old depths.old }
-    requires leaves { Leaves true page.old leaves.now (typesIn page.old) }
-    requires op_nonzero { (0 < op) × (t < typesIn page.old) }
-    ensures page_after { concluded result page.new ≡ checkUnary page.old op (Checked.Known t) }
+    requires leaves { Leaves true page.old leaves.now (types_in page.old) }
+    requires op_nonzero { (0 < op) × (t < types_in page.old) }
+    ensures page_after { concluded result page.new ≡ check_unary page.old op (Checked.Known t) }
     ensures measured_2 { Measured page.new offsets.new depths.new }
 {
     let errors = errors_of(page, offsets, leaves, op, t);
@@ -193,9 +193,9 @@ pub fn check_unary(
     operand: Checked,
 ) -> Conclusion
     requires measured { Measured page.old offsets.old depths.old }
-    requires leaves { Leaves true page.old leaves.now (typesIn page.old) }
-    requires op_nonzero { (0 < op) × (inUse page.old operand ≡ true) }
-    ensures page_after { concluded result page.new ≡ checkUnary page.old op operand }
+    requires leaves { Leaves true page.old leaves.now (types_in page.old) }
+    requires op_nonzero { (0 < op) × (in_use page.old operand ≡ true) }
+    ensures page_after { concluded result page.new ≡ check_unary page.old op operand }
     ensures measured_2 { Measured page.new offsets.new depths.new }
 {
     match operand {

@@ -3,14 +3,14 @@
 #![tactic(auto)]
 
 ghost use Rattle.std.specs.Prelude.{◌≡◌, true, ◌&&◌, ◌<◌, replicate};
-ghost use Rattle.types.specs.Store.{typesMax};
-ghost use Rattle.kinds.specs.Kinds.{isArray};
-ghost use Rattle.types.specs.Types.{typesIn, Held};
-ghost use Rattle.matching.specs.Matching.{both, inUse};
-ghost use Rattle.marks.specs.Marks.{tinyBytes, smallBytes, largeBytes, isMarked, marking, Noted};
+ghost use Rattle.types.specs.Store.{types_max};
+ghost use Rattle.kinds.specs.Kinds.{is_array};
+ghost use Rattle.types.specs.Types.{types_in, Held};
+ghost use Rattle.matching.specs.Matching.{both, in_use};
+ghost use Rattle.marks.specs.Marks.{tiny_bytes, small_bytes, large_bytes, is_marked, marking, Noted};
 ghost use Rattle.matching.specs.Memo.{Found};
 ghost use Rattle.bindings.specs.Bindings.{Usable};
-ghost use Rattle.unification.specs.Unification.{said, genericUnify, isAdopted, isAlike, allPairs, unify, unifyArg, seenRow, seenColumn, SettledAt};
+ghost use Rattle.unification.specs.Unification.{said, generic_unify, is_adopted, is_alike, all_pairs, unify, unify_arg, seen_row, seen_column, SettledAt};
 
 use bindings::{BINDINGS, Bindings};
 use kinds::{CALLBACK, GENERIC, Kind};
@@ -36,43 +36,43 @@ type LargeSeen = [u8; LARGE_BYTES];
 
 // No pair yet.
 pub fn tiny_seen() -> TinySeen
-    ensures { result ≡ replicate tinyBytes 0 }
+    ensures { result ≡ replicate tiny_bytes 0 }
 {
     [0; TINY_BYTES]
 }
 
 pub fn small_seen() -> SmallSeen
-    ensures { result ≡ replicate smallBytes 0 }
+    ensures { result ≡ replicate small_bytes 0 }
 {
     [0; SMALL_BYTES]
 }
 
 pub fn large_seen() -> LargeSeen
-    ensures { result ≡ replicate largeBytes 0 }
+    ensures { result ≡ replicate large_bytes 0 }
 {
     [0; LARGE_BYTES]
 }
 
 // The column of a pair; two expected types share a row.
 fn column_of(e: usize, a: usize) -> usize
-    requires { a < typesMax }
-    ensures { result ≡ seenColumn e a }
+    requires { a < types_max }
+    ensures { result ≡ seen_column e a }
 {
     2 * a + e % 2
 }
 
 // Whether a pair was answered yes before.
 fn is_settled(seen: &[u8], e: usize, a: usize) -> bool
-    requires { (e < typesMax) × (a < typesMax) }
-    ensures { result ≡ isMarked seen.now (seenRow e) (seenColumn e a) }
+    requires { (e < types_max) × (a < types_max) }
+    ensures { result ≡ is_marked seen.now (seen_row e) (seen_column e a) }
 {
     marks::is_marked(seen, e / 2, column_of(e, a))
 }
 
 // Keeps in mind that a pair was answered yes.
 fn settle(seen: &mut [u8], e: usize, a: usize)
-    requires { (e < typesMax) × (a < typesMax) }
-    ensures { seen.new ≡ marking seen.old (seenRow e) (seenColumn e a) }
+    requires { (e < types_max) × (a < types_max) }
+    ensures { seen.new ≡ marking seen.old (seen_row e) (seen_column e a) }
 {
     marks::mark(seen, e / 2, column_of(e, a));
 }
@@ -103,10 +103,10 @@ fn unify_generic(
     a: usize,
 ) -> Unified
     requires held { Held page.now offsets.now }
-    requires a_bound { a < typesIn page.now }
-    requires usable { Usable bindings (typesIn page.now) }
+    requires a_bound { a < types_in page.now }
+    requires usable { Usable bindings (types_in page.now) }
     requires noted { Noted (Found page.now) memo.old }
-    ensures value { result ≡ genericUnify page.now name a bindings }
+    ensures value { result ≡ generic_unify page.now name a bindings }
     ensures noted_2 { Noted (Found page.now) memo.new }
 {
     if bindings::is_bound(bindings, name) {
@@ -131,7 +131,7 @@ fn unify_generic(
 
 // Whether two kinds are both arrays, sets, results, maps or tuples.
 fn are_alike(k: Kind, m: Kind) -> bool
-    ensures { result ≡ isAlike k m }
+    ensures { result ≡ is_alike k m }
 {
     (kinds::is_array(k) & kinds::is_array(m))
         | ((kinds::is_set(k) & kinds::is_set(m))
@@ -143,8 +143,8 @@ fn are_alike(k: Kind, m: Kind) -> bool
 // Whether two types are both arrays.
 fn are_arrays(page: &[u8], offsets: &[usize], e: usize, a: usize) -> bool
     requires held { Held page.now offsets.now }
-    requires e_bound { (e < typesIn page.now) × (a < typesIn page.now) }
-    ensures { result ≡ both isArray page.now e a }
+    requires e_bound { (e < types_in page.now) × (a < types_in page.now) }
+    ensures { result ≡ both is_array page.now e a }
 {
     kinds::is_array(kind_of(page, offsets, e)) & kinds::is_array(kind_of(page, offsets, a))
 }
@@ -152,8 +152,8 @@ fn are_arrays(page: &[u8], offsets: &[usize], e: usize, a: usize) -> bool
 // Whether an array is taken as it is: one of no element, or of Int where Byte is expected.
 fn is_adopted(page: &[u8], offsets: &[usize], e: usize, a: usize) -> bool
     requires held { Held page.now offsets.now }
-    requires e_bound { (e < typesIn page.now) × (a < typesIn page.now) }
-    ensures { result ≡ (both isArray page.now e a && isAdopted page.now e a) }
+    requires e_bound { (e < types_in page.now) × (a < types_in page.now) }
+    ensures { result ≡ (both is_array page.now e a && is_adopted page.now e a) }
 {
     if !are_arrays(page, offsets, e, a) {
         return false;
@@ -179,8 +179,8 @@ pub fn unify(
     a: usize,
 ) -> Unified
     requires held { Held page.now offsets.now }
-    requires e_bound { (e < typesIn page.now) × (a < typesIn page.now) }
-    requires usable { Usable bindings (typesIn page.now) }
+    requires e_bound { (e < types_in page.now) × (a < types_in page.now) }
+    requires usable { Usable bindings (types_in page.now) }
     requires noted { Noted (Found page.now) memo.old }
     requires noted_2 { Noted (SettledAt page.now bindings) seen.old }
     ensures value { result ≡ unify page.now e a bindings }
@@ -223,11 +223,11 @@ fn unify_children(
     a: usize,
 ) -> Unified
     requires held { Held page.now offsets.now }
-    requires e_bound { (e < typesIn page.now) × (a < typesIn page.now) }
-    requires usable { Usable bindings (typesIn page.now) }
+    requires e_bound { (e < types_in page.now) × (a < types_in page.now) }
+    requires usable { Usable bindings (types_in page.now) }
     requires noted { Noted (Found page.now) memo.old }
     requires noted_2 { Noted (SettledAt page.now bindings) seen.old }
-    ensures value { result ≡ allPairs (unify page.now) page.now e a bindings }
+    ensures value { result ≡ all_pairs (unify page.now) page.now e a bindings }
     ensures noted_3 { Noted (Found page.now) memo.new }
     ensures noted_4 { Noted (SettledAt page.now result.bindings) seen.new }
 {
@@ -262,11 +262,11 @@ pub fn unify_arg(
     actual: Checked,
 ) -> Unified
     requires held { Held page.now offsets.now }
-    requires e_bound { (e < typesIn page.now) × (inUse page.now actual ≡ true) }
-    requires usable { Usable bindings (typesIn page.now) }
+    requires e_bound { (e < types_in page.now) × (in_use page.now actual ≡ true) }
+    requires usable { Usable bindings (types_in page.now) }
     requires noted { Noted (Found page.now) memo.old }
     requires noted_2 { Noted (SettledAt page.now bindings) seen.old }
-    ensures value { result ≡ unifyArg page.now e actual bindings }
+    ensures value { result ≡ unify_arg page.now e actual bindings }
     ensures noted_3 { Noted (Found page.now) memo.new }
     ensures noted_4 { Noted (SettledAt page.now result.bindings) seen.new }
 {

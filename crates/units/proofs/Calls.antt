@@ -14,173 +14,173 @@ use Rattle.refusals.specs.declared.Refusal.TheVariants.{BadUnit, Exponent, Symbo
 use Rattle.refusals.specs.declared.Verdict.{Verdict}
 use Rattle.refusals.specs.declared.Verdict.TheVariants.{Passed, Refused}
 use Rattle.refusals.specs.declared.Answer.{Answer}
-use Rattle.refusals.proofs.Lowest.{first-holds, passed-parts}
-use Rattle.names.specs.Table.{namesMax}
-use Rattle.units.specs.Unit.{placesMax, Term, term, formed, exponent}
-use Rattle.units.specs.Product.{anyOutside, productOf, productVerdict}
+use Rattle.refusals.proofs.Lowest.{first_holds, passed_parts}
+use Rattle.names.specs.Table.{names_max}
+use Rattle.units.specs.Unit.{places_max, Term, term, formed, exponent}
+use Rattle.units.specs.Product.{any_outside, product_of, product_verdict}
 use Rattle.units.specs.Merge.{turned, merge}
-use Rattle.units.specs.Calls.{termsOf, given, formVerdict, productAnswer, exponentAnswer, unitless, maybeVerdict, unitlessAnswer}
+use Rattle.units.specs.Calls.{terms_of, given, form_verdict, product_answer, exponent_answer, unitless, maybe_verdict, unitless_answer}
 use Rattle.units.specs.declared.Unit.{Unit}
 use Rattle.units.specs.declared.MaybeUnit.{MaybeUnit}
 use Rattle.units.specs.declared.Power.{Power}
-use Rattle.units.proofs.Form.{Places, symAt, expAt, termsFrom, termsIn, length-terms, from-start, from-step, from-end, formed-count, formed-ordered}
-use Rattle.units.proofs.Order.{Asc, turned-none, ordered-asc, tail-of, first, part-other}
-use Rattle.units.proofs.Si.{merge-product}
+use Rattle.units.proofs.Form.{Places, sym_at, exp_at, terms_from, terms_in, length_terms, from_start, from_step, from_end, formed_count, formed_ordered}
+use Rattle.units.proofs.Order.{Asc, turned_none, ordered_asc, tail_of, first, part_other}
+use Rattle.units.proofs.Si.{merge_product}
 
 -- ---- the verdict on a product, for any number of places p and of symbols n
 
 module _ (p n : ℕ) (d : Bool) (xs ys : List Term) where
-  left-broken : formed p n xs ≡ false → productVerdict p n d xs ys ≡ Refused BadUnit
-  unfolding productVerdict
-  left-broken h =
-      rw h (first-holds BadUnit
-      ((BadUnit when not (formed p n ys)) ∷ (Exponent when anyOutside (productOf n d xs ys)) ∷ (Symbols when ltb p (length (productOf n d xs ys))) ∷ []) refl)
+  left_broken : formed p n xs ≡ false → product_verdict p n d xs ys ≡ Refused BadUnit
+  unfolding product_verdict
+  left_broken h =
+      rw h (first_holds BadUnit
+      ((BadUnit when not (formed p n ys)) ∷ (Exponent when any_outside (product_of n d xs ys)) ∷ (Symbols when ltb p (length (product_of n d xs ys))) ∷ []) refl)
 
   module _ (h : formed p n xs ≡ true) where
-    right-broken : formed p n ys ≡ false → productVerdict p n d xs ys ≡ Refused BadUnit
-    unfolding productVerdict
-    right-broken k =
-        rw (h, k) (first-holds BadUnit ((Exponent when anyOutside (productOf n d xs ys)) ∷ (Symbols when ltb p (length (productOf n d xs ys))) ∷ []) refl)
+    right_broken : formed p n ys ≡ false → product_verdict p n d xs ys ≡ Refused BadUnit
+    unfolding product_verdict
+    right_broken k =
+        rw (h, k) (first_holds BadUnit ((Exponent when any_outside (product_of n d xs ys)) ∷ (Symbols when ltb p (length (product_of n d xs ys))) ∷ []) refl)
 
     module _ (k : formed p n ys ≡ true) where
-      too-large : anyOutside (productOf n d xs ys) ≡ true → productVerdict p n d xs ys ≡ Refused Exponent
-      unfolding productVerdict
-      too-large w = rw (h, k, w) (first-holds Exponent ((Symbols when ltb p (length (productOf n d xs ys))) ∷ []) refl)
+      too_large : any_outside (product_of n d xs ys) ≡ true → product_verdict p n d xs ys ≡ Refused Exponent
+      unfolding product_verdict
+      too_large w = rw (h, k, w) (first_holds Exponent ((Symbols when ltb p (length (product_of n d xs ys))) ∷ []) refl)
 
-      module _ (w : anyOutside (productOf n d xs ys) ≡ false) where
-        too-many : p < length (productOf n d xs ys) → productVerdict p n d xs ys ≡ Refused Symbols
-        unfolding productVerdict
-        too-many l = rw (h, k, w, lt-ltb p (length (productOf n d xs ys)) l)
+      module _ (w : any_outside (product_of n d xs ys) ≡ false) where
+        too_many : p < length (product_of n d xs ys) → product_verdict p n d xs ys ≡ Refused Symbols
+        unfolding product_verdict
+        too_many l = rw (h, k, w, lt-ltb p (length (product_of n d xs ys)) l)
 
-        pub in-limits : length (productOf n d xs ys) ≤ p → productVerdict p n d xs ys ≡ Passed
-        unfolding productVerdict
-        in-limits l = rw (h, k, w, le-ltb p (length (productOf n d xs ys)) l)
+        pub in_limits : length (product_of n d xs ys) ≤ p → product_verdict p n d xs ys ≡ Passed
+        unfolding product_verdict
+        in_limits l = rw (h, k, w, le-ltb p (length (product_of n d xs ys)) l)
 
 -- ---- the answer
 
 module _ (d : Bool) (a b : Unit) where
-  refused-as : (r : Refusal) → productVerdict placesMax namesMax d (termsOf a) (termsOf b) ≡ Refused r → given (Refused r) [] ≡ productAnswer d a b
-  unfolding productAnswer
-  refused-as r v = rw v
+  refused_as : (r : Refusal) → product_verdict places_max names_max d (terms_of a) (terms_of b) ≡ Refused r → given (Refused r) [] ≡ product_answer d a b
+  unfolding product_answer
+  refused_as r v = rw v
 
-  pub product-left : formed placesMax namesMax (termsOf a) ≡ false → given (Refused BadUnit) [] ≡ productAnswer d a b
-  product-left h = refused-as BadUnit (left-broken placesMax namesMax d (termsOf a) (termsOf b) h)
+  pub product_left : formed places_max names_max (terms_of a) ≡ false → given (Refused BadUnit) [] ≡ product_answer d a b
+  product_left h = refused_as BadUnit (left_broken places_max names_max d (terms_of a) (terms_of b) h)
 
-  module _ (h : formed placesMax namesMax (termsOf a) ≡ true) where
-    pub product-right : formed placesMax namesMax (termsOf b) ≡ false → given (Refused BadUnit) [] ≡ productAnswer d a b
-    product-right k = refused-as BadUnit (right-broken placesMax namesMax d (termsOf a) (termsOf b) h k)
+  module _ (h : formed places_max names_max (terms_of a) ≡ true) where
+    pub product_right : formed places_max names_max (terms_of b) ≡ false → given (Refused BadUnit) [] ≡ product_answer d a b
+    product_right k = refused_as BadUnit (right_broken places_max names_max d (terms_of a) (terms_of b) h k)
 
-    module _ (k : formed placesMax namesMax (termsOf b) ≡ true) where
-      same : merge (termsOf a) (turned d (termsOf b)) ≡ productOf namesMax d (termsOf a) (termsOf b)
+    module _ (k : formed places_max names_max (terms_of b) ≡ true) where
+      same : merge (terms_of a) (turned d (terms_of b)) ≡ product_of names_max d (terms_of a) (terms_of b)
       same =
-          merge-product namesMax d (termsOf a) (termsOf b)
-          (formed-ordered placesMax namesMax (termsOf a) h) (formed-ordered placesMax namesMax (termsOf b) k)
+          merge_product names_max d (terms_of a) (terms_of b)
+          (formed_ordered places_max names_max (terms_of a) h) (formed_ordered places_max names_max (terms_of b) k)
 
-      pub product-large : anyOutside (merge (termsOf a) (turned d (termsOf b))) ≡ true → given (Refused Exponent) [] ≡ productAnswer d a b
-      product-large w = refused-as Exponent (too-large placesMax namesMax d (termsOf a) (termsOf b) h k (rw same at w))
+      pub product_large : any_outside (merge (terms_of a) (turned d (terms_of b))) ≡ true → given (Refused Exponent) [] ≡ product_answer d a b
+      product_large w = refused_as Exponent (too_large places_max names_max d (terms_of a) (terms_of b) h k (rw same at w))
 
-      module _ (w : anyOutside (merge (termsOf a) (turned d (termsOf b))) ≡ false) where
-        pub product-many : placesMax < length (merge (termsOf a) (turned d (termsOf b))) → given (Refused Symbols) [] ≡ productAnswer d a b
-        product-many l = refused-as Symbols (too-many placesMax namesMax d (termsOf a) (termsOf b) h k (rw same at w) (rw same at l))
+      module _ (w : any_outside (merge (terms_of a) (turned d (terms_of b))) ≡ false) where
+        pub product_many : places_max < length (merge (terms_of a) (turned d (terms_of b))) → given (Refused Symbols) [] ≡ product_answer d a b
+        product_many l = refused_as Symbols (too_many places_max names_max d (terms_of a) (terms_of b) h k (rw same at w) (rw same at l))
 
-        pub product-done : length (merge (termsOf a) (turned d (termsOf b))) ≤ placesMax → given Passed (merge (termsOf a) (turned d (termsOf b))) ≡ productAnswer d a b
-        unfolding productAnswer
-        product-done l = rw (in-limits placesMax namesMax d (termsOf a) (termsOf b) h k (rw same at w) (rw same at l)) (ap (given Passed) same)
+        pub product_done : length (merge (terms_of a) (turned d (terms_of b))) ≤ places_max → given Passed (merge (terms_of a) (turned d (terms_of b))) ≡ product_answer d a b
+        unfolding product_answer
+        product_done l = rw (in_limits places_max names_max d (terms_of a) (terms_of b) h k (rw same at w) (rw same at l)) (ap (given Passed) same)
 
 -- ---- a result has no more symbols than places
 
-verdict-few : (p n : ℕ) (d : Bool) (xs ys : List Term) → productVerdict p n d xs ys ≡ Passed → length (productOf n d xs ys) ≤ p
-unfolding productVerdict
-verdict-few p n d xs ys h =
-    let m = productOf n d xs ys in
-    let a = passed-parts BadUnit (not (formed p n xs)) ((BadUnit when not (formed p n ys)) ∷ (Exponent when anyOutside m) ∷ (Symbols when ltb p (length m)) ∷ []) h in
-    let b = passed-parts BadUnit (not (formed p n ys)) ((Exponent when anyOutside m) ∷ (Symbols when ltb p (length m)) ∷ []) a.1 in
-    let c = passed-parts Exponent (anyOutside m) ((Symbols when ltb p (length m)) ∷ []) b.1 in
-    ltb-false p (length m) (passed-parts Symbols (ltb p (length m)) [] c.1).0
+verdict_few : (p n : ℕ) (d : Bool) (xs ys : List Term) → product_verdict p n d xs ys ≡ Passed → length (product_of n d xs ys) ≤ p
+unfolding product_verdict
+verdict_few p n d xs ys h =
+    let m = product_of n d xs ys in
+    let a = passed_parts BadUnit (not (formed p n xs)) ((BadUnit when not (formed p n ys)) ∷ (Exponent when any_outside m) ∷ (Symbols when ltb p (length m)) ∷ []) h in
+    let b = passed_parts BadUnit (not (formed p n ys)) ((Exponent when any_outside m) ∷ (Symbols when ltb p (length m)) ∷ []) a.1 in
+    let c = passed_parts Exponent (any_outside m) ((Symbols when ltb p (length m)) ∷ []) b.1 in
+    ltb-false p (length m) (passed_parts Symbols (ltb p (length m)) [] c.1).0
 
-pub result-few : (d : Bool) (a b : Unit) → (productAnswer d a b).unit.count ≤ placesMax
-unfolding productAnswer
-result-few d a b = go (productVerdict placesMax namesMax d (termsOf a) (termsOf b)) (verdict-few placesMax namesMax d (termsOf a) (termsOf b))
+pub result_few : (d : Bool) (a b : Unit) → (product_answer d a b).unit.count ≤ places_max
+unfolding product_answer
+result_few d a b = go (product_verdict places_max names_max d (terms_of a) (terms_of b)) (verdict_few places_max names_max d (terms_of a) (terms_of b))
   where
-    go : (v : Verdict) → (v ≡ Passed → length (productOf namesMax d (termsOf a) (termsOf b)) ≤ placesMax) → (given v (productOf namesMax d (termsOf a) (termsOf b))).unit.count ≤ placesMax
+    go : (v : Verdict) → (v ≡ Passed → length (product_of names_max d (terms_of a) (terms_of b)) ≤ places_max) → (given v (product_of names_max d (terms_of a) (terms_of b))).unit.count ≤ places_max
     go Passed h = h refl
     go (Refused r) h = omega arith
 
 -- ---- form, exponent, unitless
 
 module _ (u : Unit) where
-  pub form-passed : formed placesMax namesMax (termsOf u) ≡ true → formVerdict u ≡ Passed
-  unfolding formVerdict
-  form-passed h = rw h
+  pub form_passed : formed places_max names_max (terms_of u) ≡ true → form_verdict u ≡ Passed
+  unfolding form_verdict
+  form_passed h = rw h
 
-  pub form-refused : formed placesMax namesMax (termsOf u) ≡ false → formVerdict u ≡ Refused BadUnit
-  unfolding formVerdict
-  form-refused h = rw h
+  pub form_refused : formed places_max names_max (terms_of u) ≡ false → form_verdict u ≡ Refused BadUnit
+  unfolding form_verdict
+  form_refused h = rw h
 
-  pub exponent-refused : (s : ℕ) → formed placesMax namesMax (termsOf u) ≡ false → Power.Refused BadUnit ≡ exponentAnswer u s
-  unfolding exponentAnswer
-  exponent-refused s h = rw (form-refused h)
+  pub exponent_refused : (s : ℕ) → formed places_max names_max (terms_of u) ≡ false → Power.Refused BadUnit ≡ exponent_answer u s
+  unfolding exponent_answer
+  exponent_refused s h = rw (form_refused h)
 
-  pub exponent-given : (s : ℕ) (e : ℤ) → formed placesMax namesMax (termsOf u) ≡ true → e ≡ exponent s (termsOf u) → Power.Of e ≡ exponentAnswer u s
-  unfolding exponentAnswer
-  exponent-given s e h q = rw (form-passed h, q)
+  pub exponent_given : (s : ℕ) (e : ℤ) → formed places_max names_max (terms_of u) ≡ true → e ≡ exponent s (terms_of u) → Power.Of e ≡ exponent_answer u s
+  unfolding exponent_answer
+  exponent_given s e h q = rw (form_passed h, q)
 
 -- Where the search for s stands: what is left has the exponent that the whole has.
 pub record Seeking (n : ℕ) (u : Places) (s i : ℕ) : Type 0 where
-  pub i-in : i ≤ u.count
-  pub u-in : u.count ≤ n
+  pub i_in : i ≤ u.count
+  pub u_in : u.count ≤ n
   pub lo : ℕ
-  pub asc : Asc lo (termsFrom u i)
-  pub whole : exponent s (termsFrom u i) ≡ exponent s (termsIn u)
+  pub asc : Asc lo (terms_from u i)
+  pub whole : exponent s (terms_from u i) ≡ exponent s (terms_in u)
 
-pub seeking-start : (n m : ℕ) (u : Places) (s : ℕ) → formed n m (termsIn u) ≡ true → Seeking n u s 0
-seeking-start n m u s h = record {
-  i-in = omega arith;
-  u-in = formed-count n m u h;
+pub seeking_start : (n m : ℕ) (u : Places) (s : ℕ) → formed n m (terms_in u) ≡ true → Seeking n u s 0
+seeking_start n m u s h = record {
+  i_in = omega arith;
+  u_in = formed_count n m u h;
   lo = 0;
-  asc = subst (Asc 0) (turned-none (termsIn u) ∙ sym (from-start u)) (ordered-asc false m 0 (termsIn u) (formed-ordered n m (termsIn u) h));
-  whole = ap (exponent s) (from-start u);
+  asc = subst (Asc 0) (turned_none (terms_in u) ∙ sym (from_start u)) (ordered_asc false m 0 (terms_in u) (formed_ordered n m (terms_in u) h));
+  whole = ap (exponent s) (from_start u);
 }
 
 module _ (n : ℕ) (u : Places) (s i : ℕ) (k : Seeking n u s i) where
-  pub sought-absent : u.count ≤ i → pos 0 ≡ exponent s (termsIn u)
-  sought-absent h = sym (ap (exponent s) (from-end u i h)) ∙ k.whole
+  pub sought_absent : u.count ≤ i → pos 0 ≡ exponent s (terms_in u)
+  sought_absent h = sym (ap (exponent s) (from_end u i h)) ∙ k.whole
 
   module _ (h : i < u.count) where
-    here : Asc k.lo (term (symAt u i) (expAt u i) ∷ termsFrom u (i + 1))
-    here = subst (Asc k.lo) (from-step u i h) k.asc
+    here : Asc k.lo (term (sym_at u i) (exp_at u i) ∷ terms_from u (i + 1))
+    here = subst (Asc k.lo) (from_step u i h) k.asc
 
-    pub sought-found : symAt u i ≡ s → expAt u i ≡ exponent s (termsIn u)
-    sought-found e =
-        sym (first k.lo (term (symAt u i) (expAt u i)) (termsFrom u (i + 1)) here) ∙ ap (exponent (symAt u i)) (sym (from-step u i h)) ∙ ap (λ t. exponent t (termsFrom u i)) e ∙ k.whole
+    pub sought_found : sym_at u i ≡ s → exp_at u i ≡ exponent s (terms_in u)
+    sought_found e =
+        sym (first k.lo (term (sym_at u i) (exp_at u i)) (terms_from u (i + 1)) here) ∙ ap (exponent (sym_at u i)) (sym (from_step u i h)) ∙ ap (λ t. exponent t (terms_from u i)) e ∙ k.whole
 
-    pub seeking-next : (symAt u i ≡ s → ⊥) → Seeking n u s (i + 1)
-    seeking-next other = record {
-      i-in = omega arith;
-      u-in = k.u-in;
-      lo = suc (symAt u i);
-      asc = tail-of here;
-      whole = sym (ap (exponent s) (from-step u i h) ∙ ap (λ z. z +ℤ exponent s (termsFrom u (i + 1))) (part-other s (term (symAt u i) (expAt u i)) (λ e. other (sym e))) ∙ +ℤ_idl (exponent s (termsFrom u (i + 1)))) ∙ k.whole;
+    pub seeking_next : (sym_at u i ≡ s → ⊥) → Seeking n u s (i + 1)
+    seeking_next other = record {
+      i_in = omega arith;
+      u_in = k.u_in;
+      lo = suc (sym_at u i);
+      asc = tail_of here;
+      whole = sym (ap (exponent s) (from_step u i h) ∙ ap (λ z. z +ℤ exponent s (terms_from u (i + 1))) (part_other s (term (sym_at u i) (exp_at u i)) (λ e. other (sym e))) ∙ +ℤ_idl (exponent s (terms_from u (i + 1)))) ∙ k.whole;
     }
 
 module _ (m : MaybeUnit) where
-  pub none-unitless : m.some ≡ false → Answer.Yes ≡ unitlessAnswer m
-  unfolding unitlessAnswer maybeVerdict unitless
-  none-unitless h = rw h
+  pub none_unitless : m.some ≡ false → Answer.Yes ≡ unitless_answer m
+  unfolding unitless_answer maybe_verdict unitless
+  none_unitless h = rw h
 
   module _ (h : m.some ≡ true) where
-    pub broken-refused : formed placesMax namesMax (termsOf m.unit) ≡ false → Answer.Refused BadUnit ≡ unitlessAnswer m
-    unfolding unitlessAnswer maybeVerdict unitless
-    broken-refused f = rw (h, f)
+    pub broken_refused : formed places_max names_max (terms_of m.unit) ≡ false → Answer.Refused BadUnit ≡ unitless_answer m
+    unfolding unitless_answer maybe_verdict unitless
+    broken_refused f = rw (h, f)
 
-    module _ (f : formed placesMax namesMax (termsOf m.unit) ≡ true) where
-      size : length (termsOf m.unit) ≡ m.unit.count
-      size = length-terms m.unit.count 0 m.unit.symbols m.unit.exponents
+    module _ (f : formed places_max names_max (terms_of m.unit) ≡ true) where
+      size : length (terms_of m.unit) ≡ m.unit.count
+      size = length_terms m.unit.count 0 m.unit.symbols m.unit.exponents
 
-      pub empty-unitless : m.unit.count ≡ 0 → Answer.Yes ≡ unitlessAnswer m
-      unfolding unitlessAnswer maybeVerdict unitless
-      empty-unitless z = rw (h, f, size, eq-eqb m.unit.count 0 z)
+      pub empty_unitless : m.unit.count ≡ 0 → Answer.Yes ≡ unitless_answer m
+      unfolding unitless_answer maybe_verdict unitless
+      empty_unitless z = rw (h, f, size, eq-eqb m.unit.count 0 z)
 
-      pub some-unit : (m.unit.count ≡ 0 → ⊥) → Answer.No ≡ unitlessAnswer m
-      unfolding unitlessAnswer maybeVerdict unitless
-      some-unit z = rw (h, f, size, ne_eqb m.unit.count 0 z)
+      pub some_unit : (m.unit.count ≡ 0 → ⊥) → Answer.No ≡ unitless_answer m
+      unfolding unitless_answer maybe_verdict unitless
+      some_unit z = rw (h, f, size, ne_eqb m.unit.count 0 z)

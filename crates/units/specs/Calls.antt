@@ -6,9 +6,9 @@ use Rattle.refusals.specs.declared.Verdict.{Verdict}
 use Rattle.refusals.specs.declared.Verdict.TheVariants.{Passed, Refused}
 use Rattle.refusals.specs.declared.Answer.{Answer}
 use Rattle.pages.specs.Pad.{pad}
-use Rattle.names.specs.Table.{namesMax}
-use Rattle.units.specs.Unit.{placesMax, Term, term, formed, exponent}
-use Rattle.units.specs.Product.{productOf, productVerdict, anyOutside}
+use Rattle.names.specs.Table.{names_max}
+use Rattle.units.specs.Unit.{places_max, Term, term, formed, exponent}
+use Rattle.units.specs.Product.{product_of, product_verdict, any_outside}
 use Rattle.units.specs.declared.Unit.{Unit}
 use Rattle.units.specs.declared.MaybeUnit.{MaybeUnit}
 use Rattle.units.specs.declared.UnitResult.{UnitResult}
@@ -23,16 +23,16 @@ terms zero i ss es = []
 terms (suc n) i ss es = term (get_or ss i 0) (get_or es i (pos 0)) ∷ terms n (suc i) ss es
 
 -- the terms of a unit: those at its first `count` places
-abbrev pub termsOf : Unit → List Term
-termsOf u = terms u.count 0 u.symbols u.exponents
+abbrev pub terms_of : Unit → List Term
+terms_of u = terms u.count 0 u.symbols u.exponents
 
 -- those from place i on
-abbrev pub termsFrom : Unit → ℕ → List Term
-termsFrom u i = terms (u.count - i) i u.symbols u.exponents
+abbrev pub terms_from : Unit → ℕ → List Term
+terms_from u i = terms (u.count - i) i u.symbols u.exponents
 
 -- how many of its symbols stand in a place: as many as it says, and no more than there are places
 abbrev pub filled : Unit → ℕ
-filled u = cond (leb u.count placesMax) u.count placesMax
+filled u = cond (leb u.count places_max) u.count places_max
 
 -- the terms that stand there, whose symbols can be looked up
 abbrev pub present : Unit → List Term
@@ -49,34 +49,34 @@ exps [] = []
 exps (x ∷ xs) = x.exp ∷ exps xs
 
 -- the unit that holds these terms, with zeros behind them
-abbrev pub unitOf : List Term → Unit
-unitOf l = record { count = length l; symbols = pad placesMax 0 (syms l); exponents = pad placesMax (pos 0) (exps l) }
+abbrev pub unit_of : List Term → Unit
+unit_of l = record { count = length l; symbols = pad places_max 0 (syms l); exponents = pad places_max (pos 0) (exps l) }
 
 -- the unit with one term more, at the place after the last
-abbrev pub withTerm : Unit → ℕ → ℤ → Unit
-withTerm u s e = record { count = u.count + 1; symbols = set u.symbols u.count s; exponents = set u.exponents u.count e }
+abbrev pub with_term : Unit → ℕ → ℤ → Unit
+with_term u s e = record { count = u.count + 1; symbols = set u.symbols u.count s; exponents = set u.exponents u.count e }
 
 -- the terms gathered so far, as `Sum` holds them: also more than there are places
-abbrev pub sumOf : List Term → Sum
-sumOf l = record { count = length l; wide = anyOutside l; symbols = pad placesMax 0 (syms l); exponents = pad placesMax (pos 0) (exps l) }
+abbrev pub sum_of : List Term → Sum
+sum_of l = record { count = length l; wide = any_outside l; symbols = pad places_max 0 (syms l); exponents = pad places_max (pos 0) (exps l) }
 
 -- ---- is it a unit
 
 -- 5 for a unit that breaks its form
-unfoldable pub formVerdict : Unit → Verdict
-formVerdict u = lowest ((BadUnit when not (formed placesMax namesMax (termsOf u))) ∷ [])
+unfoldable pub form_verdict : Unit → Verdict
+form_verdict u = lowest ((BadUnit when not (formed places_max names_max (terms_of u))) ∷ [])
 
 -- ---- product and quotient
 
 -- a result, or the empty unit beside the refusal
 abbrev pub given : Verdict → List Term → UnitResult
-given Passed l = record { verdict = Passed; unit = unitOf l }
-given (Refused r) l = record { verdict = Refused r; unit = unitOf [] }
+given Passed l = record { verdict = Passed; unit = unit_of l }
+given (Refused r) l = record { verdict = Refused r; unit = unit_of [] }
 
 -- the product of two units by value or, with true, their quotient
-unfoldable pub productAnswer : Bool → Unit → Unit → UnitResult
-productAnswer quotient a b =
-    given (productVerdict placesMax namesMax quotient (termsOf a) (termsOf b)) (productOf namesMax quotient (termsOf a) (termsOf b))
+unfoldable pub product_answer : Bool → Unit → Unit → UnitResult
+product_answer quotient a b =
+    given (product_verdict places_max names_max quotient (terms_of a) (terms_of b)) (product_of names_max quotient (terms_of a) (terms_of b))
 
 -- ---- the exponent of a symbol
 
@@ -86,19 +86,19 @@ powered Passed e = Power.Of e
 powered (Refused r) e = Power.Refused r
 
 -- the exponent of symbol s in a unit in form
-unfoldable pub exponentAnswer : Unit → ℕ → Power
-exponentAnswer u s = powered (formVerdict u) (exponent s (termsOf u))
+unfoldable pub exponent_answer : Unit → ℕ → Power
+exponent_answer u s = powered (form_verdict u) (exponent s (terms_of u))
 
 -- ---- unitless or not: "\"No unit\" and the empty unit are different values; both count as unitless"
 
 -- is there no unit, or one of no symbol
 unfoldable pub unitless : MaybeUnit → Bool
-unitless m = not m.some || eqb (length (termsOf m.unit)) 0
+unitless m = not m.some || eqb (length (terms_of m.unit)) 0
 
 -- what stands beside a no is not looked at
-unfoldable pub maybeVerdict : MaybeUnit → Verdict
-maybeVerdict m = lowest ((BadUnit when (m.some && not (formed placesMax namesMax (termsOf m.unit)))) ∷ [])
+unfoldable pub maybe_verdict : MaybeUnit → Verdict
+maybe_verdict m = lowest ((BadUnit when (m.some && not (formed places_max names_max (terms_of m.unit)))) ∷ [])
 
 -- is a unit in form, or none, unitless
-unfoldable pub unitlessAnswer : MaybeUnit → Answer
-unitlessAnswer m = answered (maybeVerdict m) (unitless m)
+unfoldable pub unitless_answer : MaybeUnit → Answer
+unitless_answer m = answered (maybe_verdict m) (unitless m)

@@ -1,7 +1,7 @@
 -- The product as it is computed: the terms of both units in order of their symbols, those of one symbol joined.
 -- proofs/Si.antt shows that it is the product of specs/Product.antt.
 use Rattle.std.specs.Prelude.{Bool, true, false, cond, List, [], ◌∷◌, ℕ, ltb, ℤ, neg_ℤ, ◌+ℤ◌}
-use Rattle.units.specs.Unit.{Term, term, isZero}
+use Rattle.units.specs.Unit.{Term, term, is_zero}
 
 -- an exponent as a product or, with true, as a quotient takes it
 abbrev pub turn : Bool → ℤ → ℤ
@@ -15,7 +15,7 @@ turned quotient (y ∷ ys) = term y.symbol (turn quotient y.exp) ∷ turned quot
 
 -- a term before the rest: zero removes the symbol
 abbrev pub joined : ℕ → ℤ → List Term → List Term
-joined s e rest = cond (isZero e) rest (term s e ∷ rest)
+joined s e rest = cond (is_zero e) rest (term s e ∷ rest)
 
 -- x, with what comes after it, against a list
 abbrev pub weave : Term → (List Term → List Term) → List Term → List Term

@@ -5,7 +5,7 @@ use Rattle.std.specs.Prelude.{Bool, true, false, ◌||◌, not, cond, List, [], 
 use Rattle.refusals.specs.Lowest.{◌when◌, lowest}
 use Rattle.refusals.specs.declared.Refusal.TheVariants.{BadUnit, Exponent, Symbols}
 use Rattle.refusals.specs.declared.Verdict.{Verdict}
-use Rattle.units.specs.Unit.{Term, term, isZero, outside, formed, exponent}
+use Rattle.units.specs.Unit.{Term, term, is_zero, outside, formed, exponent}
 
 -- the exponent of one symbol in the product or, with true, in the quotient
 abbrev pub combine : Bool → ℤ → ℤ → ℤ
@@ -18,7 +18,7 @@ exponents quotient xs ys s = combine quotient (exponent s xs) (exponent s ys)
 
 -- a symbol with its exponent, if it has one
 abbrev pub power : ℕ → ℤ → List Term
-power s e = cond (isZero e) [] (term s e ∷ [])
+power s e = cond (is_zero e) [] (term s e ∷ [])
 
 -- exponents written down: the symbols below n in order, those with exponent zero left out
 abbrev pub written : ℕ → (ℕ → ℤ) → List Term
@@ -26,20 +26,20 @@ written zero f = []
 written (suc n) f = written n f ++ power n (f n)
 
 -- some exponent is outside its limits
-abbrev pub anyOutside : List Term → Bool
-anyOutside [] = false
-anyOutside (x ∷ xs) = outside x.exp || anyOutside xs
+abbrev pub any_outside : List Term → Bool
+any_outside [] = false
+any_outside (x ∷ xs) = outside x.exp || any_outside xs
 
 -- the product or quotient, whatever the limits say, over n symbols
-unfoldable pub productOf : ℕ → Bool → List Term → List Term → List Term
-productOf n quotient xs ys = written n (exponents quotient xs ys)
+unfoldable pub product_of : ℕ → Bool → List Term → List Term → List Term
+product_of n quotient xs ys = written n (exponents quotient xs ys)
 
 -- why it is refused, if it is, where a unit has at most p symbols: 5 of the two units, 8 and 9 of the result
-unfoldable pub productVerdict : ℕ → ℕ → Bool → List Term → List Term → Verdict
-productVerdict p n quotient xs ys =
+unfoldable pub product_verdict : ℕ → ℕ → Bool → List Term → List Term → Verdict
+product_verdict p n quotient xs ys =
     lowest
     ((BadUnit when not (formed p n xs))
     ∷ (BadUnit when not (formed p n ys))
-    ∷ (Exponent when anyOutside (productOf n quotient xs ys))
-    ∷ (Symbols when ltb p (length (productOf n quotient xs ys)))
+    ∷ (Exponent when any_outside (product_of n quotient xs ys))
+    ∷ (Symbols when ltb p (length (product_of n quotient xs ys)))
     ∷ [])

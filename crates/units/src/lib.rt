@@ -3,11 +3,11 @@
 
 ghost use Rattle.std.specs.Prelude.{◌≡◌, true, false, List, [], ◌∷◌, ◌++◌, ◌<◌, ◌≤◌};
 ghost use Rattle.refusals.specs.declared.Verdict.{Verdict};
-ghost use Rattle.names.specs.Table.{namesMax};
-ghost use Rattle.units.specs.Unit.{placesMax, Term, term, isZero, outside, formed, inUse};
+ghost use Rattle.names.specs.Table.{names_max};
+ghost use Rattle.units.specs.Unit.{places_max, Term, term, is_zero, outside, formed, in_use};
 ghost use Rattle.units.specs.Product.{combine};
 ghost use Rattle.units.specs.Merge.{turn, turned, joined, merge};
-ghost use Rattle.units.specs.Calls.{termsOf, filled, present, unitOf, withTerm, sumOf, formVerdict, given, productAnswer, exponentAnswer, unitlessAnswer};
+ghost use Rattle.units.specs.Calls.{terms_of, filled, present, unit_of, with_term, sum_of, form_verdict, given, product_answer, exponent_answer, unitless_answer};
 
 use names::{NAMES, Symbol, symbol_index};
 use refusals::{Answer, Refusal, Verdict};
@@ -57,7 +57,7 @@ struct Sum {
 }
 
 fn is_zero(e: i16) -> bool
-    ensures { result ≡ isZero e }
+    ensures { result ≡ is_zero e }
 {
     e == 0
 }
@@ -86,7 +86,7 @@ fn combined(e: i16, f: i16, quotient: bool) -> i16
 
 // The empty unit, which is not the same as none.
 pub fn dimensionless() -> Unit
-    ensures { result ≡ unitOf [] }
+    ensures { result ≡ unit_of [] }
 {
     Unit {
         count: 0,
@@ -96,7 +96,7 @@ pub fn dimensionless() -> Unit
 }
 
 fn empty_sum() -> Sum
-    ensures { result ≡ sumOf [] }
+    ensures { result ≡ sum_of [] }
 {
     Sum {
         count: 0,
@@ -109,7 +109,7 @@ fn empty_sum() -> Sum
 // One term more.
 fn pushed(w: Sum, s: Symbol, e: i16) -> Sum
     requires { w.count < 65536 }
-    ensures { (l : List Term) → w ≡ sumOf l → result ≡ sumOf (l ++ (term s e ∷ [])) }
+    ensures { (l : List Term) → w ≡ sum_of l → result ≡ sum_of (l ++ (term s e ∷ [])) }
 {
     let mut v = w;
     let k = w.count;
@@ -126,7 +126,7 @@ fn pushed(w: Sum, s: Symbol, e: i16) -> Sum
 // One term more, unless its exponent is zero: zero removes the symbol.
 fn joined_to(w: Sum, s: Symbol, g: i16) -> Sum
     requires { w.count < 65536 }
-    ensures { (l : List Term) → w ≡ sumOf l → result ≡ sumOf (l ++ joined s g []) }
+    ensures { (l : List Term) → w ≡ sum_of l → result ≡ sum_of (l ++ joined s g []) }
 {
     if is_zero(g) {
         return w;
@@ -136,8 +136,8 @@ fn joined_to(w: Sum, s: Symbol, g: i16) -> Sum
 
 // The unit with one term more at its end, in order or not, for crates above (`unit_form` is the entry call).
 pub fn with_term(u: Unit, s: Symbol, e: i16) -> Unit
-    requires { u.count < placesMax }
-    ensures { result ≡ withTerm u s e }
+    requires { u.count < places_max }
+    ensures { result ≡ with_term u s e }
 {
     let mut v = u;
     let k = u.count;
@@ -149,7 +149,7 @@ pub fn with_term(u: Unit, s: Symbol, e: i16) -> Unit
 
 // Whether the unit is in form, for crates above (`unit_form` is the entry call).
 pub fn is_formed(u: Unit) -> bool
-    ensures { result ≡ formed placesMax namesMax (termsOf u) }
+    ensures { result ≡ formed places_max names_max (terms_of u) }
 {
     let n = u.count;
     if PLACES < n {
@@ -180,7 +180,7 @@ pub fn is_formed(u: Unit) -> bool
 
 // How many of a unit's symbols stand in a place.
 fn filled_in(u: Unit) -> usize
-    ensures { (result ≡ filled u) × (result ≤ placesMax) }
+    ensures { (result ≡ filled u) × (result ≤ places_max) }
 {
     let n = u.count;
     if PLACES < n {
@@ -191,7 +191,7 @@ fn filled_in(u: Unit) -> usize
 
 // Whether every symbol that stands in a place is in use, where n names are in use. For crates above (their entry calls answer 3).
 pub fn is_used(u: Unit, n: usize) -> bool
-    ensures { result ≡ inUse n (present u) }
+    ensures { result ≡ in_use n (present u) }
 {
     let k = filled_in(u);
     let mut i: usize = 0;
@@ -206,8 +206,8 @@ pub fn is_used(u: Unit, n: usize) -> bool
 
 // The terms of both units, in order of their symbols; those of one symbol are joined, and zero removes it.
 fn merged(a: Unit, b: Unit, quotient: bool) -> Sum
-    requires { (formed placesMax namesMax (termsOf a) ≡ true) × (formed placesMax namesMax (termsOf b) ≡ true) }
-    ensures { result ≡ sumOf (merge (termsOf a) (turned quotient (termsOf b))) }
+    requires { (formed places_max names_max (terms_of a) ≡ true) × (formed places_max names_max (terms_of b) ≡ true) }
+    ensures { result ≡ sum_of (merge (terms_of a) (turned quotient (terms_of b))) }
 {
     let n = a.count;
     let m = b.count;
@@ -256,7 +256,7 @@ fn no_product(refusal: Refusal) -> UnitResult
 
 // Whether a unit is in form.
 pub fn unit_form(u: Unit) -> Verdict
-    ensures { result ≡ formVerdict u }
+    ensures { result ≡ form_verdict u }
 {
     if is_formed(u) {
         return Verdict::Passed;
@@ -266,7 +266,7 @@ pub fn unit_form(u: Unit) -> Verdict
 
 // The product of two units or, with `quotient`, their quotient: `multiply` and `divide` of the source.
 pub fn product(a: Unit, b: Unit, quotient: bool) -> UnitResult
-    ensures { result ≡ productAnswer quotient a b }
+    ensures { result ≡ product_answer quotient a b }
 {
     if !is_formed(a) {
         return no_product(Refusal::BadUnit);
@@ -296,7 +296,7 @@ pub fn product(a: Unit, b: Unit, quotient: bool) -> UnitResult
 
 // The exponent of a symbol, 0 where the unit does not have it.
 pub fn exponent(u: Unit, symbol: Symbol) -> Power
-    ensures { result ≡ exponentAnswer u symbol }
+    ensures { result ≡ exponent_answer u symbol }
 {
     if !is_formed(u) {
         return Power::Refused(Refusal::BadUnit);
@@ -314,7 +314,7 @@ pub fn exponent(u: Unit, symbol: Symbol) -> Power
 
 // Whether there is no unit, or the empty one.
 pub fn is_dimensionless(m: MaybeUnit) -> Answer
-    ensures { result ≡ unitlessAnswer m }
+    ensures { result ≡ unitless_answer m }
 {
     if !m.some {
         return Answer::Yes;

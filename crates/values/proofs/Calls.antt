@@ -10,50 +10,50 @@ use borrow.Author.Tests.{le-leb, lt-leb, eq-eqb, ne_eqb}
 use Rattle.refusals.specs.declared.Refusal.TheVariants.{BadUnit}
 use Rattle.refusals.specs.declared.Verdict.{Verdict}
 use Rattle.refusals.specs.declared.Verdict.TheVariants.{Passed, Refused}
-use Rattle.pages.proofs.Bytes.{and-false}
-use Rattle.units.specs.Unit.{placesMax}
-use Rattle.units.specs.Calls.{unitOf}
-use Rattle.values.specs.Value.{noneCount, termBytes, termsAt, isNone, isSome, readable, valueVerdict, unitIn, valueIn}
+use Rattle.pages.proofs.Bytes.{and_false}
+use Rattle.units.specs.Unit.{places_max}
+use Rattle.units.specs.Calls.{unit_of}
+use Rattle.values.specs.Value.{none_count, term_bytes, terms_at, is_none, is_some, readable, value_verdict, unit_in, value_in}
 use Rattle.values.specs.declared.Value.{Value}
 
 -- no unit, with a verdict
-abbrev pub noneWith : Verdict → Value
-noneWith v = record { verdict = v; unit = record { some = false; unit = unitOf [] } }
+abbrev pub none_with : Verdict → Value
+none_with v = record { verdict = v; unit = record { some = false; unit = unit_of [] } }
 
 module _ (bytes : List ℕ) where
-  neither : isNone bytes ≡ false → isSome bytes ≡ false → noneWith (Refused BadUnit) ≡ valueIn bytes
-  unfolding valueVerdict readable unitIn
+  neither : is_none bytes ≡ false → is_some bytes ≡ false → none_with (Refused BadUnit) ≡ value_in bytes
+  unfolding value_verdict readable unit_in
   neither h k = rw (h, k)
 
-  pub read-nothing : length bytes < 1 → noneWith (Refused BadUnit) ≡ valueIn bytes
-  read-nothing h = neither (rw (ne_eqb (length bytes) 1 (λ e. omega arith))) (rw (lt-leb 1 (length bytes) h))
+  pub read_nothing : length bytes < 1 → none_with (Refused BadUnit) ≡ value_in bytes
+  read_nothing h = neither (rw (ne_eqb (length bytes) 1 (λ e. omega arith))) (rw (lt-leb 1 (length bytes) h))
 
   module _ (h : 1 ≤ length bytes) (n : ℕ) (e : n ≡ get_or bytes 0 0) where
-    module _ (few : n ≤ placesMax) where
-      not-none : isNone bytes ≡ false
-      not-none = rw (← e, ne_eqb n noneCount (λ q. omega arith)) (and-false (eqb (length bytes) 1))
+    module _ (few : n ≤ places_max) where
+      not_none : is_none bytes ≡ false
+      not_none = rw (← e, ne_eqb n none_count (λ q. omega arith)) (and_false (eqb (length bytes) 1))
 
-      pub read-some : length bytes ≡ 1 + termBytes * n → ◌≡◌ {A = Value} (record { verdict = Passed; unit = record { some = true; unit = unitOf (termsAt bytes n 1) } }) (valueIn bytes)
-      unfolding valueVerdict readable unitIn
-      read-some l =
-          let s : isSome bytes ≡ true = rw (le-leb 1 (length bytes) h, ← e, le-leb n placesMax few, eq-eqb (length bytes) (1 + termBytes * n) l) in
-          rw (not-none, s, e)
+      pub read_some : length bytes ≡ 1 + term_bytes * n → ◌≡◌ {A = Value} (record { verdict = Passed; unit = record { some = true; unit = unit_of (terms_at bytes n 1) } }) (value_in bytes)
+      unfolding value_verdict readable unit_in
+      read_some l =
+          let s : is_some bytes ≡ true = rw (le-leb 1 (length bytes) h, ← e, le-leb n places_max few, eq-eqb (length bytes) (1 + term_bytes * n) l) in
+          rw (not_none, s, e)
 
-      pub read-cut : (length bytes ≡ 1 + termBytes * n → ⊥) → noneWith (Refused BadUnit) ≡ valueIn bytes
-      read-cut l = neither not-none (rw (le-leb 1 (length bytes) h, ← e, le-leb n placesMax few, ne_eqb (length bytes) (1 + termBytes * n) l))
+      pub read_cut : (length bytes ≡ 1 + term_bytes * n → ⊥) → none_with (Refused BadUnit) ≡ value_in bytes
+      read_cut l = neither not_none (rw (le-leb 1 (length bytes) h, ← e, le-leb n places_max few, ne_eqb (length bytes) (1 + term_bytes * n) l))
 
-    module _ (many : placesMax < n) where
-      not-some : isSome bytes ≡ false
-      not-some = rw (le-leb 1 (length bytes) h, ← e, lt-leb n placesMax many)
+    module _ (many : places_max < n) where
+      not_some : is_some bytes ≡ false
+      not_some = rw (le-leb 1 (length bytes) h, ← e, lt-leb n places_max many)
 
-      pub read-many : (n ≡ noneCount → ⊥) → noneWith (Refused BadUnit) ≡ valueIn bytes
-      read-many o = neither (rw (← e, ne_eqb n noneCount o) (and-false (eqb (length bytes) 1))) not-some
+      pub read_many : (n ≡ none_count → ⊥) → none_with (Refused BadUnit) ≡ value_in bytes
+      read_many o = neither (rw (← e, ne_eqb n none_count o) (and_false (eqb (length bytes) 1))) not_some
 
-      pub read-long : (length bytes ≡ 1 → ⊥) → noneWith (Refused BadUnit) ≡ valueIn bytes
-      read-long l = neither (rw (ne_eqb (length bytes) 1 l)) not-some
+      pub read_long : (length bytes ≡ 1 → ⊥) → none_with (Refused BadUnit) ≡ value_in bytes
+      read_long l = neither (rw (ne_eqb (length bytes) 1 l)) not_some
 
-      pub read-none : n ≡ noneCount → length bytes ≡ 1 → noneWith Passed ≡ valueIn bytes
-      unfolding valueVerdict readable unitIn
-      read-none o l =
-          let s : isNone bytes ≡ true = rw (eq-eqb (length bytes) 1 l, ← e, eq-eqb n noneCount o) in
-          rw (not-some, s)
+      pub read_none : n ≡ none_count → length bytes ≡ 1 → none_with Passed ≡ value_in bytes
+      unfolding value_verdict readable unit_in
+      read_none o l =
+          let s : is_none bytes ≡ true = rw (eq-eqb (length bytes) 1 l, ← e, eq-eqb n none_count o) in
+          rw (not_some, s)

@@ -5,87 +5,87 @@ use Rattle.std.specs.Prelude.{Bool, ◌&&◌, ◌||◌, not, cond, List, [], ◌
 use Rattle.refusals.specs.Lowest.{◌when◌, lowest}
 use Rattle.refusals.specs.declared.Refusal.TheVariants.{BadUnit}
 use Rattle.refusals.specs.declared.Verdict.{Verdict}
-use Rattle.pages.specs.Quant.{allTo}
-use Rattle.pages.specs.Bytes.{wordAt, bytesOf}
-use Rattle.names.specs.Calls.{isUsed}
-use Rattle.units.specs.Unit.{placesMax, Term, term}
-use Rattle.units.specs.Calls.{unitOf}
+use Rattle.pages.specs.Quant.{all_to}
+use Rattle.pages.specs.Bytes.{word_at, bytes_of}
+use Rattle.names.specs.Calls.{is_used}
+use Rattle.units.specs.Unit.{places_max, Term, term}
+use Rattle.units.specs.Calls.{unit_of}
 use Rattle.units.specs.declared.MaybeUnit.{MaybeUnit}
 use Rattle.values.specs.declared.Value.{Value}
 
 -- the count that says that there is no unit
-abbrev pub noneCount : ℕ
-noneCount = 255
+abbrev pub none_count : ℕ
+none_count = 255
 
 -- how many bytes a term takes: its symbol, and two for its exponent
-abbrev pub termBytes : ℕ
-termBytes = 3
+abbrev pub term_bytes : ℕ
+term_bytes = 3
 
 -- how many bytes a unit takes at most
-abbrev pub unitMax : ℕ
-unitMax = 1 + placesMax * termBytes
+abbrev pub unit_max : ℕ
+unit_max = 1 + places_max * term_bytes
 
 -- ---- reading
 
 -- sixteen bits as a signed number
-abbrev pub signedOf : ℕ → ℤ
-signedOf raw = cond (ltb raw 32768) (pos raw) (negsuc (65535 - raw))
+abbrev pub signed_of : ℕ → ℤ
+signed_of raw = cond (ltb raw 32768) (pos raw) (negsuc (65535 - raw))
 
 -- n terms, from index at on
-abbrev pub termsAt : List ℕ → ℕ → ℕ → List Term
-termsAt bytes zero at = []
-termsAt bytes (suc n) at = term (get_or bytes at 0) (signedOf (wordAt bytes (at + 1))) ∷ termsAt bytes n (at + termBytes)
+abbrev pub terms_at : List ℕ → ℕ → ℕ → List Term
+terms_at bytes zero at = []
+terms_at bytes (suc n) at = term (get_or bytes at 0) (signed_of (word_at bytes (at + 1))) ∷ terms_at bytes n (at + term_bytes)
 
 -- a count of 255 and nothing after it
-abbrev pub isNone : List ℕ → Bool
-isNone bytes = eqb (length bytes) 1 && eqb (get_or bytes 0 0) noneCount
+abbrev pub is_none : List ℕ → Bool
+is_none bytes = eqb (length bytes) 1 && eqb (get_or bytes 0 0) none_count
 
 -- a count of at most eight, and as many terms
-abbrev pub isSome : List ℕ → Bool
-isSome bytes = leb 1 (length bytes) && (leb (get_or bytes 0 0) placesMax && eqb (length bytes) (1 + termBytes * get_or bytes 0 0))
+abbrev pub is_some : List ℕ → Bool
+is_some bytes = leb 1 (length bytes) && (leb (get_or bytes 0 0) places_max && eqb (length bytes) (1 + term_bytes * get_or bytes 0 0))
 
 -- do the bytes say a unit, in form or not, or none
 unfoldable pub readable : List ℕ → Bool
-readable bytes = isNone bytes || isSome bytes
+readable bytes = is_none bytes || is_some bytes
 
 -- 5 for bytes that say neither
-unfoldable pub valueVerdict : List ℕ → Verdict
-valueVerdict bytes = lowest ((BadUnit when not (readable bytes)) ∷ [])
+unfoldable pub value_verdict : List ℕ → Verdict
+value_verdict bytes = lowest ((BadUnit when not (readable bytes)) ∷ [])
 
 -- the unit that the bytes say, in form or not, or none
-unfoldable pub unitIn : List ℕ → MaybeUnit
-unitIn bytes = record { some = isSome bytes; unit = unitOf (cond (isSome bytes) (termsAt bytes (get_or bytes 0 0) 1) []) }
+unfoldable pub unit_in : List ℕ → MaybeUnit
+unit_in bytes = record { some = is_some bytes; unit = unit_of (cond (is_some bytes) (terms_at bytes (get_or bytes 0 0) 1) []) }
 
 -- what reading answers
-abbrev pub valueIn : List ℕ → Value
-valueIn bytes = record { verdict = valueVerdict bytes; unit = unitIn bytes }
+abbrev pub value_in : List ℕ → Value
+value_in bytes = record { verdict = value_verdict bytes; unit = unit_in bytes }
 
 -- ---- looking symbols up: "the fields wholly present judged too" (below the table of refusals)
 
 -- how many symbols the bytes say, whether or not all of them stand there
-unfoldable pub saidIn : List ℕ → ℕ
-saidIn bytes = cond (eqb (get_or bytes 0 0) noneCount) 0 (get_or bytes 0 0)
+unfoldable pub said_in : List ℕ → ℕ
+said_in bytes = cond (eqb (get_or bytes 0 0) none_count) 0 (get_or bytes 0 0)
 
 -- symbol i is in use, where n names are in use, or its byte is not there
-unfoldable pub symbolUsed : ℕ → List ℕ → ℕ → Bool
-symbolUsed n bytes i = leb (length bytes) (1 + termBytes * i) || isUsed n (get_or bytes (1 + termBytes * i) 0)
+unfoldable pub symbol_used : ℕ → List ℕ → ℕ → Bool
+symbol_used n bytes i = leb (length bytes) (1 + term_bytes * i) || is_used n (get_or bytes (1 + term_bytes * i) 0)
 
 -- every symbol that is there is in use: the ninth as well as the first, and one whose exponent is cut off
-unfoldable pub symbolsUsed : ℕ → List ℕ → Bool
-symbolsUsed n bytes = allTo (saidIn bytes) (symbolUsed n bytes)
+unfoldable pub symbols_used : ℕ → List ℕ → Bool
+symbols_used n bytes = all_to (said_in bytes) (symbol_used n bytes)
 
 -- ---- writing
 
 -- a signed number as sixteen bits
-abbrev pub rawOf : ℤ → ℕ
-rawOf (pos n) = n
-rawOf (negsuc n) = 65535 - n
+abbrev pub raw_of : ℤ → ℕ
+raw_of (pos n) = n
+raw_of (negsuc n) = 65535 - n
 
 -- the bytes of terms, one after another; a symbol that a page can number is a byte
-abbrev pub bytesIn : List Term → List ℕ
-bytesIn [] = []
-bytesIn (x ∷ xs) = x.symbol % 256 ∷ (bytesOf (rawOf x.exp) ++ bytesIn xs)
+abbrev pub bytes_in : List Term → List ℕ
+bytes_in [] = []
+bytes_in (x ∷ xs) = x.symbol % 256 ∷ (bytes_of (raw_of x.exp) ++ bytes_in xs)
 
 -- the bytes of a unit
-abbrev pub unitBytes : List Term → List ℕ
-unitBytes xs = length xs ∷ bytesIn xs
+abbrev pub unit_bytes : List Term → List ℕ
+unit_bytes xs = length xs ∷ bytes_in xs

@@ -4,9 +4,9 @@
 ghost use Rattle.std.specs.Prelude.{◌≡◌, true, false, [], ◌+◌, ◌*◌, ◌≤◌, ◌<◌, length};
 ghost use Rattle.pages.specs.Bytes.{put};
 ghost use Rattle.pages.specs.Pad.{pad};
-ghost use Rattle.units.specs.Unit.{placesMax};
-ghost use Rattle.units.specs.Calls.{termsOf, unitOf};
-ghost use Rattle.values.specs.Value.{termBytes, unitMax, signedOf, termsAt, valueIn, saidIn, symbolsUsed, rawOf, bytesIn, unitBytes};
+ghost use Rattle.units.specs.Unit.{places_max};
+ghost use Rattle.units.specs.Calls.{terms_of, unit_of};
+ghost use Rattle.values.specs.Value.{term_bytes, unit_max, signed_of, terms_at, value_in, said_in, symbols_used, raw_of, bytes_in, unit_bytes};
 
 use names::Symbol;
 use pages::index;
@@ -34,7 +34,7 @@ pub struct Value {
 
 // Two bytes as a signed number.
 fn signed(high: u8, low: u8) -> i16
-    ensures { result ≡ signedOf (high * 256 + low) }
+    ensures { result ≡ signed_of (high * 256 + low) }
 {
     let raw = index(high) * 256 + index(low);
     if raw < 32768 {
@@ -46,8 +46,8 @@ fn signed(high: u8, low: u8) -> i16
 
 // The unit with n terms, from index 1 on.
 fn unit_at(bytes: &[u8], n: usize) -> Unit
-    requires { (n ≤ placesMax) × (1 + termBytes * n ≤ length bytes.now) }
-    ensures { result ≡ unitOf (termsAt bytes.now n 1) }
+    requires { (n ≤ places_max) × (1 + term_bytes * n ≤ length bytes.now) }
+    ensures { result ≡ unit_of (terms_at bytes.now n 1) }
 {
     let mut u = units::dimensionless();
     let mut at: usize = 1;
@@ -63,7 +63,7 @@ fn unit_at(bytes: &[u8], n: usize) -> Unit
 
 // No unit: because the bytes say so, or because they are refused.
 fn none(verdict: Verdict) -> Value
-    ensures { result ≡ record { verdict = verdict; unit = record { some = false; unit = unitOf [] } } }
+    ensures { result ≡ record { verdict = verdict; unit = record { some = false; unit = unit_of [] } } }
 {
     let unit = MaybeUnit {
         some: false,
@@ -74,7 +74,7 @@ fn none(verdict: Verdict) -> Value
 
 // The unit that the bytes say, which may break its form, or none.
 pub fn read_value(bytes: &[u8]) -> Value
-    ensures { result ≡ valueIn bytes.now }
+    ensures { result ≡ value_in bytes.now }
 {
     if bytes.len() < 1 {
         return none(Verdict::Refused(Refusal::BadUnit));
@@ -104,7 +104,7 @@ pub fn read_value(bytes: &[u8]) -> Value
 
 // How many symbols the bytes say that there are, all there or not.
 fn symbols_said(bytes: &[u8]) -> usize
-    ensures { (result ≡ saidIn bytes.now) × (result < 256) }
+    ensures { (result ≡ said_in bytes.now) × (result < 256) }
 {
     if bytes.len() < 1 {
         return 0;
@@ -119,7 +119,7 @@ fn symbols_said(bytes: &[u8]) -> usize
 // Whether every symbol that stands in the bytes is in use, where n names are in use, whatever else is wrong with them. For crates above (their
 // entry calls answer 3).
 pub fn are_used(bytes: &[u8], n: usize) -> bool
-    ensures { result ≡ symbolsUsed n bytes.now }
+    ensures { result ≡ symbols_used n bytes.now }
 {
     let said = symbols_said(bytes);
     let mut i: usize = 0;
@@ -138,7 +138,7 @@ pub fn are_used(bytes: &[u8], n: usize) -> bool
 
 // A signed number as sixteen bits.
 pub fn raw(e: i16) -> usize
-    ensures { (result ≡ rawOf e) × (result < 65536) }
+    ensures { (result ≡ raw_of e) × (result < 65536) }
 {
     if e < 0 {
         return 65535 - (-1 - e) as usize;
@@ -148,8 +148,8 @@ pub fn raw(e: i16) -> usize
 
 // Writes the terms of a unit, from index 1 on.
 fn write_terms(out: &mut [u8], u: Unit)
-    requires { (u.count ≤ placesMax) × (unitMax ≤ length out.old) }
-    ensures { out.new ≡ put out.old 1 (bytesIn (termsOf u)) }
+    requires { (u.count ≤ places_max) × (unit_max ≤ length out.old) }
+    ensures { out.new ≡ put out.old 1 (bytes_in (terms_of u)) }
 {
     let n = u.count;
     let mut at: usize = 1;
@@ -166,8 +166,8 @@ fn write_terms(out: &mut [u8], u: Unit)
 
 // The bytes of a unit, and zeros after them, for crates above (every unit in form, as `unit_form` tests, has few enough places).
 pub fn value_bytes(u: Unit) -> UnitBytes
-    requires { u.count ≤ placesMax }
-    ensures { result ≡ pad unitMax 0 (unitBytes (termsOf u)) }
+    requires { u.count ≤ places_max }
+    ensures { result ≡ pad unit_max 0 (unit_bytes (terms_of u)) }
 {
     let mut out = [0u8; UNIT_BYTES];
     let count = [u.count as u8];

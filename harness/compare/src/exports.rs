@@ -1,7 +1,7 @@
-//! The exports of the static library `riddlepoppy`.
+//! The exports of the static library `calls`.
 
 // Nothing checks these declarations against the library's source.
-#[link(name = "riddlepoppy", kind = "static")]
+#[link(name = "calls", kind = "static")]
 extern "C" {
     pub fn riddlepoppy_empty_names(page: *mut u8, n: usize) -> u32;
     pub fn riddlepoppy_add_name(page: *mut u8, n: usize, name: *const u8, m: usize) -> u32;

@@ -3,8 +3,8 @@ use mathlib.Core.Bool.{cond}
 use Prim.Native.Nat.{ℕ, ◌*◌}
 use native.Mathlib.Omega.{arith}
 use lib.ListN.{length}
-use Rattle.marks.specs.Marks.{smallBytes, room}
-use Rattle.marks.proofs.Marks.{noted-fresh, small-room}
+use Rattle.marks.specs.Marks.{small_bytes, room}
+use Rattle.marks.proofs.Marks.{noted_fresh, small_room}
 use Rattle.matching.specs.Memo.{fits}
 use Rattle.answers.proofs.+index_in.Goals as goal
 
@@ -14,5 +14,5 @@ index_in-requires t c =
     let first : ◌≡◌ {A = ℕ} (cond (fits (room (length a.memo.now)) a.target.checked a.key) 0 1) 1 =
     rw (← c.room.ensures.0, sym c.fits.ensures ∙ c.if-fits.false) refl in
     let next : ◌≡◌ {A = ℕ} (cond (fits (room (length c.small_memo-small.result)) a.target.checked a.key) 0 1) 0 =
-    rw (small-room c.small_memo-small.result c.small_memo-small.ensures, sym c.fits-2.ensures ∙ c.if-fits-2.true) refl in
-    (omega (arith, c.decreases, first, next), (c.requires.measured, (c.requires.checked_value, noted-fresh _ _ (2 * smallBytes) c.small_memo-small.ensures)))
+    rw (small_room c.small_memo-small.result c.small_memo-small.ensures, sym c.fits-2.ensures ∙ c.if-fits-2.true) refl in
+    (omega (arith, c.decreases, first, next), (c.requires.measured, (c.requires.checked_value, noted_fresh _ _ (2 * small_bytes) c.small_memo-small.ensures)))

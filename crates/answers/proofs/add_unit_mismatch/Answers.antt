@@ -1,7 +1,7 @@
 use mathlib.Core.Path.{sym, ◌∙◌}
 use Rattle.groups.specs.Groups.{walk}
 use Rattle.answers.specs.Units.{clashes}
-use Rattle.answers.proofs.Units.{clash-by}
+use Rattle.answers.proofs.Units.{clash_by}
 use Rattle.answers.proofs.add_unit_mismatch.Goals as goal
 
 pub returns-then-is_dimensionless : goal.returns-then-is_dimensionless
@@ -22,6 +22,6 @@ convertible-requires c =
 
 pub returns : goal.returns
 returns c =
-    clash-by (walk c.args.steps c.args.parents.now) c.args.left.unit c.args.right.unit
+    clash_by (walk c.args.steps c.args.parents.now) c.args.left.unit c.args.right.unit
     (sym c.is_dimensionless.ensures ∙ c.if-is_dimensionless.false) (sym c.is_dimensionless-2.ensures ∙ c.if-is_dimensionless-2.false) c.convertible.result
     (rw (c.or_empty-a.ensures, c.or_empty-b.ensures) at c.convertible.ensures)

@@ -1,12 +1,12 @@
-use Rattle.answers.specs.Units.{adoptedBy}
+use Rattle.answers.specs.Units.{adopted_by}
 use Rattle.answers.proofs.adopt.Goals as goal
 
 pub returns-then-not-is_dimensionless : goal.returns-then-not-is_dimensionless
-unfolding adoptedBy
+unfolding adopted_by
 returns-then-not-is_dimensionless c = rw (← c.is_dimensionless.ensures, c.if-not-is_dimensionless.true)
 
 pub returns-then-not-is_dimensionless-2 : goal.returns-then-not-is_dimensionless-2
-unfolding adoptedBy
+unfolding adopted_by
 returns-then-not-is_dimensionless-2 c =
     let is-dimensionless = c.is_dimensionless in
     let if1 = c.if-not-is_dimensionless in
@@ -19,7 +19,7 @@ returns-then-not-is_dimensionless-2 c =
     )
 
 pub returns : goal.returns
-unfolding adoptedBy
+unfolding adopted_by
 returns c =
     let is-dimensionless = c.is_dimensionless in
     let if1 = c.if-not-is_dimensionless in

@@ -2,11 +2,11 @@ use mathlib.Core.Bool.{not}
 use mathlib.Core.Path.{ap}
 use mathlib.Core.Path.{sym, ◌∙◌}
 use native.Mathlib.Omega.{arith}
-use Rattle.names.specs.Calls.{usedOf}
+use Rattle.names.specs.Calls.{used_of}
 use Rattle.groups.specs.Groups.{walk}
-use Rattle.pairs.proofs.Page.{formed-held}
-use Rattle.pairs.proofs.Calls.{unbroken, root-in}
-use Rattle.answers.proofs.Calls.{passed-formed, passed-used, binary-undefined, binary-broken, binary-unfit, binary-passed}
+use Rattle.pairs.proofs.Page.{formed_held}
+use Rattle.pairs.proofs.Calls.{unbroken, root_in}
+use Rattle.answers.proofs.Calls.{passed_formed, passed_used, binary_undefined, binary_broken, binary_unfit, binary_passed}
 use borrow.Author.Rules.{rules}
 use Rattle.answers.proofs.check_binary_operator.Goals as goal
 
@@ -14,7 +14,7 @@ pub returns-then-not-is_operator : goal.returns-then-not-is_operator
 returns-then-not-is_operator c =
     let is-operator = c.is_operator in
     let if1 = c.if-not-is_operator in
-    c.refuse.ensures ∙ binary-undefined c.args.page.now c.args.names.now c.args.lent
+    c.refuse.ensures ∙ binary_undefined c.args.page.now c.args.names.now c.args.lent
     c.args.table.now c.args.op c.args.left c.args.right
     (sym is-operator.ensures ∙ if1.true)
 
@@ -24,7 +24,7 @@ returns-then-not-opened c =
     let if1 = c.if-not-is_operator in
     let opened = c.opened in
     let if2 = c.if-not-opened in
-    c.refuse-then-not-opened.ensures ∙ binary-broken c.args.page.now c.args.names.now c.args.lent
+    c.refuse-then-not-opened.ensures ∙ binary_broken c.args.page.now c.args.names.now c.args.lent
     c.args.table.now c.args.op c.args.left c.args.right
     (sym is-operator.ensures ∙ if1.false) (rw (opened.ensures.0 ∙ ap not if2.true))
 
@@ -36,7 +36,7 @@ returns-then-is_broken c =
     let if2 = c.if-not-opened in
     let is-broken = c.is_broken in
     let if3 = c.if-is_broken in
-    c.refuse-then-is_broken.ensures ∙ binary-broken c.args.page.now c.args.names.now c.args.lent
+    c.refuse-then-is_broken.ensures ∙ binary_broken c.args.page.now c.args.names.now c.args.lent
     c.args.table.now c.args.op c.args.left c.args.right
     (sym is-operator.ensures ∙ if1.false)
     (rw ((opened.ensures.0 ∙ ap not if2.false), sym is-broken.ensures ∙ if3.true))
@@ -62,7 +62,7 @@ returns-in-Refused c =
     let if3 = c.if-is_broken in
     let in_use = c.in_use-n in
     let operands-verdict = c.operands_verdict-verdict in
-    c.refuse-in-Refused.ensures ∙ binary-unfit c.args.page.now c.args.names.now c.args.lent
+    c.refuse-in-Refused.ensures ∙ binary_unfit c.args.page.now c.args.names.now c.args.lent
     c.args.table.now c.args.op c.args.left c.args.right
     (sym is-operator.ensures ∙ if1.false) (opened.ensures.0 ∙ ap not if2.false)
     (sym is-broken.ensures ∙ if3.false) _ (sym c.in-Refused.is ∙ rw in_use.ensures.0 at operands-verdict.ensures)
@@ -75,7 +75,7 @@ pub parents_of-parents-requires : goal.parents_of-parents-requires
 parents_of-parents-requires c =
     let table = c.args.table.now in
     let names = c.args.names.now in
-    formed-held table (usedOf names c.args.lent)
+    formed_held table (used_of names c.args.lent)
     (unbroken table names c.args.lent (sym c.is_broken.ensures ∙ c.if-is_broken.false)).1
 
 pub count-steps-requires : goal.count-steps-requires
@@ -84,7 +84,7 @@ count-steps-requires c =
     let names = c.args.names.now in
     omega (
       arith,
-      (formed-held table (usedOf names c.args.lent)
+      (formed_held table (used_of names c.args.lent)
           (unbroken table names c.args.lent (sym c.is_broken.ensures ∙ c.if-is_broken.false)).1).room,
     )
 
@@ -95,8 +95,8 @@ binary_checked-requires c =
     let left = c.args.left in
     let right = c.args.right in
     let v = sym c.operands_verdict-verdict.ensures ∙ c.in_default.is in
-    let used = passed-used page n left right v in
-    let forms = passed-formed page n left right v in
+    let used = passed_used page n left right v in
+    let forms = passed_formed page n left right v in
     let operator = sym c.is_operator.ensures ∙ c.if-not-is_operator.false in record { held = (c.opened.ensures.1 c.if-not-opened.false).held; leaves = c.fill_leaves.ensures.leaves; op_value = (operator, used.0, used.1); left_value = (forms.0, forms.1) }
 
 pub returns : goal.returns
@@ -107,9 +107,9 @@ returns c =
     let table = c.args.table.now in
     let unbroken-table = sym c.is_broken.ensures ∙ c.if-is_broken.false in
     let steps = c.count-steps.result in
-    c.binary_checked.ensures ∙ binary-passed page names lent table c.args.op c.args.left c.args.right
+    c.binary_checked.ensures ∙ binary_passed page names lent table c.args.op c.args.left c.args.right
     (sym c.is_operator.ensures ∙ c.if-not-is_operator.false) (c.opened.ensures.0 ∙ ap not c.if-not-opened.false)
     unbroken-table (sym c.in_default.is ∙ rw c.in_use-n.ensures.0 at c.operands_verdict-verdict.ensures)
     (walk steps c.parents_of-parents.result)
     (λ s. rw c.parents_of-parents.ensures.0
-    (root-in table (usedOf names lent) steps s (unbroken table names lent unbroken-table).1 c.count-steps.ensures.0))
+    (root_in table (used_of names lent) steps s (unbroken table names lent unbroken-table).1 c.count-steps.ensures.0))

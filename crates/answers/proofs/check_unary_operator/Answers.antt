@@ -2,8 +2,8 @@ use mathlib.Core.Bool.{not}
 use mathlib.Core.Path.{ap}
 use mathlib.Core.Path.{sym, ◌∙◌}
 use native.Mathlib.Omega.{arith}
-use Rattle.types.proofs.Calls.{unbroken-both}
-use Rattle.answers.proofs.Calls.{passed-used, unary-undefined, unary-broken, unary-unfit, unary-passed}
+use Rattle.types.proofs.Calls.{unbroken_both}
+use Rattle.answers.proofs.Calls.{passed_used, unary_undefined, unary_broken, unary_unfit, unary_passed}
 use borrow.Author.Rules.{rules}
 use Rattle.answers.proofs.check_unary_operator.Goals as goal
 
@@ -12,7 +12,7 @@ returns-then-not-is_operator c =
     let is-operator = c.is_operator in
     let if1 = c.if-not-is_operator in
     let k =
-    unary-undefined c.args.page.now c.args.names.now c.args.lent c.args.op c.args.x
+    unary_undefined c.args.page.now c.args.names.now c.args.lent c.args.op c.args.x
     (sym is-operator.ensures ∙ if1.true) in
     (c.refuse.ensures ∙ k.0, k.1)
 
@@ -23,14 +23,14 @@ returns-then-not-opened c =
     let opened = c.opened in
     let if2 = c.if-not-opened in
     let k =
-    unary-broken c.args.page.now c.args.names.now c.args.lent c.args.op c.args.x
+    unary_broken c.args.page.now c.args.names.now c.args.lent c.args.op c.args.x
     (sym is-operator.ensures ∙ if1.false) (opened.ensures.0 ∙ ap not if2.true) in
     (c.refuse-then-not-opened.ensures ∙ k.0, k.1)
 
 pub in_use-n-requires : goal.in_use-n-requires
 in_use-n-requires c =
     let opened = c.opened in
-    (unbroken-both c.args.page.now c.args.names.now c.args.lent (opened.ensures.0 ∙ ap not c.if-not-opened.false)).0
+    (unbroken_both c.args.page.now c.args.names.now c.args.lent (opened.ensures.0 ∙ ap not c.if-not-opened.false)).0
 
 pub operands_verdict-verdict-requires : goal.operands_verdict-verdict-requires
 operands_verdict-verdict-requires c =
@@ -47,7 +47,7 @@ returns-in-Refused c =
     let in_use = c.in_use-n in
     let operands-verdict = c.operands_verdict-verdict in
     let k =
-    unary-unfit c.args.page.now c.args.names.now c.args.lent c.args.op c.args.x
+    unary_unfit c.args.page.now c.args.names.now c.args.lent c.args.op c.args.x
     (sym is-operator.ensures ∙ if1.false) (opened.ensures.0 ∙ ap not if2.false) _
     (sym c.in-Refused.is ∙ rw in_use.ensures.0 at operands-verdict.ensures) in
     (c.refuse-in-Refused.ensures ∙ k.0, k.1)
@@ -64,7 +64,7 @@ unary_checked-requires c =
       leaves = c.fill_leaves.ensures.leaves;
       op_value = (
         sym is-operator.ensures ∙ c.if-not-is_operator.false,
-        (passed-used c.args.page.now c.in_use-n.result c.args.x c.args.x v).0,
+        (passed_used c.args.page.now c.in_use-n.result c.args.x c.args.x v).0,
       );
     }
 
@@ -72,7 +72,7 @@ pub returns : goal.returns
 returns c =
     let is-operator = c.is_operator in
     let unary-checked = c.unary_checked in
-    unary-passed c.args.page.now c.args.names.now c.args.lent c.args.op c.args.x
+    unary_passed c.args.page.now c.args.names.now c.args.lent c.args.op c.args.x
     (sym is-operator.ensures ∙ c.if-not-is_operator.false) (c.opened.ensures.0 ∙ ap not c.if-not-opened.false)
     (sym c.in_default.is ∙ rw c.in_use-n.ensures.0 at c.operands_verdict-verdict.ensures) unary-checked.ensures.value
     unary-checked.ensures.page_after

@@ -1,5 +1,5 @@
 use Rattle.units.specs.Calls.{unitless}
-use Rattle.units.proofs.Form.{length-terms}
+use Rattle.units.proofs.Form.{length_terms}
 use Rattle.answers.proofs.is_dimensionless.Goals as goal
 
 pub returns-then-not-m : goal.returns-then-not-m
@@ -11,4 +11,4 @@ unfolding unitless
 returns c =
     let if1 = c.if-not-m in
     let u = c.args.m.unit in
-    rw (if1.false, length-terms u.count 0 u.symbols u.exponents)
+    rw (if1.false, length_terms u.count 0 u.symbols u.exponents)

@@ -1,14 +1,14 @@
 use borrow.Author.Tests.{eq-eqb, ne_eqb}
-use Rattle.answers.specs.Units.{negationUnit}
-use Rattle.answers.specs.Calls.{unaryUnit}
+use Rattle.answers.specs.Units.{negation_unit}
+use Rattle.answers.specs.Calls.{unary_unit}
 use Rattle.answers.proofs.unary_unit.Goals as goal
 
 pub returns-then-op-ne-MINUS : goal.returns-then-op-ne-MINUS
-unfolding unaryUnit
+unfolding unary_unit
 returns-then-op-ne-MINUS c = rw (ne_eqb _ _ c.if-op-ne-MINUS.true) c.no_unit.ensures
 
 pub returns-then-not-does_pass : goal.returns-then-not-does_pass
-unfolding unaryUnit
+unfolding unary_unit
 returns-then-not-does_pass c =
     let if1 = c.if-op-ne-MINUS in
     let does-pass = c.does_pass in
@@ -20,7 +20,7 @@ kind_of-requires c =
     record { held = c.requires.held; t_bound = rw c.number_of.ensures c.requires.checked_bound }
 
 pub returns-then-is_union : goal.returns-then-is_union
-unfolding unaryUnit negationUnit
+unfolding unary_unit negation_unit
 returns-then-is_union c =
     let if1 = c.if-op-ne-MINUS in
     let does-pass = c.does_pass in
@@ -40,7 +40,7 @@ returns-then-is_union c =
     ) c.no_unit-then-is_union.ensures
 
 pub returns : goal.returns
-unfolding unaryUnit negationUnit
+unfolding unary_unit negation_unit
 returns c =
     let if1 = c.if-op-ne-MINUS in
     let does-pass = c.does_pass in

@@ -1,17 +1,17 @@
 use mathlib.Core.Path.{◌≡◌, sym, ◌∙◌}
 use mathlib.Core.Bool.{true, false}
 use native.Mathlib.Omega.{arith}
-use Rattle.pages.proofs.Quant.{any-none, any-more, any-found}
-use Rattle.types.specs.Types.{arity, childOf}
-use Rattle.bindings.specs.Generics.{hasGeneric}
-use Rattle.bindings.proofs.Generics.{generic-itself, generic-closed, generic-inside}
+use Rattle.pages.proofs.Quant.{any_none, any_more, any_found}
+use Rattle.types.specs.Types.{arity, child_of}
+use Rattle.bindings.specs.Generics.{has_generic}
+use Rattle.bindings.proofs.Generics.{generic_itself, generic_closed, generic_inside}
 use Rattle.bindings.proofs.generic_in.Goals as goal
 
 pub returns-then-kind-eq-GENERIC : goal.returns-then-kind-eq-GENERIC
 returns-then-kind-eq-GENERIC c =
     let kind-of = c.kind_of-kind in
     let a = c.args in
-    generic-itself a.page.now c.requires.held.sound a.t c.requires.t_bound.0 kind-of.result kind-of.ensures
+    generic_itself a.page.now c.requires.held.sound a.t c.requires.t_bound.0 kind-of.result kind-of.ensures
     c.if-kind-eq-GENERIC.true
 
 pub returns-then-not-is_entered : goal.returns-then-not-is_entered
@@ -20,11 +20,11 @@ returns-then-not-is_entered c =
     let if1 = c.if-kind-eq-GENERIC in
     let is-entered = c.is_entered in
     let a = c.args in
-    generic-closed a.page.now c.requires.held.sound a.t c.requires.t_bound.0 kind-of.result kind-of.ensures
+    generic_closed a.page.now c.requires.held.sound a.t c.requires.t_bound.0 kind-of.result kind-of.ensures
     if1.false (sym is-entered.ensures ∙ c.if-not-is_entered.true)
 
 pub loop-i-init : goal.loop-i-init
-loop-i-init c = (omega arith, any-none _)
+loop-i-init c = (omega arith, any_none _)
 
 pub child_of-child-requires : goal.child_of-child-requires
 child_of-child-requires c =
@@ -48,11 +48,11 @@ returns-then-found-child c =
     let loop-test = c.loop-i-test in
     let a = c.args in
     let page = a.page.now in
-    let hit : hasGeneric page (childOf page a.t loop.i) ≡ true =
+    let hit : has_generic page (child_of page a.t loop.i) ≡ true =
     rw (← child-of.ensures.0) (sym (c.requires.t_bound.2 child-of.result child-of.ensures.1) ∙ c.if-found-child.true) in
-    generic-inside page c.requires.held.sound a.t c.requires.t_bound.0 kind-of.result kind-of.ensures if1.false
+    generic_inside page c.requires.held.sound a.t c.requires.t_bound.0 kind-of.result kind-of.ensures if1.false
     (sym is-entered.ensures ∙ if2.false) true
-    (any-found (λ j. hasGeneric page (childOf page a.t j)) (arity page a.t) loop.i
+    (any_found (λ j. has_generic page (child_of page a.t j)) (arity page a.t) loop.i
     (rw (← size.ensures.0) loop-test.true) hit)
 
 pub loop-i-preserved : goal.loop-i-preserved
@@ -61,9 +61,9 @@ loop-i-preserved c =
     let child-of = c.child_of-child in
     let a = c.args in
     let page = a.page.now in
-    let miss : hasGeneric page (childOf page a.t loop.i) ≡ false =
+    let miss : has_generic page (child_of page a.t loop.i) ≡ false =
     rw (← child-of.ensures.0) (sym (c.requires.t_bound.2 child-of.result child-of.ensures.1) ∙ c.if-found-child.false) in
-    (omega arith, any-more (λ j. hasGeneric page (childOf page a.t j)) loop.i loop.invariant.1 miss)
+    (omega arith, any_more (λ j. has_generic page (child_of page a.t j)) loop.i loop.invariant.1 miss)
 
 pub returns : goal.returns
 returns c =
@@ -76,5 +76,5 @@ returns c =
     let a = c.args in
     let page = a.page.now in
     let e : loop.i ≡ arity page a.t = omega (arith, size.ensures.0) in
-    generic-inside page c.requires.held.sound a.t c.requires.t_bound.0 kind-of.result kind-of.ensures if1.false
+    generic_inside page c.requires.held.sound a.t c.requires.t_bound.0 kind-of.result kind-of.ensures if1.false
     (sym is-entered.ensures ∙ if2.false) false (rw e at loop.invariant.1)

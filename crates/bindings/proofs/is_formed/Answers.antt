@@ -1,18 +1,18 @@
 use mathlib.Core.Path.{◌≡◌, sym, ◌∙◌}
 use mathlib.Core.Bool.{true, false}
 use native.Mathlib.Omega.{arith}
-use Rattle.pages.proofs.Quant.{all-none, all-more, all-failed}
-use Rattle.bindings.specs.Bindings.{goodBinding}
-use Rattle.bindings.proofs.Bound.{formed-many, formed-rest}
+use Rattle.pages.proofs.Quant.{all_none, all_more, all_failed}
+use Rattle.bindings.specs.Bindings.{good_binding}
+use Rattle.bindings.proofs.Bound.{formed_many, formed_rest}
 use Rattle.bindings.proofs.is_formed.Goals as goal
 
 pub returns-then-count-gt-BINDINGS : goal.returns-then-count-gt-BINDINGS
-returns-then-count-gt-BINDINGS c = formed-many c.args.n c.args.t c.args.bindings c.if-count-gt-BINDINGS.true
+returns-then-count-gt-BINDINGS c = formed_many c.args.n c.args.t c.args.bindings c.if-count-gt-BINDINGS.true
 
 pub loop-i-init : goal.loop-i-init
 loop-i-init c =
     let a = c.args in
-    (omega arith, all-none (goodBinding a.n a.t a.bindings))
+    (omega arith, all_none (good_binding a.n a.t a.bindings))
 
 pub returns-then-not-is_good : goal.returns-then-not-is_good
 returns-then-not-is_good c =
@@ -21,8 +21,8 @@ returns-then-not-is_good c =
     let loop-test = c.loop-i-test in
     let is-good = c.is_good in
     let a = c.args in
-    formed-rest a.n a.t a.bindings if1.false false
-    (all-failed (goodBinding a.n a.t a.bindings) a.bindings.count loop.i loop-test.true
+    formed_rest a.n a.t a.bindings if1.false false
+    (all_failed (good_binding a.n a.t a.bindings) a.bindings.count loop.i loop-test.true
     (sym is-good.ensures ∙ c.if-not-is_good.true))
 
 pub loop-i-preserved : goal.loop-i-preserved
@@ -31,7 +31,7 @@ loop-i-preserved c =
     let is-good = c.is_good in
     let a = c.args in (
       omega arith,
-      all-more (goodBinding a.n a.t a.bindings) loop.i loop.invariant.1
+      all_more (good_binding a.n a.t a.bindings) loop.i loop.invariant.1
           (sym is-good.ensures ∙ c.if-not-is_good.false),
     )
 
@@ -39,4 +39,4 @@ pub returns : goal.returns
 returns c =
     let a = c.args in
     let e : c.loop-i.i ≡ a.bindings.count = omega arith in
-    formed-rest a.n a.t a.bindings c.if-count-gt-BINDINGS.false true (rw e at c.loop-i.invariant.1)
+    formed_rest a.n a.t a.bindings c.if-count-gt-BINDINGS.false true (rw e at c.loop-i.invariant.1)

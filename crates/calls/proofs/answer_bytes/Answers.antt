@@ -1,9 +1,9 @@
 use mathlib.Core.Path.{◌≡◌, ap₂, ◌∙◌}
 use mathlib.Core.List.{◌++◌}
 use lib.ListN.{length}
-use Rattle.values.specs.Value.{unitMax}
-use Rattle.calls.specs.Answers.{errorBytes}
-use Rattle.calls.proofs.Answers.{answer-made}
+use Rattle.values.specs.Value.{unit_max}
+use Rattle.calls.specs.Answers.{error_bytes}
+use Rattle.calls.proofs.Answers.{answer_made}
 use borrow.Author.Rules.{rules}
 use Rattle.calls.proofs.answer_bytes.Goals as goal
 
@@ -13,8 +13,8 @@ returns c =
     let unit = c.maybe_bytes-unit in
     let put-bytes = c.put_bytes in
     let put-bytes2 = c.put_bytes-2 in
-    let n : length errors.result ≡ errorBytes = search rules in
-    let m : length unit.result ≡ unitMax = search rules in
+    let n : length errors.result ≡ error_bytes = search rules in
+    let m : length unit.result ≡ unit_max = search rules in
     put-bytes2.ensures
-    ∙ rw (put-bytes.ensures, c.no_answer_bytes-bytes.ensures) (answer-made errors.result unit.result n m)
+    ∙ rw (put-bytes.ensures, c.no_answer_bytes-bytes.ensures) (answer_made errors.result unit.result n m)
     ∙ ap₂ ◌++◌ errors.ensures unit.ensures

@@ -1,11 +1,11 @@
 use mathlib.Core.Path.{◌≡◌, sym, ap, ap₂, ◌∙◌}
 use mathlib.Core.Bool.{true, ◌&&◌}
 use borrow.Author.Tests.{not-true, not-false}
-use Rattle.sums.specs.Calls.{convertAnswer}
+use Rattle.sums.specs.Calls.{convert_answer}
 use Rattle.values.specs.Value.{readable}
-use Rattle.calls.specs.Codes.{answerCode}
+use Rattle.calls.specs.Codes.{answer_code}
 use Rattle.calls.specs.declared.Units.{Units}
-use Rattle.calls.proofs.Bytes.{convert-alike}
+use Rattle.calls.proofs.Bytes.{convert_alike}
 use Rattle.calls.proofs.riddlepoppy_is_convertible_to.Goals as goal
 
 pub unread_units-requires : goal.unread_units-requires
@@ -20,5 +20,5 @@ returns c =
     let l = a.left.now in
     let r = a.right.now in
     let h : (readable l && readable r) ≡ true = ap (λ (u : Units). u.readable) (sym c.units_in-units.ensures) ∙ not-false c.units_in-units.result.readable c.if-not-units.false in
-    let both = ap₂ (convertAnswer a.page.now a.names.now a.lent) (ap (λ (u : Units). u.left) c.units_in-units.ensures) (ap (λ (u : Units). u.right) c.units_in-units.ensures) in
-    c.answer_code.ensures ∙ ap answerCode (c.is_convertible_to.ensures ∙ both ∙ convert-alike a.page.now a.names.now a.lent l r h)
+    let both = ap₂ (convert_answer a.page.now a.names.now a.lent) (ap (λ (u : Units). u.left) c.units_in-units.ensures) (ap (λ (u : Units). u.right) c.units_in-units.ensures) in
+    c.answer_code.ensures ∙ ap answer_code (c.is_convertible_to.ensures ∙ both ∙ convert_alike a.page.now a.names.now a.lent l r h)

@@ -1,6 +1,6 @@
 use mathlib.Core.Path.{ap, ap₂, ◌∙◌}
-use Rattle.checked.specs.Calls.{matchesAnswer}
-use Rattle.calls.specs.Codes.{answerCode}
+use Rattle.checked.specs.Calls.{matches_answer}
+use Rattle.calls.specs.Codes.{answer_code}
 use Rattle.calls.proofs.riddlepoppy_matches.Goals as goal
 
 pub returns : goal.returns
@@ -9,5 +9,5 @@ returns c =
     let checked-of2 = c.checked_of-e in
     let matches = c.matches in
     let a = c.args in
-    let e = ap₂ (matchesAnswer a.page.now a.names.now a.lent) checked-of.ensures checked-of2.ensures in
-    c.answer_code.ensures ∙ ap answerCode (matches.ensures ∙ e)
+    let e = ap₂ (matches_answer a.page.now a.names.now a.lent) checked-of.ensures checked-of2.ensures in
+    c.answer_code.ensures ∙ ap answer_code (matches.ensures ∙ e)

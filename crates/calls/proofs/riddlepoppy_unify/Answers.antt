@@ -1,8 +1,8 @@
 use mathlib.Core.Path.{◌≡◌, ap, ◌∙◌}
 use Rattle.unification.specs.declared.Unified.{Unified}
-use Rattle.calls.specs.Codes.{answerCode}
-use Rattle.calls.specs.Types.{bindingsAfter, unifyIn}
-use Rattle.calls.proofs.Bindings.{unify-few}
+use Rattle.calls.specs.Codes.{answer_code}
+use Rattle.calls.specs.Types.{bindings_after, unify_in}
+use Rattle.calls.proofs.Bindings.{unify_few}
 use Rattle.calls.proofs.riddlepoppy_unify.Goals as goal
 
 pub written_back-requires : goal.written_back-requires
@@ -11,13 +11,13 @@ written_back-requires c =
     let unify = c.unify-result in
     let a = c.args in
     let b = bindings-in.ensures in
-    unify-few a.page.now a.names.now a.lent bindings-in.result b.1 b.2 b.3 a.expected unify.result a.actual unify.ensures
+    unify_few a.page.now a.names.now a.lent bindings-in.result b.1 b.2 b.3 a.expected unify.result a.actual unify.ensures
 
 pub returns : goal.returns
 returns c =
     let a = c.args in
-    let u : c.unify-result.result ≡ unifyIn a.page.now a.names.now a.lent a.bindings.now a.expected a.actual =
+    let u : c.unify-result.result ≡ unify_in a.page.now a.names.now a.lent a.bindings.now a.expected a.actual =
     rw c.bindings_in-bound.ensures.0 at c.unify-result.ensures in (
-      c.written_back.ensures.0 ∙ ap (λ (r : Unified). answerCode r.answer) u,
-      c.written_back.ensures.1 ∙ ap (λ (r : Unified). bindingsAfter r.answer r.bindings a.bindings.now) u,
+      c.written_back.ensures.0 ∙ ap (λ (r : Unified). answer_code r.answer) u,
+      c.written_back.ensures.1 ∙ ap (λ (r : Unified). bindings_after r.answer r.bindings a.bindings.now) u,
     )

@@ -1,8 +1,8 @@
 use mathlib.Core.Path.{◌≡◌, ap, ◌∙◌}
 use Rattle.unification.specs.declared.Unified.{Unified}
-use Rattle.calls.specs.Codes.{answerCode}
-use Rattle.calls.specs.Types.{bindingsAfter, unifyArgIn}
-use Rattle.calls.proofs.Bindings.{unify-arg-few}
+use Rattle.calls.specs.Codes.{answer_code}
+use Rattle.calls.specs.Types.{bindings_after, unify_arg_in}
+use Rattle.calls.proofs.Bindings.{unify_arg_few}
 use Rattle.calls.proofs.riddlepoppy_unify_arg.Goals as goal
 
 pub written_back-requires : goal.written_back-requires
@@ -13,7 +13,7 @@ written_back-requires c =
     let a = c.args in
     let b = bindings-in.ensures in
     let u = unify-arg.result in
-    unify-arg-few a.page.now a.names.now a.lent bindings-in.result b.1 b.2 b.3 a.expected u checked-of.result unify-arg.ensures
+    unify_arg_few a.page.now a.names.now a.lent bindings-in.result b.1 b.2 b.3 a.expected u checked-of.result unify-arg.ensures
 
 pub returns : goal.returns
 returns c =
@@ -21,8 +21,8 @@ returns c =
     let checked-of = c.checked_of-c in
     let unify-arg = c.unify_arg-result in
     let a = c.args in
-    let u : unify-arg.result ≡ unifyArgIn a.page.now a.names.now a.lent a.bindings.now a.expected a.actual =
+    let u : unify-arg.result ≡ unify_arg_in a.page.now a.names.now a.lent a.bindings.now a.expected a.actual =
     rw (bindings-in.ensures.0, checked-of.ensures) at unify-arg.ensures in (
-      c.written_back.ensures.0 ∙ ap (λ (r : Unified). answerCode r.answer) u,
-      c.written_back.ensures.1 ∙ ap (λ (r : Unified). bindingsAfter r.answer r.bindings a.bindings.now) u,
+      c.written_back.ensures.0 ∙ ap (λ (r : Unified). answer_code r.answer) u,
+      c.written_back.ensures.1 ∙ ap (λ (r : Unified). bindings_after r.answer r.bindings a.bindings.now) u,
     )

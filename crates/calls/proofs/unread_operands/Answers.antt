@@ -1,19 +1,19 @@
 use mathlib.Core.Path.{ap}
 use mathlib.Core.Path.{sym, ◌∙◌}
 use mathlib.Core.Bool.{not}
-use Rattle.types.proofs.Calls.{unbroken-both}
-use Rattle.calls.proofs.Bytes.{operands-broken, left-operand, right-operand, operands-bad}
+use Rattle.types.proofs.Calls.{unbroken_both}
+use Rattle.calls.proofs.Bytes.{operands_broken, left_operand, right_operand, operands_bad}
 use Rattle.calls.proofs.unread_operands.Goals as goal
 
 pub returns-then-not-opened : goal.returns-then-not-opened
 returns-then-not-opened c =
     let a = c.args in
-    operands-broken a.page.now a.names.now a.lent a.left a.unit.now a.right a.other.now c.requires (c.opened.ensures.0 ∙ ap not c.if-not-opened.true)
+    operands_broken a.page.now a.names.now a.lent a.left a.unit.now a.right a.other.now c.requires (c.opened.ensures.0 ∙ ap not c.if-not-opened.true)
 
 pub in_use-n-requires : goal.in_use-n-requires
 in_use-n-requires c =
     let a = c.args in
-    (unbroken-both a.page.now a.names.now a.lent (c.opened.ensures.0 ∙ ap not c.if-not-opened.false)).0
+    (unbroken_both a.page.now a.names.now a.lent (c.opened.ensures.0 ∙ ap not c.if-not-opened.false)).0
 
 pub is_operand_used-requires : goal.is_operand_used-requires
 is_operand_used-requires c = (c.opened.ensures.1 c.if-not-opened.false).held
@@ -22,7 +22,7 @@ pub returns-then-not-is_operand_used : goal.returns-then-not-is_operand_used
 returns-then-not-is_operand_used c =
     let a = c.args in
     let t = c.opened.ensures.0 ∙ ap not c.if-not-opened.false in
-    left-operand a.page.now a.names.now a.lent a.left a.unit.now a.right a.other.now c.requires t c.in_use-n.result c.in_use-n.ensures.0
+    left_operand a.page.now a.names.now a.lent a.left a.unit.now a.right a.other.now c.requires t c.in_use-n.result c.in_use-n.ensures.0
     (sym c.is_operand_used.ensures ∙ c.if-not-is_operand_used.true)
 
 pub is_operand_used-requires-2 : goal.is_operand_used-requires-2
@@ -32,12 +32,12 @@ pub returns-then-not-is_operand_used-2 : goal.returns-then-not-is_operand_used-2
 returns-then-not-is_operand_used-2 c =
     let a = c.args in
     let t = c.opened.ensures.0 ∙ ap not c.if-not-opened.false in
-    right-operand a.page.now a.names.now a.lent a.left a.unit.now a.right a.other.now c.requires t c.in_use-n.result c.in_use-n.ensures.0
+    right_operand a.page.now a.names.now a.lent a.left a.unit.now a.right a.other.now c.requires t c.in_use-n.result c.in_use-n.ensures.0
     (sym c.is_operand_used-2.ensures ∙ c.if-not-is_operand_used-2.true)
 
 pub returns : goal.returns
 returns c =
     let a = c.args in
     let t = c.opened.ensures.0 ∙ ap not c.if-not-opened.false in
-    operands-bad a.page.now a.names.now a.lent a.left a.unit.now a.right a.other.now c.requires t c.in_use-n.result c.in_use-n.ensures.0
+    operands_bad a.page.now a.names.now a.lent a.left a.unit.now a.right a.other.now c.requires t c.in_use-n.result c.in_use-n.ensures.0
     (sym c.is_operand_used.ensures ∙ c.if-not-is_operand_used.false) (sym c.is_operand_used-2.ensures ∙ c.if-not-is_operand_used-2.false)

@@ -1,14 +1,14 @@
 use mathlib.Core.Path.{sym, ◌∙◌}
-use Rattle.calls.proofs.Bytes.{unary-undefined, unary-rest}
+use Rattle.calls.proofs.Bytes.{unary_undefined, unary_rest}
 use Rattle.calls.proofs.unread_unary.Goals as goal
 
 pub returns-then-not-is_operator : goal.returns-then-not-is_operator
 returns-then-not-is_operator c =
     let a = c.args in
-    unary-undefined a.page.now a.names.now a.lent a.op a.operand a.unit.now (sym c.is_operator.ensures ∙ c.if-not-is_operator.true)
+    unary_undefined a.page.now a.names.now a.lent a.op a.operand a.unit.now (sym c.is_operator.ensures ∙ c.if-not-is_operator.true)
 
 pub returns : goal.returns
 returns c =
     let a = c.args in
     c.unread_operands.ensures
-    ∙ unary-rest a.page.now a.names.now a.lent a.op a.operand a.unit.now (sym c.is_operator.ensures ∙ c.if-not-is_operator.false)
+    ∙ unary_rest a.page.now a.names.now a.lent a.op a.operand a.unit.now (sym c.is_operator.ensures ∙ c.if-not-is_operator.false)

@@ -1,14 +1,14 @@
 use mathlib.Core.Path.{◌∙◌, ap}
 use mathlib.Core.Bool.{not}
 use Rattle.types.proofs.Types.{whole}
-use Rattle.checked.proofs.Calls.{generic-broken, generic-unused, generic-says}
+use Rattle.checked.proofs.Calls.{generic_broken, generic_unused, generic_says}
 use Rattle.checked.proofs.has_generic.Goals as goal
 
 pub returns-then-not-opened : goal.returns-then-not-opened
 returns-then-not-opened c =
     let opened = c.opened in
     let a = c.args in
-    generic-broken a.page.now a.names.now a.lent a.t
+    generic_broken a.page.now a.names.now a.lent a.t
     (opened.ensures.0 ∙ ap not c.if-not-opened.true)
 
 pub count-requires : goal.count-requires
@@ -24,7 +24,7 @@ returns-then-count-t c =
     let count = c.count in
     let a = c.args in
     let b = opened.ensures.0 ∙ ap not if1.false in
-    generic-unused a.page.now a.names.now a.lent a.t b (rw count.ensures at c.if-count-t.true)
+    generic_unused a.page.now a.names.now a.lent a.t b (rw count.ensures at c.if-count-t.true)
 
 pub has_generic-requires : goal.has_generic-requires
 has_generic-requires c =
@@ -43,5 +43,5 @@ returns c =
     let has-generic = c.has_generic in
     let a = c.args in
     let b = opened.ensures.0 ∙ ap not if1.false in
-    c.say.ensures ∙ generic-says a.page.now a.names.now a.lent a.t b (rw count.ensures at if2.false)
+    c.say.ensures ∙ generic_says a.page.now a.names.now a.lent a.t b (rw count.ensures at if2.false)
     has-generic.result has-generic.ensures

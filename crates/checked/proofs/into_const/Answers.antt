@@ -1,6 +1,6 @@
 use mathlib.Core.Path.{sym, ◌∙◌, ap}
 use mathlib.Core.Bool.{not}
-use Rattle.checked.proofs.Calls.{const-broken, const-unused, const-unknown, const-function, const-known, known-used}
+use Rattle.checked.proofs.Calls.{const_broken, const_unused, const_unknown, const_function, const_known, known_used}
 use Rattle.checked.proofs.into_const.Goals as goal
 
 pub returns-then-not-opened : goal.returns-then-not-opened
@@ -9,7 +9,7 @@ returns-then-not-opened c =
     let if1 = c.if-not-opened in
     let a = c.args in
     let z =
-    const-broken a.page.now a.names.now a.lent a.c
+    const_broken a.page.now a.names.now a.lent a.c
     (opened.ensures.0 ∙ ap not if1.true) in
     (c.of_made.ensures ∙ z.0, z.1)
 
@@ -28,7 +28,7 @@ returns-then-not-is_used c =
     let a = c.args in
     let b = opened.ensures.0 ∙ ap not if1.false in
     let z =
-    const-unused a.page.now a.names.now a.lent a.c b
+    const_unused a.page.now a.names.now a.lent a.c b
     (sym is-used.ensures ∙ if2.true) in
     (c.of_made-then-not-is_used.ensures ∙ z.0, z.1)
 
@@ -40,7 +40,7 @@ const_form-requires c =
     let if1 = c.if-not-opened in
     let u = sym is-used.ensures ∙ if2.false in record {
       measured = opened.ensures.1 if1.false;
-      t_bound = known-used c.args.page.now c.args.c _
+      t_bound = known_used c.args.page.now c.args.c _
           c.in-Known.is u;
     }
 
@@ -53,7 +53,7 @@ returns-in-Unknown c =
     let a = c.args in
     let b = opened.ensures.0 ∙ ap not if1.false in
     let u = sym is-used.ensures ∙ if2.false in
-    let z = const-unknown a.page.now a.names.now a.lent a.c b u c.in-Unknown.is in
+    let z = const_unknown a.page.now a.names.now a.lent a.c b u c.in-Unknown.is in
     (c.pass.ensures ∙ z.0, z.1)
 
 pub returns-in-Function : goal.returns-in-Function
@@ -65,7 +65,7 @@ returns-in-Function c =
     let a = c.args in
     let b = opened.ensures.0 ∙ ap not if1.false in
     let u = sym is-used.ensures ∙ if2.false in
-    let z = const-function a.page.now a.names.now a.lent a.c b u _ c.in-Function.is in
+    let z = const_function a.page.now a.names.now a.lent a.c b u _ c.in-Function.is in
     (c.pass-in-Function.ensures ∙ z.0, z.1)
 
 pub returns-in-Known : goal.returns-in-Known
@@ -79,6 +79,6 @@ returns-in-Known c =
     let b = opened.ensures.0 ∙ ap not if1.false in
     let u = sym is-used.ensures ∙ if2.false in
     let z =
-    const-known a.page.now a.names.now a.lent a.c b u _ c.in-Known.is const-form.result _
+    const_known a.page.now a.names.now a.lent a.c b u _ c.in-Known.is const-form.result _
     const-form.ensures.0 const-form.ensures.1 in
     (c.of_made-in-Known.ensures ∙ z.0, z.1)

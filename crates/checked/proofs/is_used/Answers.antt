@@ -1,5 +1,5 @@
 use Rattle.types.proofs.Types.{whole}
-use Rattle.checked.proofs.Calls.{used-unknown, used-known, used-function, unused-function}
+use Rattle.checked.proofs.Calls.{used_unknown, used_known, used_function, unused_function}
 use Rattle.checked.proofs.is_used.Goals as goal
 
 pub count-requires : goal.count-requires
@@ -14,20 +14,20 @@ count-requires-in-Function c =
 
 pub returns-in-Unknown : goal.returns-in-Unknown
 returns-in-Unknown c =
-    used-unknown c.args.page.now c.args.c c.in-Unknown.is
+    used_unknown c.args.page.now c.args.c c.in-Unknown.is
 
 pub returns-in-Known : goal.returns-in-Known
 returns-in-Known c =
-    used-known c.args.page.now c.args.c _ c.count.result c.in-Known.is c.count.ensures
+    used_known c.args.page.now c.args.c _ c.count.result c.in-Known.is c.count.ensures
 
 pub returns-then-t-count : goal.returns-then-t-count
 returns-then-t-count c =
     let count2 = c.count-in-Function in
     let if1 = c.if-t-count in
-    used-function c.args.page.now c.args.c _ count2.result c.in-Function.is count2.ensures if1.true
+    used_function c.args.page.now c.args.c _ count2.result c.in-Function.is count2.ensures if1.true
     c.kind_of.result c.kind_of.ensures
 
 pub returns-else-t-count : goal.returns-else-t-count
 returns-else-t-count c =
     let count2 = c.count-in-Function in
-    unused-function c.args.page.now c.args.c _ count2.result c.in-Function.is count2.ensures c.if-t-count.false
+    unused_function c.args.page.now c.args.c _ count2.result c.in-Function.is count2.ensures c.if-t-count.false

@@ -1,16 +1,16 @@
 use mathlib.Core.Path.{sym, ◌∙◌, ap}
 use mathlib.Core.Bool.{not}
 use Prim.Native.Nat.{◌*◌}
-use Rattle.marks.specs.Marks.{tinyBytes}
-use Rattle.marks.proofs.Marks.{noted-none}
-use Rattle.checked.proofs.Calls.{matches-broken, matches-left, matches-right, matches-says}
+use Rattle.marks.specs.Marks.{tiny_bytes}
+use Rattle.marks.proofs.Marks.{noted_none}
+use Rattle.checked.proofs.Calls.{matches_broken, matches_left, matches_right, matches_says}
 use Rattle.checked.proofs.matches.Goals as goal
 
 pub returns-then-not-opened : goal.returns-then-not-opened
 returns-then-not-opened c =
     let opened = c.opened in
     let a = c.args in
-    matches-broken a.page.now a.names.now a.lent a.actual a.expected
+    matches_broken a.page.now a.names.now a.lent a.actual a.expected
     (opened.ensures.0 ∙ ap not c.if-not-opened.true)
 
 pub is_used-requires : goal.is_used-requires
@@ -26,7 +26,7 @@ returns-then-not-is_used c =
     let is-used = c.is_used in
     let a = c.args in
     let b = opened.ensures.0 ∙ ap not if1.false in
-    matches-left a.page.now a.names.now a.lent a.actual a.expected b
+    matches_left a.page.now a.names.now a.lent a.actual a.expected b
     (sym is-used.ensures ∙ c.if-not-is_used.true)
 
 pub is_used-requires-2 : goal.is_used-requires-2
@@ -42,7 +42,7 @@ returns-then-not-is_used-2 c =
     let is-used2 = c.is_used-2 in
     let a = c.args in
     let b = opened.ensures.0 ∙ ap not if1.false in
-    matches-right a.page.now a.names.now a.lent a.actual a.expected b
+    matches_right a.page.now a.names.now a.lent a.actual a.expected b
     (sym is-used2.ensures ∙ c.if-not-is_used-2.true)
 
 pub matches_in-requires : goal.matches_in-requires
@@ -57,7 +57,7 @@ matches_in-requires c =
     let h = (opened.ensures.1 if1.false).held in
     let u = sym is-used.ensures ∙ if2.false in
     let v = sym is-used2.ensures ∙ if3.false in
-    record { held = h; actual_value = (u, v); noted = rw tiny-memo.ensures (noted-none _ (2 * tinyBytes)) }
+    record { held = h; actual_value = (u, v); noted = rw tiny-memo.ensures (noted_none _ (2 * tiny_bytes)) }
 
 pub returns : goal.returns
 returns c =
@@ -72,5 +72,5 @@ returns c =
     let b = opened.ensures.0 ∙ ap not if1.false in
     let u = sym is-used.ensures ∙ if2.false in
     let v = sym is-used2.ensures ∙ if3.false in
-    c.say.ensures ∙ matches-says a.page.now a.names.now a.lent a.actual a.expected b u v matches-in.result
+    c.say.ensures ∙ matches_says a.page.now a.names.now a.lent a.actual a.expected b u v matches-in.result
     matches-in.ensures

@@ -1,9 +1,9 @@
 use mathlib.Core.Path.{sym, ◌∙◌, ap}
-use Rattle.checked.specs.Calls.{ofMade}
+use Rattle.checked.specs.Calls.{of_made}
 use Rattle.checked.proofs.of_made.Goals as goal
 
 pub returns-in-At : goal.returns-in-At
-returns-in-At c = c.pass.ensures ∙ ap ofMade (sym c.in-At.is)
+returns-in-At c = c.pass.ensures ∙ ap of_made (sym c.in-At.is)
 
 pub returns-in-Refused : goal.returns-in-Refused
-returns-in-Refused c = ap ofMade (sym c.in-Refused.is)
+returns-in-Refused c = ap of_made (sym c.in-Refused.is)

@@ -1,19 +1,19 @@
 use mathlib.Core.Path.{◌≡◌, sym, ◌∙◌, ap}
 use mathlib.Core.Bool.{true, not}
 use Prim.Native.Nat.{◌<◌}
-use Rattle.names.specs.Calls.{usedOf}
-use Rattle.types.specs.Types.{typesIn}
+use Rattle.names.specs.Calls.{used_of}
+use Rattle.types.specs.Types.{types_in}
 use Rattle.bindings.specs.Bindings.{formed}
 use Rattle.types.proofs.Types.{whole}
-use Rattle.types.proofs.Calls.{unbroken-both}
-use Rattle.checked.proofs.Calls.{substitute-broken, substitute-unformed, substitute-unused, substitute-made, substitute-stopped, end-there, end-asks, works, taken-back, back-asks}
+use Rattle.types.proofs.Calls.{unbroken_both}
+use Rattle.checked.proofs.Calls.{substitute_broken, substitute_unformed, substitute_unused, substitute_made, substitute_stopped, end_there, end_asks, works, taken_back_lem, back_asks}
 use Rattle.checked.proofs.substitute.Goals as goal
 
 pub returns-then-not-opened : goal.returns-then-not-opened
 returns-then-not-opened c =
     let opened = c.opened in
     let a = c.args in
-    substitute-broken a.page.now a.names.now a.lent a.bound a.t
+    substitute_broken a.page.now a.names.now a.lent a.bound a.t
     (opened.ensures.0 ∙ ap not c.if-not-opened.true)
 
 pub count-n-requires : goal.count-n-requires
@@ -31,7 +31,7 @@ in_use-requires c =
     let page = a.page.now in
     let names = a.names.now in
     let b = opened.ensures.0 ∙ ap not if1.false in
-    (unbroken-both page names a.lent b).0
+    (unbroken_both page names a.lent b).0
 
 pub returns-then-not-is_formed : goal.returns-then-not-is_formed
 returns-then-not-is_formed c =
@@ -44,7 +44,7 @@ returns-then-not-is_formed c =
     let page = a.page.now in
     let names = a.names.now in
     let b = opened.ensures.0 ∙ ap not if1.false in
-    substitute-unformed page names a.lent a.bound a.t b
+    substitute_unformed page names a.lent a.bound a.t b
     (rw (← in_use.ensures.0, ← count.ensures) (sym is-formed.ensures ∙ c.if-not-is_formed.true))
 
 pub returns-then-n-t : goal.returns-then-n-t
@@ -59,9 +59,9 @@ returns-then-n-t c =
     let page = a.page.now in
     let names = a.names.now in
     let b = opened.ensures.0 ∙ ap not if1.false in
-    let k : formed (usedOf names a.lent) (typesIn page) a.bound ≡ true =
+    let k : formed (used_of names a.lent) (types_in page) a.bound ≡ true =
     rw (← in_use.ensures.0, ← count.ensures) (sym is-formed.ensures ∙ if2.false) in
-    substitute-unused page names a.lent a.bound a.t b k (rw count.ensures at c.if-n-t.true)
+    substitute_unused page names a.lent a.bound a.t b k (rw count.ensures at c.if-n-t.true)
 
 pub front-front-requires : goal.front-front-requires
 front-front-requires c =
@@ -76,7 +76,7 @@ offset_of-end-requires c =
     let if1 = c.if-not-opened in
     let count = c.count-n in
     let m = opened.ensures.1 if1.false in
-    end-asks c.args.page.now _ _ m count.result count.ensures
+    end_asks c.args.page.now _ _ m count.result count.ensures
 
 pub substitute-made-requires : goal.substitute-made-requires
 substitute-made-requires c =
@@ -92,11 +92,11 @@ substitute-made-requires c =
     let page = a.page.now in
     let names = a.names.now in
     let b = opened.ensures.0 ∙ ap not if1.false in
-    let k : formed (usedOf names a.lent) (typesIn page) a.bound ≡ true =
+    let k : formed (used_of names a.lent) (types_in page) a.bound ≡ true =
     rw (← in_use.ensures.0, ← count.ensures) (sym is-formed.ensures ∙ if2.false) in
-    let l : a.t < typesIn page = rw count.ensures at if3.false in
+    let l : a.t < types_in page = rw count.ensures at if3.false in
     let m = opened.ensures.1 if1.false in
-    rw none_done.ensures (works page _ _ m a.bound (usedOf names a.lent) a.t k l)
+    rw none_done.ensures (works page _ _ m a.bound (used_of names a.lent) a.t k l)
 
 pub take_back-requires : goal.take_back-requires
 take_back-requires c =
@@ -113,12 +113,12 @@ take_back-requires c =
     let page = a.page.now in
     let names = a.names.now in
     let b = opened.ensures.0 ∙ ap not if1.false in
-    let k : formed (usedOf names a.lent) (typesIn page) a.bound ≡ true =
+    let k : formed (used_of names a.lent) (types_in page) a.bound ≡ true =
     rw (← in_use.ensures.0, ← count.ensures) (sym is-formed.ensures ∙ if2.false) in
-    let l : a.t < typesIn page = rw count.ensures at if3.false in
+    let l : a.t < types_in page = rw count.ensures at if3.false in
     let m = opened.ensures.1 if1.false in
-    back-asks page _ _ m a.bound (usedOf names a.lent) a.t k l _ substitute.ensures.value.1 offset-of.result
-    (end-there page _ _ m count.result offset-of.result count.ensures offset-of.ensures)
+    back_asks page _ _ m a.bound (used_of names a.lent) a.t k l _ substitute.ensures.value.1 offset-of.result
+    (end_there page _ _ m count.result offset-of.result count.ensures offset-of.ensures)
 
 pub returns-in-Refused : goal.returns-in-Refused
 returns-in-Refused c =
@@ -137,15 +137,15 @@ returns-in-Refused c =
     let page = a.page.now in
     let names = a.names.now in
     let b = opened.ensures.0 ∙ ap not if1.false in
-    let k : formed (usedOf names a.lent) (typesIn page) a.bound ≡ true =
+    let k : formed (used_of names a.lent) (types_in page) a.bound ≡ true =
     rw (← in_use.ensures.0, ← count.ensures) (sym is-formed.ensures ∙ if2.false) in
-    let l : a.t < typesIn page = rw count.ensures at if3.false in
+    let l : a.t < types_in page = rw count.ensures at if3.false in
     let m = opened.ensures.1 if1.false in
-    let e = end-there page _ _ m count.result offset-of.result count.ensures offset-of.ensures in
+    let e = end_there page _ _ m count.result offset-of.result count.ensures offset-of.ensures in
     let back =
-    taken-back page _ _ m a.bound (usedOf names a.lent) a.t k l _ substitute.ensures.value.1 offset-of.result e in
+    taken_back_lem page _ _ m a.bound (used_of names a.lent) a.t k l _ substitute.ensures.value.1 offset-of.result e in
     let z =
-    substitute-stopped page names a.lent a.bound a.t b k l substitute.result _ c.in-Refused.is
+    substitute_stopped page names a.lent a.bound a.t b k l substitute.result _ c.in-Refused.is
     substitute.ensures.value.0 in
     (z.0, take_back.ensures ∙ rw front.ensures back ∙ z.1)
 
@@ -163,8 +163,8 @@ returns-in_default c =
     let page = a.page.now in
     let names = a.names.now in
     let b = opened.ensures.0 ∙ ap not if1.false in
-    let k : formed (usedOf names a.lent) (typesIn page) a.bound ≡ true =
+    let k : formed (used_of names a.lent) (types_in page) a.bound ≡ true =
     rw (← in_use.ensures.0, ← count.ensures) (sym is-formed.ensures ∙ if2.false) in
-    let l : a.t < typesIn page = rw count.ensures at if3.false in
-    substitute-made page names a.lent a.bound a.t b k l substitute.result _ _ c.in_default.is
+    let l : a.t < types_in page = rw count.ensures at if3.false in
+    substitute_made page names a.lent a.bound a.t b k l substitute.result _ _ c.in_default.is
     substitute.ensures.value.0 substitute.ensures.value.1

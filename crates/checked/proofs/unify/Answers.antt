@@ -1,8 +1,8 @@
 use mathlib.Core.Path.{◌∙◌}
-use Rattle.checked.proofs.Calls.{unify-known}
+use Rattle.checked.proofs.Calls.{unify_known}
 use Rattle.checked.proofs.unify.Goals as goal
 
 pub returns : goal.returns
 returns c =
     let a = c.args in
-    c.unify_arg.ensures ∙ unify-known a.page.now a.names.now a.lent a.bound a.e a.a
+    c.unify_arg.ensures ∙ unify_known a.page.now a.names.now a.lent a.bound a.e a.a

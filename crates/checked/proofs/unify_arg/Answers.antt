@@ -1,15 +1,15 @@
 use mathlib.Core.Path.{◌≡◌, sym, ◌∙◌, ap}
 use mathlib.Core.Bool.{true, not}
-use Rattle.names.specs.Calls.{usedOf}
-use Rattle.types.specs.Types.{typesIn}
+use Rattle.names.specs.Calls.{used_of}
+use Rattle.types.specs.Types.{types_in}
 use Rattle.bindings.specs.Bindings.{formed}
 use Rattle.types.proofs.Types.{whole}
-use Rattle.types.proofs.Calls.{unbroken-both}
+use Rattle.types.proofs.Calls.{unbroken_both}
 use Prim.Native.Nat.{◌*◌}
-use Rattle.marks.specs.Marks.{tinyBytes}
-use Rattle.marks.proofs.Marks.{noted-none}
+use Rattle.marks.specs.Marks.{tiny_bytes}
+use Rattle.marks.proofs.Marks.{noted_none}
 use Rattle.bindings.proofs.Bound.{usable}
-use Rattle.checked.proofs.Calls.{unify-broken, unify-unformed, unify-unused, unify-unused-actual, unify-says}
+use Rattle.checked.proofs.Calls.{unify_broken, unify_unformed, unify_unused, unify_unused_actual, unify_says}
 use Rattle.checked.proofs.unify_arg.Goals as goal
 
 pub returns-then-not-opened : goal.returns-then-not-opened
@@ -17,7 +17,7 @@ returns-then-not-opened c =
     let opened = c.opened in
     let if1 = c.if-not-opened in
     let a = c.args in
-    c.refuse.ensures ∙ unify-broken a.page.now a.names.now a.lent a.bound a.e a.actual
+    c.refuse.ensures ∙ unify_broken a.page.now a.names.now a.lent a.bound a.e a.actual
     (opened.ensures.0 ∙ ap not if1.true)
 
 pub count-n-requires : goal.count-n-requires
@@ -34,7 +34,7 @@ in_use-requires c =
     let page = a.page.now in
     let names = a.names.now in
     let b = opened.ensures.0 ∙ ap not if1.false in
-    (unbroken-both page names a.lent b).0
+    (unbroken_both page names a.lent b).0
 
 pub returns-then-not-is_formed : goal.returns-then-not-is_formed
 returns-then-not-is_formed c =
@@ -48,7 +48,7 @@ returns-then-not-is_formed c =
     let page = a.page.now in
     let names = a.names.now in
     let b = opened.ensures.0 ∙ ap not if1.false in
-    c.refuse-then-not-is_formed.ensures ∙ unify-unformed page names a.lent a.bound a.e a.actual b
+    c.refuse-then-not-is_formed.ensures ∙ unify_unformed page names a.lent a.bound a.e a.actual b
     (rw (← in_use.ensures.0, ← count.ensures) (sym is-formed.ensures ∙ if2.true))
 
 pub returns-then-n-e : goal.returns-then-n-e
@@ -64,9 +64,9 @@ returns-then-n-e c =
     let page = a.page.now in
     let names = a.names.now in
     let b = opened.ensures.0 ∙ ap not if1.false in
-    let k : formed (usedOf names a.lent) (typesIn page) a.bound ≡ true =
+    let k : formed (used_of names a.lent) (types_in page) a.bound ≡ true =
     rw (← in_use.ensures.0, ← count.ensures) (sym is-formed.ensures ∙ if2.false) in
-    c.refuse-then-n-e.ensures ∙ unify-unused page names a.lent a.bound a.e a.actual b k (rw count.ensures at if3.true)
+    c.refuse-then-n-e.ensures ∙ unify_unused page names a.lent a.bound a.e a.actual b k (rw count.ensures at if3.true)
 
 pub is_used-requires : goal.is_used-requires
 is_used-requires c =
@@ -88,9 +88,9 @@ returns-then-not-is_used c =
     let page = a.page.now in
     let names = a.names.now in
     let b = opened.ensures.0 ∙ ap not if1.false in
-    let k : formed (usedOf names a.lent) (typesIn page) a.bound ≡ true =
+    let k : formed (used_of names a.lent) (types_in page) a.bound ≡ true =
     rw (← in_use.ensures.0, ← count.ensures) (sym is-formed.ensures ∙ if2.false) in
-    c.refuse-then-not-is_used.ensures ∙ unify-unused-actual page names a.lent a.bound a.e a.actual b k
+    c.refuse-then-not-is_used.ensures ∙ unify_unused_actual page names a.lent a.bound a.e a.actual b k
     (sym is-used.ensures ∙ if4.true)
 
 pub unify_in-out-requires : goal.unify_in-out-requires
@@ -110,11 +110,11 @@ unify_in-out-requires c =
     let page = a.page.now in
     let names = a.names.now in
     let b = opened.ensures.0 ∙ ap not if1.false in
-    let k : formed (usedOf names a.lent) (typesIn page) a.bound ≡ true =
+    let k : formed (used_of names a.lent) (types_in page) a.bound ≡ true =
     rw (← in_use.ensures.0, ← count.ensures) (sym is-formed.ensures ∙ if2.false) in
     let h = (opened.ensures.1 if1.false).held in
     let l = rw count.ensures at if3.false in
-    let u = sym is-used.ensures ∙ if4.false in record { held = h; e_bound = (l, u); usable = usable (usedOf names a.lent) (typesIn page) a.bound k; noted = rw tiny-memo.ensures (noted-none _ (2 * tinyBytes)); noted_2 = rw tiny-seen.ensures (noted-none _ tinyBytes) }
+    let u = sym is-used.ensures ∙ if4.false in record { held = h; e_bound = (l, u); usable = usable (used_of names a.lent) (types_in page) a.bound k; noted = rw tiny-memo.ensures (noted_none _ (2 * tiny_bytes)); noted_2 = rw tiny-seen.ensures (noted_none _ tiny_bytes) }
 
 pub returns : goal.returns
 returns c =
@@ -132,9 +132,9 @@ returns c =
     let page = a.page.now in
     let names = a.names.now in
     let b = opened.ensures.0 ∙ ap not if1.false in
-    let k : formed (usedOf names a.lent) (typesIn page) a.bound ≡ true =
+    let k : formed (used_of names a.lent) (types_in page) a.bound ≡ true =
     rw (← in_use.ensures.0, ← count.ensures) (sym is-formed.ensures ∙ if2.false) in
     let l = rw count.ensures at if3.false in
     let u = sym is-used.ensures ∙ if4.false in
-    c.kept_by.ensures ∙ unify-says page names a.lent a.bound a.e a.actual b k l u unify-in.result
+    c.kept_by.ensures ∙ unify_says page names a.lent a.bound a.e a.actual b k l u unify-in.result
     unify-in.ensures

@@ -2,28 +2,28 @@ use mathlib.Core.Path.{ap}
 use mathlib.Core.List.{[], ◌∷◌}
 use native.Mathlib.Omega.{arith}
 use lib.ListN.{length}
-use Rattle.digits.specs.Decimal.{decimalOf}
-use Rattle.digits.proofs.Digits.{decimal-1, decimal-2, decimal-3, decimal-4, decimal-5}
+use Rattle.digits.specs.Decimal.{decimal_of}
+use Rattle.digits.proofs.Digits.{decimal_1, decimal_2, decimal_3, decimal_4, decimal_5}
 use Rattle.digits.proofs.Wrote.{spelled}
 use Rattle.digits.proofs.decimal.Goals as goal
 
 pub push-requires : goal.push-requires
 push-requires c =
     let if1 = c.if-n-lt10 in
-    omega (arith, ap length (decimal-1 c.args.n if1.true), c.requires.1)
+    omega (arith, ap length (decimal_1 c.args.n if1.true), c.requires.1)
 
 pub returns-then-n-lt10 : goal.returns-then-n-lt10
 returns-then-n-lt10 c =
     let if1 = c.if-n-lt10 in
     let digit = c.digit in
     let push = c.push in
-    spelled _ _ (digit.result ∷ []) (decimalOf c.args.n) _ _ (rw digit.ensures (decimal-1 c.args.n if1.true)) push.ensures
+    spelled _ _ (digit.result ∷ []) (decimal_of c.args.n) _ _ (rw digit.ensures (decimal_1 c.args.n if1.true)) push.ensures
 
 pub push-requires-then-n-lt100 : goal.push-requires-then-n-lt100
 push-requires-then-n-lt100 c =
     let if1 = c.if-n-lt10 in
     let if2 = c.if-n-lt100 in
-    omega (arith, ap length (decimal-2 c.args.n if1.false if2.true), c.requires.1)
+    omega (arith, ap length (decimal_2 c.args.n if1.false if2.true), c.requires.1)
 
 pub returns-then-n-lt100 : goal.returns-then-n-lt100
 returns-then-n-lt100 c =
@@ -32,14 +32,14 @@ returns-then-n-lt100 c =
     let digit2 = c.digit-then-n-lt100 in
     let digit3 = c.digit-then-n-lt100-2 in
     let push2 = c.push-then-n-lt100 in
-    spelled _ _ (digit2.result ∷ digit3.result ∷ []) (decimalOf c.args.n) _ _
-    (rw (digit2.ensures, digit3.ensures) (decimal-2 c.args.n if1.false if2.true)) push2.ensures
+    spelled _ _ (digit2.result ∷ digit3.result ∷ []) (decimal_of c.args.n) _ _
+    (rw (digit2.ensures, digit3.ensures) (decimal_2 c.args.n if1.false if2.true)) push2.ensures
 
 pub push-requires-then-n-lt1000 : goal.push-requires-then-n-lt1000
 push-requires-then-n-lt1000 c =
     let if2 = c.if-n-lt100 in
     let if3 = c.if-n-lt1000 in
-    omega (arith, ap length (decimal-3 c.args.n if2.false if3.true), c.requires.1)
+    omega (arith, ap length (decimal_3 c.args.n if2.false if3.true), c.requires.1)
 
 pub returns-then-n-lt1000 : goal.returns-then-n-lt1000
 returns-then-n-lt1000 c =
@@ -49,14 +49,14 @@ returns-then-n-lt1000 c =
     let digit5 = c.digit-then-n-lt1000-2 in
     let digit6 = c.digit-then-n-lt1000-3 in
     let push3 = c.push-then-n-lt1000 in
-    spelled _ _ (digit4.result ∷ digit5.result ∷ digit6.result ∷ []) (decimalOf c.args.n) _ _
-    (rw (digit4.ensures, digit5.ensures, digit6.ensures) (decimal-3 c.args.n if2.false if3.true)) push3.ensures
+    spelled _ _ (digit4.result ∷ digit5.result ∷ digit6.result ∷ []) (decimal_of c.args.n) _ _
+    (rw (digit4.ensures, digit5.ensures, digit6.ensures) (decimal_3 c.args.n if2.false if3.true)) push3.ensures
 
 pub push-requires-then-n-lt10000 : goal.push-requires-then-n-lt10000
 push-requires-then-n-lt10000 c =
     let if3 = c.if-n-lt1000 in
     let if4 = c.if-n-lt10000 in
-    omega (arith, ap length (decimal-4 c.args.n if3.false if4.true), c.requires.1)
+    omega (arith, ap length (decimal_4 c.args.n if3.false if4.true), c.requires.1)
 
 pub returns-then-n-lt10000 : goal.returns-then-n-lt10000
 returns-then-n-lt10000 c =
@@ -67,13 +67,13 @@ returns-then-n-lt10000 c =
     let digit9 = c.digit-then-n-lt10000-3 in
     let digit10 = c.digit-then-n-lt10000-4 in
     let push4 = c.push-then-n-lt10000 in
-    spelled _ _ (digit7.result ∷ digit8.result ∷ digit9.result ∷ digit10.result ∷ []) (decimalOf c.args.n) _ _
-    (rw (digit7.ensures, digit8.ensures, digit9.ensures, digit10.ensures) (decimal-4 c.args.n if3.false if4.true)) push4.ensures
+    spelled _ _ (digit7.result ∷ digit8.result ∷ digit9.result ∷ digit10.result ∷ []) (decimal_of c.args.n) _ _
+    (rw (digit7.ensures, digit8.ensures, digit9.ensures, digit10.ensures) (decimal_4 c.args.n if3.false if4.true)) push4.ensures
 
 pub push-requires-2 : goal.push-requires-2
 push-requires-2 c =
     let if4 = c.if-n-lt10000 in
-    omega (arith, ap length (decimal-5 c.args.n if4.false c.requires.0), c.requires.1)
+    omega (arith, ap length (decimal_5 c.args.n if4.false c.requires.0), c.requires.1)
 
 pub returns : goal.returns
 returns c =
@@ -84,6 +84,6 @@ returns c =
     let digit14 = c.digit-5 in
     let digit15 = c.digit-6 in
     let push5 = c.push-2 in
-    spelled _ _ (digit11.result ∷ digit12.result ∷ digit13.result ∷ digit14.result ∷ digit15.result ∷ []) (decimalOf c.args.n) _ _
-    (rw (digit11.ensures, digit12.ensures, digit13.ensures, digit14.ensures, digit15.ensures) (decimal-5 c.args.n if4.false c.requires.0))
+    spelled _ _ (digit11.result ∷ digit12.result ∷ digit13.result ∷ digit14.result ∷ digit15.result ∷ []) (decimal_of c.args.n) _ _
+    (rw (digit11.ensures, digit12.ensures, digit13.ensures, digit14.ensures, digit15.ensures) (decimal_5 c.args.n if4.false c.requires.0))
     push5.ensures

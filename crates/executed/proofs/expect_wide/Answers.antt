@@ -1,7 +1,7 @@
 -- Each row is what the definitions compute. Assumes nothing.
 use mathlib.Core.Path.{refl}
 use Rattle.pages.specs.Pad.{pad}
-use Rattle.names.specs.Calls.{isUsed}
+use Rattle.names.specs.Calls.{is_used}
 use Rattle.units.specs.Unit.{formed}
 use Rattle.executed.proofs.Wide.{wide}
 use Rattle.executed.proofs.expect_wide.Goals as goal
@@ -31,9 +31,9 @@ unfolding formed pad
 expect_unformed-requires-2 c = rw c.power-2.ensures
 
 pub expect_unused-requires : goal.expect_unused-requires
-unfolding isUsed
+unfolding is_used
 expect_unused-requires c = refl
 
 pub expect_unused-requires-2 : goal.expect_unused-requires-2
-unfolding isUsed
+unfolding is_used
 expect_unused-requires-2 c = refl

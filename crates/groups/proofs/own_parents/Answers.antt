@@ -5,9 +5,9 @@ use native.Mathlib.Nat.{zero-add}
 use lib.ListN.{get_or, set, length-set}
 use lib.Seq.{get_or-set_same, get_or-set_other, ext_get_or}
 use borrow.Author.Count.{below_none, below_more}
-use Rattle.names.specs.Table.{namesMax}
+use Rattle.names.specs.Table.{names_max}
 use Rattle.groups.specs.Groups.{selves}
-use Rattle.groups.proofs.UnionFind.{length-selves, getD-selves}
+use Rattle.groups.proofs.UnionFind.{length_selves, get_d_selves}
 use Rattle.groups.proofs.own_parents.Goals as goal
 
 pub loop-i-init : goal.loop-i-init
@@ -26,5 +26,5 @@ loop-i-preserved c =
 pub returns : goal.returns
 returns c =
     let l = c.loop-i in
-    ext_get_or 0 l.parents (selves 0 namesMax) (l.invariant.1 ∙ sym (length-selves 0 namesMax))
-    (λ i b. l.invariant.2 i (omega arith) ∙ sym (getD-selves 0 namesMax i (omega arith) ∙ zero-add i))
+    ext_get_or 0 l.parents (selves 0 names_max) (l.invariant.1 ∙ sym (length_selves 0 names_max))
+    (λ i b. l.invariant.2 i (omega arith) ∙ sym (get_d_selves 0 names_max i (omega arith) ∙ zero-add i))

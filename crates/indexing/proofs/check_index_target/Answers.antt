@@ -1,11 +1,11 @@
 use mathlib.Core.Path.{◌≡◌, sym, ◌∙◌}
 use mathlib.Core.Bool.{true, false}
 use native.Mathlib.Omega.{arith}
-use Rattle.matching.specs.Matching.{inUse}
+use Rattle.matching.specs.Matching.{in_use}
 use Rattle.matching.specs.declared.Checked.TheVariants.{Known}
-use Rattle.matching.proofs.Matching.{in-use-known}
-use Rattle.matching.proofs.Parts.{two-children}
-use Rattle.indexing.proofs.Targets.{target-element, target-value, target-unknown, target-none, element-there, target-is}
+use Rattle.matching.proofs.Matching.{in_use_known}
+use Rattle.matching.proofs.Parts.{two_children}
+use Rattle.indexing.proofs.Targets.{target_element, target_value, target_unknown, target_none, element_there, target_is}
 use borrow.Author.Rules.{rules}
 use Rattle.indexing.proofs.check_index_target.Goals as goal
 
@@ -15,7 +15,7 @@ child_of-requires c =
     let pre = c.requires in
     let kind = c.kind_of-kind.ensures in
     let e = rw kind at (sym c.has_elements.ensures ∙ c.if-has_elements.true) in
-    record { held = pre.held; t_bound = (pre.t_bound.0, element-there a.page.now pre.held.sound a.t pre.t_bound.0 e) }
+    record { held = pre.held; t_bound = (pre.t_bound.0, element_there a.page.now pre.held.sound a.t pre.t_bound.0 e) }
 
 pub returns-then-has_elements : goal.returns-then-has_elements
 returns-then-has_elements c =
@@ -23,8 +23,8 @@ returns-then-has_elements c =
     let pre = c.requires in
     let kind = c.kind_of-kind.ensures in
     let e = rw kind at (sym c.has_elements.ensures ∙ c.if-has_elements.true) in record {
-      value = target-is a.page.now pre.held.sound a.t pre.t_bound.0 a.key _
-          (c.known.ensures ∙ rw c.child_of.ensures.0 (target-element a.page.now a.key a.t e));
+      value = target_is a.page.now pre.held.sound a.t pre.t_bound.0 a.key _
+          (c.known.ensures ∙ rw c.child_of.ensures.0 (target_element a.page.now a.key a.t e));
       noted_2 = pre.noted;
     }
 
@@ -34,7 +34,7 @@ child_of-wanted-requires c =
     let pre = c.requires in
     let kind = c.kind_of-kind.ensures in
     let m = rw kind at (sym c.is_map.ensures ∙ c.if-is_map.true) in
-    record { held = pre.held; t_bound = (pre.t_bound.0, omega (arith, two-children a.page.now pre.held.sound a.t pre.t_bound.0 m)) }
+    record { held = pre.held; t_bound = (pre.t_bound.0, omega (arith, two_children a.page.now pre.held.sound a.t pre.t_bound.0 m)) }
 
 pub child_of-value-requires : goal.child_of-value-requires
 child_of-value-requires c =
@@ -42,15 +42,15 @@ child_of-value-requires c =
     let pre = c.requires in
     let kind = c.kind_of-kind.ensures in
     let m = rw kind at (sym c.is_map.ensures ∙ c.if-is_map.true) in
-    record { held = pre.held; t_bound = (pre.t_bound.0, omega (arith, two-children a.page.now pre.held.sound a.t pre.t_bound.0 m)) }
+    record { held = pre.held; t_bound = (pre.t_bound.0, omega (arith, two_children a.page.now pre.held.sound a.t pre.t_bound.0 m)) }
 
 pub matches-requires : goal.matches-requires
 matches-requires c =
     let a = c.args in
     let pre = c.requires in
     let wanted = c.child_of-wanted in
-    let w : inUse a.page.now (Known wanted.result) ≡ true =
-    in-use-known a.page.now wanted.result (omega (arith, wanted.ensures.1, pre.t_bound.0)) in
+    let w : in_use a.page.now (Known wanted.result) ≡ true =
+    in_use_known a.page.now wanted.result (omega (arith, wanted.ensures.1, pre.t_bound.0)) in
     record { held = pre.held; actual_value = search rules; noted = pre.noted }
 
 pub returns-then-matches : goal.returns-then-matches
@@ -62,8 +62,8 @@ returns-then-matches c =
     let e = rw kind at (sym c.has_elements.ensures ∙ c.if-has_elements.false) in
     let m = rw kind at (sym c.is_map.ensures ∙ c.if-is_map.true) in
     let h = rw c.child_of-wanted.ensures.0 at (sym matched.value ∙ c.if-matches.true) in
-    let v = target-value a.page.now a.key a.t e m true h in record {
-      value = target-is a.page.now pre.held.sound a.t pre.t_bound.0 a.key _
+    let v = target_value a.page.now a.key a.t e m true h in record {
+      value = target_is a.page.now pre.held.sound a.t pre.t_bound.0 a.key _
           (c.known-then-matches.ensures ∙ rw c.child_of-value.ensures.0 v);
       noted_2 = matched.noted_2;
     }
@@ -77,8 +77,8 @@ returns-then-is_map c =
     let e = rw kind at (sym c.has_elements.ensures ∙ c.if-has_elements.false) in
     let m = rw kind at (sym c.is_map.ensures ∙ c.if-is_map.true) in
     let h = rw c.child_of-wanted.ensures.0 at (sym matched.value ∙ c.if-matches.false) in
-    let v = target-value a.page.now a.key a.t e m false h in record {
-      value = target-is a.page.now pre.held.sound a.t pre.t_bound.0 a.key _
+    let v = target_value a.page.now a.key a.t e m false h in record {
+      value = target_is a.page.now pre.held.sound a.t pre.t_bound.0 a.key _
           (rw (c.one_error.ensures, c.child_of-value.ensures.0) v);
       noted_2 = matched.noted_2;
     }
@@ -91,8 +91,8 @@ returns-then-is_unknown c =
     let e = rw kind at (sym c.has_elements.ensures ∙ c.if-has_elements.false) in
     let m = rw kind at (sym c.is_map.ensures ∙ c.if-is_map.false) in
     let n = rw kind at (sym c.is_unknown.ensures ∙ c.if-is_unknown.true) in record {
-      value = target-is a.page.now pre.held.sound a.t pre.t_bound.0 a.key _
-          (c.unknown.ensures ∙ rw c.no_error.ensures (target-unknown a.page.now a.key a.t e m n));
+      value = target_is a.page.now pre.held.sound a.t pre.t_bound.0 a.key _
+          (c.unknown.ensures ∙ rw c.no_error.ensures (target_unknown a.page.now a.key a.t e m n));
       noted_2 = pre.noted;
     }
 
@@ -104,7 +104,7 @@ returns c =
     let e = rw kind at (sym c.has_elements.ensures ∙ c.if-has_elements.false) in
     let m = rw kind at (sym c.is_map.ensures ∙ c.if-is_map.false) in
     let n = rw kind at (sym c.is_unknown.ensures ∙ c.if-is_unknown.false) in record {
-      value = target-is a.page.now pre.held.sound a.t pre.t_bound.0 a.key _
-          (c.unknown-2.ensures ∙ rw c.one_error-2.ensures (target-none a.page.now a.key a.t e m n));
+      value = target_is a.page.now pre.held.sound a.t pre.t_bound.0 a.key _
+          (c.unknown-2.ensures ∙ rw c.one_error-2.ensures (target_none a.page.now a.key a.t e m n));
       noted_2 = pre.noted;
     }

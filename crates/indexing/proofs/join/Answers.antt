@@ -1,5 +1,5 @@
 use mathlib.Core.Path.{sym, ◌∙◌}
-use Rattle.indexing.proofs.Trying.{joins, fails-first, fails-again}
+use Rattle.indexing.proofs.Trying.{joins, fails_first, fails_again}
 use borrow.Author.Rules.{rules}
 use Rattle.indexing.proofs.join.Goals as goal
 
@@ -14,10 +14,10 @@ pub returns-then-trials-eq0 : goal.returns-then-trials-eq0
 returns-then-trials-eq0 c =
     let a = c.args in
     let h = sym c.does_pass.ensures ∙ c.if-does_pass.false in
-    record { result_after = fails-first a.results.now a.trials a.o a.x h c.if-trials-eq0.true; results_len_2 = search rules }
+    record { result_after = fails_first a.results.now a.trials a.o a.x h c.if-trials-eq0.true; results_len_2 = search rules }
 
 pub returns : goal.returns
 returns c =
     let a = c.args in
     let h = sym c.does_pass.ensures ∙ c.if-does_pass.false in
-    record { result_after = fails-again a.results.now a.trials a.o a.x h c.if-trials-eq0.false; results_len_2 = search rules }
+    record { result_after = fails_again a.results.now a.trials a.o a.x h c.if-trials-eq0.false; results_len_2 = search rules }

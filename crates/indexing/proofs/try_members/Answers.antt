@@ -1,9 +1,9 @@
 use mathlib.Core.Path.{◌≡◌, ◌∙◌, ap, refl}
 use native.Mathlib.Omega.{arith}
-use Rattle.types.proofs.Types.{types-few}
-use Rattle.members.specs.Members.{sizeOf}
-use Rattle.indexing.specs.Indexing.{membersTried}
-use Rattle.indexing.proofs.Trying.{none-tried, more-tried, read-member, read-used}
+use Rattle.types.proofs.Types.{types_few}
+use Rattle.members.specs.Members.{size_of}
+use Rattle.indexing.specs.Indexing.{members_tried}
+use Rattle.indexing.proofs.Trying.{none_tried, more_tried, read_member, read_used}
 use Rattle.indexing.proofs.try_members.Goals as goal
 
 pub loop-i-init : goal.loop-i-init
@@ -13,10 +13,10 @@ loop-i-init c =
       omega arith,
       record {
         noted = pre.noted;
-        so_far = none-tried a.page.now a.key a.t a.results.now;
+        so_far = none_tried a.page.now a.key a.t a.results.now;
         size = pre.t_bound.2;
         few = omega arith;
-        few-fail = omega arith;
+        few_fail = omega arith;
       },
       refl,
     )
@@ -30,7 +30,7 @@ check_index_target-o-requires c =
     let x = c.member_at-x in
     let h = c.loop-i-test.true in
     let used =
-    read-used a.page.now pre.held.sound a.t pre.t_bound.0 _ flat.result flat.ensures loop.i x.result h x.ensures in
+    read_used a.page.now pre.held.sound a.t pre.t_bound.0 _ flat.result flat.ensures loop.i x.result h x.ensures in
     record { held = pre.held; t_bound = (used, pre.t_bound.1); noted = loop.invariant.1.noted }
 
 pub join-trials-requires : goal.join-trials-requires
@@ -38,9 +38,9 @@ join-trials-requires c =
     let going = c.loop-i.invariant.1 in
     let n = c.flatten-n.ensures.1 in
     let h = c.loop-i-test.true in
-    let few = types-few c.args.page.now c.requires.held.sound in
+    let few = types_few c.args.page.now c.requires.held.sound in
     let target = c.check_index_target-o.ensures.value in
-    record { results_len = (going.size, omega (arith, going.few, n, h)); failing_lt_members_max = (omega (arith, going.few-fail, n, h), omega (arith, few, target.1)) }
+    record { results_len = (going.size, omega (arith, going.few, n, h)); failing_lt_members_max = (omega (arith, going.few_fail, n, h), omega (arith, few, target.1)) }
 
 pub loop-i-preserved : goal.loop-i-preserved
 loop-i-preserved c =
@@ -54,15 +54,15 @@ loop-i-preserved c =
     let join = c.join-trials.ensures in
     let h = c.loop-i-test.true in
     let is =
-    read-member a.page.now pre.held.sound a.t pre.t_bound.0 _ flat.result flat.ensures loop.i x.result h x.ensures in
-    let more = more-tried a.page.now a.key a.t loop.i x.result target.result _ is target.ensures.value.0 going.so_far in (
+    read_member a.page.now pre.held.sound a.t pre.t_bound.0 _ flat.result flat.ensures loop.i x.result h x.ensures in
+    let more = more_tried a.page.now a.key a.t loop.i x.result target.result _ is target.ensures.value.0 going.so_far in (
       omega (arith, h),
       record {
         noted = target.ensures.noted_2;
         so_far = join.result_after ∙ more;
         size = join.results_len_2.0;
         few = omega (arith, join.results_len_2.1, going.few);
-        few-fail = omega (arith, join.results_len_2.2, going.few-fail);
+        few_fail = omega (arith, join.results_len_2.2, going.few_fail);
       },
       target.auto.memo ∙ loop.invariant.2,
     )
@@ -76,4 +76,4 @@ returns c =
     let loop = c.loop-i in
     let going = loop.invariant.1 in
     let flat = c.flatten-n.ensures in
-    let all : loop.i ≡ sizeOf a.page.now a.t = omega (arith, loop.invariant.0, c.loop-i-test.false, flat.0) in record { result_after = going.so_far ∙ ap (membersTried a.page.now a.key a.t) all; results_len = (going.size, omega (arith, going.few, loop.invariant.0, flat.1), going.noted) }
+    let all : loop.i ≡ size_of a.page.now a.t = omega (arith, loop.invariant.0, c.loop-i-test.false, flat.0) in record { result_after = going.so_far ∙ ap (members_tried a.page.now a.key a.t) all; results_len = (going.size, omega (arith, going.few, loop.invariant.0, flat.1), going.noted) }

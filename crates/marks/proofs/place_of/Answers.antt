@@ -2,16 +2,16 @@ use mathlib.Core.Path.{refl}
 use Prim.Native.Nat.{◌*◌, ◌≤◌}
 use native.Mathlib.Nat.{mul-le-mul, le_of_lt}
 use native.Mathlib.Omega.{arith}
-use Rattle.types.specs.Store.{typesMax}
+use Rattle.types.specs.Store.{types_max}
 use Rattle.marks.specs.Marks.{place}
 use Rattle.marks.proofs.place_of.Reads as reads
 use Rattle.marks.proofs.place_of.Lts as lts
 use Rattle.marks.proofs.place_of.Goals as goal
 
 -- a row begins below so many
-begins : (c : lts.Start reads.Pre reads.Post) → c.args.row * (2 * c.args.n) ≤ typesMax * (2 * typesMax)
+begins : (c : lts.Start reads.Pre reads.Post) → c.args.row * (2 * c.args.n) ≤ types_max * (2 * types_max)
 begins c =
-    let wide : 2 * c.args.n ≤ 2 * typesMax = omega (arith, c.requires.0) in
+    let wide : 2 * c.args.n ≤ 2 * types_max = omega (arith, c.requires.0) in
     mul-le-mul (le_of_lt c.requires.1) wide
 
 pub overflow_mul-result-2 : goal.overflow_mul-result-2

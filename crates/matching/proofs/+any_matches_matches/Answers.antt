@@ -2,46 +2,46 @@ use mathlib.Core.Path.{◌≡◌, sym, ◌∙◌}
 use mathlib.Core.Bool.{true, false}
 use Prim.Native.Nat.{ℕ, ◌+◌, ◌≤◌, ◌<◌}
 use native.Mathlib.Omega.{arith}
-use Rattle.pages.proofs.Quant.{any-none, all-none, any-more, all-more}
-use Rattle.kinds.specs.Kinds.{isUnion}
-use Rattle.types.specs.Types.{typesIn, kindOf, arity}
-use Rattle.matching.specs.Matching.{knownMatches, inUse, matches as matchesDef}
-use Rattle.matching.specs.Memo.{hasPartner, memberOf}
+use Rattle.pages.proofs.Quant.{any_none, all_none, any_more, all_more}
+use Rattle.kinds.specs.Kinds.{is_union}
+use Rattle.types.specs.Types.{types_in, kind_of, arity}
+use Rattle.matching.specs.Matching.{known_matches, in_use, matches as matches_def}
+use Rattle.matching.specs.Memo.{has_partner, member_of}
 use mathlib.Core.List.{List}
 use Rattle.matching.specs.declared.Checked.{Checked}
 use Rattle.matching.specs.declared.Checked.TheVariants.{Known}
-use Rattle.matching.proofs.Memo.{in-use-small, recalled, noted-found, noted-refuting, found-union}
-use Rattle.matching.proofs.Matching.{stands, stands-so, partner-met, partner-missed, refuted-so, any-no, all-met, one-alone, known-in-use, in-use-known, to-unknown, from-unknown, to-function, from-function, to-known, known-free, known-any, known-plain, none-partner}
+use Rattle.matching.proofs.Memo.{in_use_small, recalled, noted_found, noted_refuting, found_union}
+use Rattle.matching.proofs.Matching.{stands, stands_so, partner_met, partner_missed, refuted_so, any_no, all_met, one_alone, known_in_use, in_use_known, to_unknown, from_unknown, to_function, from_function, to_known, known_free, known_any, known_plain, none_partner}
 use Rattle.matching.proofs.+any_matches_matches.Goals as goal
 use Rattle.matching.proofs.+any_matches_matches.Goals.{any_matches-then-not-is_refuted+else-matches, any_matches-else-not-is_refuted, any_matches-then-not-recalls+else-recalls+else-j-expected+then-not-is_refuted+then-matches, any_matches-else-not-recalls, any_matches-else-members-test, any_matches-then-members-test+then-not-recalls+then-recalls, any_matches-then-members-test+then-not-recalls+else-recalls+then-j-expected}
 
 pub any_matches-returns-then-not-is_union : goal.any_matches-returns-then-not-is_union
 any_matches-returns-then-not-is_union t c =
-    let u : isUnion (kindOf c.args.page.now c.args.b) ≡ false = rw (← c.kind_of.ensures) (sym c.is_union.ensures ∙ c.if-not-is_union.true) in
-    (any-no c.args.page.now c.args.a c.args.b u, c.requires.held.1)
+    let u : is_union (kind_of c.args.page.now c.args.b) ≡ false = rw (← c.kind_of.ensures) (sym c.is_union.ensures ∙ c.if-not-is_union.true) in
+    (any_no c.args.page.now c.args.a c.args.b u, c.requires.held.1)
 
 pub any_matches-members-init : goal.any_matches-members-init
-any_matches-members-init t c = (omega arith, c.requires.held.1, all-none _)
+any_matches-members-init t c = (omega arith, c.requires.held.1, all_none _)
 
 pub any_matches-recalls-requires : goal.any_matches-recalls-requires
 any_matches-recalls-requires t c =
-    let um : c.member_of-m.result < typesIn c.args.page.now = omega (arith, c.member_of-m.ensures.1, c.requires.a_bound.0) in
-    let small = in-use-small c.args.page.now c.requires.held.0.sound in
+    let um : c.member_of-m.result < types_in c.args.page.now = omega (arith, c.member_of-m.ensures.1, c.requires.a_bound.0) in
+    let small = in_use_small c.args.page.now c.requires.held.0.sound in
     (small c.member_of-m.result um, small c.args.b c.requires.a_bound.1)
 
 pub any_matches-recalls-requires-then-not-recalls : goal.any_matches-recalls-requires-then-not-recalls
 any_matches-recalls-requires-then-not-recalls t c =
-    let um : c.member_of-m.result < typesIn c.args.page.now = omega (arith, c.member_of-m.ensures.1, c.requires.a_bound.0) in
-    let small = in-use-small c.args.page.now c.requires.held.0.sound in
+    let um : c.member_of-m.result < types_in c.args.page.now = omega (arith, c.member_of-m.ensures.1, c.requires.a_bound.0) in
+    let small = in_use_small c.args.page.now c.requires.held.0.sound in
     (small c.member_of-m.result um, small c.args.b c.requires.a_bound.1)
 
 pub any_matches-loop-j-init : goal.any_matches-loop-j-init
-any_matches-loop-j-init t c = (omega arith, c.members.invariant.1, any-none _)
+any_matches-loop-j-init t c = (omega arith, c.members.invariant.1, any_none _)
 
 pub any_matches-note-requires : goal.any_matches-note-requires
 any_matches-note-requires t c =
-    let um : c.member_of-m.result < typesIn c.args.page.now = omega (arith, c.member_of-m.ensures.1, c.requires.a_bound.0) in
-    let small = in-use-small c.args.page.now c.requires.held.0.sound in
+    let um : c.member_of-m.result < types_in c.args.page.now = omega (arith, c.member_of-m.ensures.1, c.requires.a_bound.0) in
+    let small = in_use_small c.args.page.now c.requires.held.0.sound in
     (small c.member_of-m.result um, small c.args.b c.requires.a_bound.1)
 
 pub any_matches-child_of-e-requires-clause-t_bound : goal.any_matches-child_of-e-requires-clause-t_bound
@@ -52,10 +52,10 @@ pub any_matches-matches-requires : goal.any_matches-matches-requires
 any_matches-matches-requires t c =
     let page = c.args.page.now in
     let e = c.child_of-e in
-    let used : e.result < typesIn page = omega (arith, e.ensures.1, c.requires.a_bound.1) in
-    let um : c.member_of-m.result < typesIn c.args.page.now = omega (arith, c.member_of-m.ensures.1, c.requires.a_bound.0) in (
+    let used : e.result < types_in page = omega (arith, e.ensures.1, c.requires.a_bound.1) in
+    let um : c.member_of-m.result < types_in c.args.page.now = omega (arith, c.member_of-m.ensures.1, c.requires.a_bound.0) in (
       omega (arith, c.decreases, e.ensures.1),
-      (c.requires.held.0, ((in-use-known page c.member_of-m.result um, in-use-known page e.result used), c.loop-j.invariant.1)),
+      (c.requires.held.0, ((in_use_known page c.member_of-m.result um, in_use_known page e.result used), c.loop-j.invariant.1)),
     )
 
 pub any_matches-loop-j-preserved : goal.any_matches-loop-j-preserved
@@ -64,22 +64,22 @@ any_matches-loop-j-preserved t c =
     let l = c.loop-j in
     let m = c.member_of-m.result in
     let e = c.child_of-e in
-    let more = any-more (stands page m c.args.b) l.j l.invariant.2 in
+    let more = any_more (stands page m c.args.b) l.j l.invariant.2 in
     let below : l.j + 1 ≤ c.arity-expected.result = omega (arith, l.invariant.0, c.if-j-expected.false) in
-    let used : e.result < typesIn page = omega (arith, e.ensures.1, c.requires.a_bound.1) in
-    let um : c.member_of-m.result < typesIn c.args.page.now = omega (arith, c.member_of-m.ensures.1, c.requires.a_bound.0) in
+    let used : e.result < types_in page = omega (arith, e.ensures.1, c.requires.a_bound.1) in
+    let um : c.member_of-m.result < types_in c.args.page.now = omega (arith, c.member_of-m.ensures.1, c.requires.a_bound.0) in
     elim c.if-not-is_refuted.branch [
       | any_matches-then-not-is_refuted+else-matches w ↦
-          (below, rw w.memo-is w.matches.ensures.noted_2, more (stands-so page m c.args.b l.j e.result w.matches.result false e.ensures.0 w.matches.ensures.value w.if-matches.false))
+          (below, rw w.memo-is w.matches.ensures.noted_2, more (stands_so page m c.args.b l.j e.result w.matches.result false e.ensures.0 w.matches.ensures.value w.if-matches.false))
       | any_matches-else-not-is_refuted w ↦
-          let r = refuted-so page c.requires.held.0.sound l.memo l.invariant.1 m um e.result used (sym c.is_refuted.ensures ∙ w.if-not-is_refuted.false) in
+          let r = refuted_so page c.requires.held.0.sound l.memo l.invariant.1 m um e.result used (sym c.is_refuted.ensures ∙ w.if-not-is_refuted.false) in
           (below, rw w.memo-is l.invariant.1, more (rw (← e.ensures.0) r))
     ]
 
 pub any_matches-note-requires-then-not-recalls : goal.any_matches-note-requires-then-not-recalls
 any_matches-note-requires-then-not-recalls t c =
-    let um : c.member_of-m.result < typesIn c.args.page.now = omega (arith, c.member_of-m.ensures.1, c.requires.a_bound.0) in
-    let small = in-use-small c.args.page.now c.requires.held.0.sound in
+    let um : c.member_of-m.result < types_in c.args.page.now = omega (arith, c.member_of-m.ensures.1, c.requires.a_bound.0) in
+    let small = in_use_small c.args.page.now c.requires.held.0.sound in
     (small c.member_of-m.result um, small c.args.b c.requires.a_bound.1)
 
 pub any_matches-members-preserved : goal.any_matches-members-preserved
@@ -89,20 +89,20 @@ any_matches-members-preserved t c =
     let b = c.args.b in
     let s = c.members in
     let m = c.member_of-m.result in
-    let ub : isUnion (kindOf page b) ≡ true = (rw (← c.kind_of.ensures) (sym c.is_union.ensures ∙ c.if-not-is_union.false)) in
-    let um : c.member_of-m.result < typesIn c.args.page.now = omega (arith, c.member_of-m.ensures.1, c.requires.a_bound.0) in
-    let more = all-more (λ k. hasPartner page (memberOf page a k) b) s.i s.invariant.2 in
+    let ub : is_union (kind_of page b) ≡ true = (rw (← c.kind_of.ensures) (sym c.is_union.ensures ∙ c.if-not-is_union.false)) in
+    let um : c.member_of-m.result < types_in c.args.page.now = omega (arith, c.member_of-m.ensures.1, c.requires.a_bound.0) in
+    let more = all_more (λ k. has_partner page (member_of page a k) b) s.i s.invariant.2 in
     let next : s.i + 1 ≤ c.members_of-actual.result = omega (arith, c.members-test.true) in
     elim c.if-not-recalls.branch [
       | any_matches-then-not-recalls+else-recalls+else-j-expected+then-not-is_refuted+then-matches w ↦
           let below : w.loop-j.j < arity page b = omega (arith, w.loop-j.invariant.0, w.if-j-expected.false, c.arity-expected.ensures.0) in
-          let met = partner-met page m b w.loop-j.j below
-          (stands-so page m b w.loop-j.j w.child_of-e.result w.matches.result true w.child_of-e.ensures.0 w.matches.ensures.value w.if-matches.true) in
-          let noted = noted-found page w.matches.new.memo w.matches.ensures.noted_2 m b true um c.requires.a_bound.1 (sym (found-union page m b ub ∙ met)) in
+          let met = partner_met page m b w.loop-j.j below
+          (stands_so page m b w.loop-j.j w.child_of-e.result w.matches.result true w.child_of-e.ensures.0 w.matches.ensures.value w.if-matches.true) in
+          let noted = noted_found page w.matches.new.memo w.matches.ensures.noted_2 m b true um c.requires.a_bound.1 (sym (found_union page m b ub ∙ met)) in
           (next, rw w.memo-is (rw w.note-then-not-recalls.ensures noted), more (rw (← c.member_of-m.ensures.0) met))
       | any_matches-else-not-recalls w ↦
           let r = recalled page s.memo s.invariant.1 m b true c.recalls.result c.recalls.ensures w.if-not-recalls.false in
-          (next, rw w.memo-is s.invariant.1, more (rw (← c.member_of-m.ensures.0) (sym (found-union page m b ub) ∙ r)))
+          (next, rw w.memo-is s.invariant.1, more (rw (← c.member_of-m.ensures.0) (sym (found_union page m b ub) ∙ r)))
     ]
 
 pub any_matches-returns : goal.any_matches-returns
@@ -112,54 +112,54 @@ any_matches-returns t c =
     let b = c.args.b in
     let s = c.members in
     let n = c.members_of-actual in
-    let ub : isUnion (kindOf page b) ≡ true = (rw (← c.kind_of.ensures) (sym c.is_union.ensures ∙ c.if-not-is_union.false)) in
-    let alone = one-alone page a b ub n.result n.ensures s.i in
+    let ub : is_union (kind_of page b) ≡ true = (rw (← c.kind_of.ensures) (sym c.is_union.ensures ∙ c.if-not-is_union.false)) in
+    let alone = one_alone page a b ub n.result n.ensures s.i in
     elim c.members-test.branch [
       | any_matches-else-members-test w ↦
-          (all-met page a b ub n.result n.ensures s.i (omega (arith, s.invariant.0, w.members-test.false)) s.invariant.2, rw w.memo-is s.invariant.1)
+          (all_met page a b ub n.result n.ensures s.i (omega (arith, s.invariant.0, w.members-test.false)) s.invariant.2, rw w.memo-is s.invariant.1)
       | any_matches-then-members-test+then-not-recalls+then-recalls w ↦
           let m = w.member_of-m.result in
           let r = recalled page s.memo s.invariant.1 m b false w.recalls-then-not-recalls.result w.recalls-then-not-recalls.ensures w.if-recalls.true in
-          (alone w.members-test.true (rw (← w.member_of-m.ensures.0) (sym (found-union page m b ub) ∙ r)), rw w.memo-is s.invariant.1)
+          (alone w.members-test.true (rw (← w.member_of-m.ensures.0) (sym (found_union page m b ub) ∙ r)), rw w.memo-is s.invariant.1)
       | any_matches-then-members-test+then-not-recalls+else-recalls+then-j-expected w ↦
           let m = w.member_of-m.result in
-          let um : m < typesIn page = omega (arith, w.member_of-m.ensures.1, c.requires.a_bound.0) in
-          let missed = partner-missed page m b w.loop-j.j (w.if-j-expected.true ∙ c.arity-expected.ensures.0) w.loop-j.invariant.2 in
-          let noted = noted-found page w.loop-j.memo w.loop-j.invariant.1 m b false um c.requires.a_bound.1 (sym (found-union page m b ub ∙ missed)) in
+          let um : m < types_in page = omega (arith, w.member_of-m.ensures.1, c.requires.a_bound.0) in
+          let missed = partner_missed page m b w.loop-j.j (w.if-j-expected.true ∙ c.arity-expected.ensures.0) w.loop-j.invariant.2 in
+          let noted = noted_found page w.loop-j.memo w.loop-j.invariant.1 m b false um c.requires.a_bound.1 (sym (found_union page m b ub ∙ missed)) in
           (alone w.members-test.true (rw (← w.member_of-m.ensures.0) missed), rw w.memo-is (rw w.note.ensures noted))
     ]
 
 pub matches-returns-in-Unknown-clause-value : goal.matches-returns-in-Unknown-clause-value
-matches-returns-in-Unknown-clause-value t c = rw c.in-Unknown.is (to-unknown c.args.page.now c.args.actual)
+matches-returns-in-Unknown-clause-value t c = rw c.in-Unknown.is (to_unknown c.args.page.now c.args.actual)
 
 pub matches-returns-in-Function : goal.matches-returns-in-Function
 matches-returns-in-Function t c = record {
-  value = rw c.in-Function.is (c.function_matches.ensures ∙ from-function c.args.page.now c.in-Function.f c.args.expected);
+  value = rw c.in-Function.is (c.function_matches.ensures ∙ from_function c.args.page.now c.in-Function.f c.args.expected);
   noted_2 = c.requires.noted;
 }
 
 pub matches-returns-in_default-actual-2 : goal.matches-returns-in_default-actual-2
 matches-returns-in_default-actual-2 t c = record {
-  value = from-unknown c.args.page.now c.args.actual c.args.expected c.in_default-actual.not-Function c.in_default-actual-2.not-Known;
+  value = from_unknown c.args.page.now c.args.actual c.args.expected c.in_default-actual.not-Function c.in_default-actual-2.not-Known;
   noted_2 = c.requires.noted;
 }
 
 -- where both are Known: the numbers are in use, and the answer is that for them
-both-known : (page : List ℕ) (actual expected : Checked) (a b : ℕ) → (inUse page actual ≡ true) × (inUse page expected ≡ true) → actual ≡ Known a → expected ≡ Known b
-    → (a < typesIn page) × (b < typesIn page) × (knownMatches page a b ≡ matchesDef page actual expected)
-both-known page actual expected a b h p q =
-    let u : inUse page (Known a) ≡ true = rw p at h.0 in
-    let v : inUse page (Known b) ≡ true = rw q at h.1 in
-    (known-in-use page a u, known-in-use page b v, rw (p, q) (to-known page a b))
+both_known : (page : List ℕ) (actual expected : Checked) (a b : ℕ) → (in_use page actual ≡ true) × (in_use page expected ≡ true) → actual ≡ Known a → expected ≡ Known b
+    → (a < types_in page) × (b < types_in page) × (known_matches page a b ≡ matches_def page actual expected)
+both_known page actual expected a b h p q =
+    let u : in_use page (Known a) ≡ true = rw p at h.0 in
+    let v : in_use page (Known b) ≡ true = rw q at h.1 in
+    (known_in_use page a u, known_in_use page b v, rw (p, q) (to_known page a b))
 
 pub matches-known_for_function-requires : goal.matches-known_for_function-requires
 matches-known_for_function-requires t c =
-    let u : inUse c.args.page.now (Known c.in-Known.a) ≡ true = rw c.in-Known.is at c.requires.actual_value.0 in
-    record { held = c.requires.held; a_bound = known-in-use c.args.page.now c.in-Known.a u }
+    let u : in_use c.args.page.now (Known c.in-Known.a) ≡ true = rw c.in-Known.is at c.requires.actual_value.0 in
+    record { held = c.requires.held; a_bound = known_in_use c.args.page.now c.in-Known.a u }
 
 pub matches-returns-in_default-expected : goal.matches-returns-in_default-expected
 matches-returns-in_default-expected t c = record {
-  value = rw c.in-Known.is (c.known_for_function.ensures ∙ to-function c.args.page.now c.in-Known.a c.args.expected c.in_default.not-Unknown c.in_default-expected.not-Known);
+  value = rw c.in-Known.is (c.known_for_function.ensures ∙ to_function c.args.page.now c.in-Known.a c.args.expected c.in_default.not-Unknown c.in_default-expected.not-Known);
   noted_2 = c.requires.noted;
 }
 
@@ -169,7 +169,7 @@ matches-is_free-requires t c =
     let f = c.requires.held.sound in
     let a = c.in-Known.a in
     let b = c.in-Known-expected.b in
-    let k = both-known page c.args.actual c.args.expected a b c.requires.actual_value c.in-Known.is c.in-Known-expected.is in
+    let k = both_known page c.args.actual c.args.expected a b c.requires.actual_value c.in-Known.is c.in-Known-expected.is in
     record { held = c.requires.held; a_bound = (k.0, k.1) }
 
 pub matches-returns-then-is_free : goal.matches-returns-then-is_free
@@ -178,8 +178,8 @@ matches-returns-then-is_free t c =
     let f = c.requires.held.sound in
     let a = c.in-Known.a in
     let b = c.in-Known-expected.b in
-    let k = both-known page c.args.actual c.args.expected a b c.requires.actual_value c.in-Known.is c.in-Known-expected.is in
-    let e = known-free page f b k.1 a (sym c.is_free.ensures ∙ c.if-is_free.true) in
+    let k = both_known page c.args.actual c.args.expected a b c.requires.actual_value c.in-Known.is c.in-Known-expected.is in
+    let e = known_free page f b k.1 a (sym c.is_free.ensures ∙ c.if-is_free.true) in
     record { value = sym e ∙ k.2; noted_2 = c.requires.noted }
 
 pub matches-kind_of-requires : goal.matches-kind_of-requires
@@ -188,7 +188,7 @@ matches-kind_of-requires t c =
     let f = c.requires.held.sound in
     let a = c.in-Known.a in
     let b = c.in-Known-expected.b in
-    let k = both-known page c.args.actual c.args.expected a b c.requires.actual_value c.in-Known.is c.in-Known-expected.is in
+    let k = both_known page c.args.actual c.args.expected a b c.requires.actual_value c.in-Known.is c.in-Known-expected.is in
     record { held = c.requires.held; t_bound = k.1 }
 
 pub matches-find-requires : goal.matches-find-requires
@@ -197,8 +197,8 @@ matches-find-requires t c =
     let f = c.requires.held.sound in
     let a = c.in-Known.a in
     let b = c.in-Known-expected.b in
-    let k = both-known page c.args.actual c.args.expected a b c.requires.actual_value c.in-Known.is c.in-Known-expected.is in
-    let u : isUnion (kindOf page b) ≡ false = rw (← c.kind_of.ensures) (sym c.is_union.ensures ∙ c.if-not-is_union.true) in
+    let k = both_known page c.args.actual c.args.expected a b c.requires.actual_value c.in-Known.is c.in-Known-expected.is in
+    let u : is_union (kind_of page b) ≡ false = rw (← c.kind_of.ensures) (sym c.is_union.ensures ∙ c.if-not-is_union.true) in
     record { held = c.requires.held; a_bound = (k.0, k.1, u); noted = c.requires.noted }
 
 pub matches-returns-then-not-is_union : goal.matches-returns-then-not-is_union
@@ -207,10 +207,10 @@ matches-returns-then-not-is_union t c =
     let f = c.requires.held.sound in
     let a = c.in-Known.a in
     let b = c.in-Known-expected.b in
-    let k = both-known page c.args.actual c.args.expected a b c.requires.actual_value c.in-Known.is c.in-Known-expected.is in
+    let k = both_known page c.args.actual c.args.expected a b c.requires.actual_value c.in-Known.is c.in-Known-expected.is in
     let bound = sym c.is_free.ensures ∙ c.if-is_free.false in
-    let u : isUnion (kindOf page b) ≡ false = rw (← c.kind_of.ensures) (sym c.is_union.ensures ∙ c.if-not-is_union.true) in
-    record { value = c.find.ensures.value ∙ sym (known-plain page f b k.1 a k.0 bound u) ∙ k.2; noted_2 = c.find.ensures.noted_2 }
+    let u : is_union (kind_of page b) ≡ false = rw (← c.kind_of.ensures) (sym c.is_union.ensures ∙ c.if-not-is_union.true) in
+    record { value = c.find.ensures.value ∙ sym (known_plain page f b k.1 a k.0 bound u) ∙ k.2; noted_2 = c.find.ensures.noted_2 }
 
 pub matches-any_matches-requires : goal.matches-any_matches-requires
 matches-any_matches-requires t c =
@@ -218,7 +218,7 @@ matches-any_matches-requires t c =
     let f = c.requires.held.sound in
     let a = c.in-Known.a in
     let b = c.in-Known-expected.b in
-    let k = both-known page c.args.actual c.args.expected a b c.requires.actual_value c.in-Known.is c.in-Known-expected.is in
+    let k = both_known page c.args.actual c.args.expected a b c.requires.actual_value c.in-Known.is c.in-Known-expected.is in
     let w = rw c.in-Known-expected.is at c.decreases in
     (omega (arith, w), ((c.requires.held, c.requires.noted), (k.0, k.1)))
 
@@ -228,11 +228,11 @@ matches-returns-then-any_matches t c =
     let f = c.requires.held.sound in
     let a = c.in-Known.a in
     let b = c.in-Known-expected.b in
-    let k = both-known page c.args.actual c.args.expected a b c.requires.actual_value c.in-Known.is c.in-Known-expected.is in
+    let k = both_known page c.args.actual c.args.expected a b c.requires.actual_value c.in-Known.is c.in-Known-expected.is in
     let bound = sym c.is_free.ensures ∙ c.if-is_free.false in
-    let u : isUnion (kindOf page b) ≡ true = rw (← c.kind_of.ensures) (sym c.is_union.ensures ∙ c.if-not-is_union.false) in
+    let u : is_union (kind_of page b) ≡ true = rw (← c.kind_of.ensures) (sym c.is_union.ensures ∙ c.if-not-is_union.false) in
     let any = c.any_matches.ensures in
-    let is = known-any page f b k.1 a k.0 bound u in
+    let is = known_any page f b k.1 a k.0 bound u in
     record { value = sym c.if-any_matches.true ∙ any.0 ∙ sym is ∙ k.2; noted_2 = any.1 }
 
 pub matches-refute-requires : goal.matches-refute-requires
@@ -241,8 +241,8 @@ matches-refute-requires t c =
     let f = c.requires.held.sound in
     let a = c.in-Known.a in
     let b = c.in-Known-expected.b in
-    let k = both-known page c.args.actual c.args.expected a b c.requires.actual_value c.in-Known.is c.in-Known-expected.is in
-    (in-use-small page f a k.0, in-use-small page f b k.1)
+    let k = both_known page c.args.actual c.args.expected a b c.requires.actual_value c.in-Known.is c.in-Known-expected.is in
+    (in_use_small page f a k.0, in_use_small page f b k.1)
 
 pub matches-returns : goal.matches-returns
 matches-returns t c =
@@ -250,11 +250,11 @@ matches-returns t c =
     let f = c.requires.held.sound in
     let a = c.in-Known.a in
     let b = c.in-Known-expected.b in
-    let k = both-known page c.args.actual c.args.expected a b c.requires.actual_value c.in-Known.is c.in-Known-expected.is in
+    let k = both_known page c.args.actual c.args.expected a b c.requires.actual_value c.in-Known.is c.in-Known-expected.is in
     let bound = sym c.is_free.ensures ∙ c.if-is_free.false in
-    let u : isUnion (kindOf page b) ≡ true = rw (← c.kind_of.ensures) (sym c.is_union.ensures ∙ c.if-not-is_union.false) in
+    let u : is_union (kind_of page b) ≡ true = rw (← c.kind_of.ensures) (sym c.is_union.ensures ∙ c.if-not-is_union.false) in
     let any = c.any_matches.ensures in
-    let is = known-any page f b k.1 a k.0 bound u in
+    let is = known_any page f b k.1 a k.0 bound u in
     let no = is ∙ sym any.0 ∙ c.if-any_matches.false in
-    let noted = noted-refuting page c.any_matches.new.memo any.1 a b k.0 k.1 (none-partner page f a b k.0 k.1 u no) no in
+    let noted = noted_refuting page c.any_matches.new.memo any.1 a b k.0 k.1 (none_partner page f a b k.0 k.1 u no) no in
     record { value = sym no ∙ k.2; noted_2 = rw c.refute.ensures noted }

@@ -1,8 +1,8 @@
 use mathlib.Core.Path.{◌≡◌}
 use mathlib.Core.Bool.{true}
 use Prim.Native.Nat.{◌-◌, ◌≤◌}
-use Rattle.pages.specs.Quant.{allTo}
-use Rattle.matching.specs.Matching.{nullArrayElision}
+use Rattle.pages.specs.Quant.{all_to}
+use Rattle.matching.specs.Matching.{null_array_elision}
 use Rattle.marks.specs.Marks.{Noted}
 use Rattle.matching.specs.Memo.{Found}
 use Rattle.matching.proofs.Elision.{elided}
@@ -13,7 +13,7 @@ decreases-null_array_elision l = l.a
 
 abbrev pub invariant-loop-i : goal.invariant-loop-i
 invariant-loop-i l =
-    (l.i ≤ l.n) × Noted (Found l.page) l.memo × (allTo l.i (elided l.page (nullArrayElision l.page) l.a l.b) ≡ true)
+    (l.i ≤ l.n) × Noted (Found l.page) l.memo × (all_to l.i (elided l.page (null_array_elision l.page) l.a l.b) ≡ true)
 
 abbrev pub decreases-loop-i : goal.decreases-loop-i
 decreases-loop-i l = l.n - l.i

@@ -1,58 +1,58 @@
 use mathlib.Core.Path.{◌≡◌, sym, ◌∙◌}
 use mathlib.Core.Bool.{true, false}
 use native.Mathlib.Omega.{arith}
-use Rattle.kinds.specs.Kinds.{isMap}
-use Rattle.types.specs.Types.{kindOf}
-use Rattle.pages.specs.Quant.{allTo}
-use Rattle.pages.proofs.Quant.{and-true, all-none, all-more, all-failed}
-use Rattle.matching.specs.Matching.{nullMapElision}
-use Rattle.matching.proofs.Memo.{in-use-small, recalled, noted-found, found-maps, elided-so, not-elided}
-use Rattle.matching.proofs.Parts.{two-children}
-use Rattle.matching.proofs.Elision.{partRule, part-array, part-map, elided, map-unlike, map-all, elided-known, elided-rule}
+use Rattle.kinds.specs.Kinds.{is_map}
+use Rattle.types.specs.Types.{kind_of}
+use Rattle.pages.specs.Quant.{all_to}
+use Rattle.pages.proofs.Quant.{and_true, all_none, all_more, all_failed}
+use Rattle.matching.specs.Matching.{null_map_elision}
+use Rattle.matching.proofs.Memo.{in_use_small, recalled, noted_found, found_maps, elided_so, not_elided}
+use Rattle.matching.proofs.Parts.{two_children}
+use Rattle.matching.proofs.Elision.{part_rule, part_array, part_map, elided, map_unlike, map_all, elided_known, elided_rule}
 use Rattle.matching.proofs.+null_map_elision.Goals as goal
 use Rattle.matching.proofs.+null_map_elision.Goals.{then-not-is_elided+then-not-null_array_elision+else-not-null_map_elision, then-not-is_elided+else-not-null_array_elision, else-not-is_elided}
 
 pub returns-then-not-are_maps-clause-value : goal.returns-then-not-are_maps-clause-value
 returns-then-not-are_maps-clause-value t c =
-    map-unlike c.args.page.now c.requires.held.sound c.args.a c.requires.a_bound.0 c.args.b (sym c.are_maps.ensures ∙ c.if-not-are_maps.true)
+    map_unlike c.args.page.now c.requires.held.sound c.args.a c.requires.a_bound.0 c.args.b (sym c.are_maps.ensures ∙ c.if-not-are_maps.true)
 
 pub recalls-requires : goal.recalls-requires
 recalls-requires t c =
-    let small = in-use-small c.args.page.now c.requires.held.sound in
+    let small = in_use_small c.args.page.now c.requires.held.sound in
     (small c.args.a c.requires.a_bound.0, small c.args.b c.requires.a_bound.1)
 
 pub returns-then-recalls-clause-value : goal.returns-then-recalls-clause-value
 returns-then-recalls-clause-value t c =
     let page = c.args.page.now in
     let r = recalled page c.args.memo.now c.requires.noted c.args.a c.args.b true c.recalls.result c.recalls.ensures c.if-recalls.true in
-    sym r ∙ found-maps page c.args.a c.args.b (sym c.are_maps.ensures ∙ c.if-not-are_maps.false)
+    sym r ∙ found_maps page c.args.a c.args.b (sym c.are_maps.ensures ∙ c.if-not-are_maps.false)
 
 pub recalls-requires-2 : goal.recalls-requires-2
 recalls-requires-2 t c =
-    let small = in-use-small c.args.page.now c.requires.held.sound in
+    let small = in_use_small c.args.page.now c.requires.held.sound in
     (small c.args.a c.requires.a_bound.0, small c.args.b c.requires.a_bound.1)
 
 pub returns-then-recalls-2-clause-value : goal.returns-then-recalls-2-clause-value
 returns-then-recalls-2-clause-value t c =
     let page = c.args.page.now in
     let r = recalled page c.args.memo.now c.requires.noted c.args.a c.args.b false c.recalls-2.result c.recalls-2.ensures c.if-recalls-2.true in
-    sym r ∙ found-maps page c.args.a c.args.b (sym c.are_maps.ensures ∙ c.if-not-are_maps.false)
+    sym r ∙ found_maps page c.args.a c.args.b (sym c.are_maps.ensures ∙ c.if-not-are_maps.false)
 
 pub loop-i-init : goal.loop-i-init
-loop-i-init t c = (omega arith, c.requires.noted, all-none _)
+loop-i-init t c = (omega arith, c.requires.noted, all_none _)
 
 pub child_of-x-requires-clause-t_bound : goal.child_of-x-requires-clause-t_bound
 child_of-x-requires-clause-t_bound t c =
     let page = c.args.page.now in
-    let h = and-true (isMap (kindOf page c.args.a)) (isMap (kindOf page c.args.b)) (sym c.are_maps.ensures ∙ c.if-not-are_maps.false) in
-    let w = two-children page c.requires.held.sound c.args.a c.requires.a_bound.0 h.0 in
+    let h = and_true (is_map (kind_of page c.args.a)) (is_map (kind_of page c.args.b)) (sym c.are_maps.ensures ∙ c.if-not-are_maps.false) in
+    let w = two_children page c.requires.held.sound c.args.a c.requires.a_bound.0 h.0 in
     (c.requires.a_bound.0, omega (arith, c.loop-i-test.true, w))
 
 pub child_of-y-requires-clause-t_bound : goal.child_of-y-requires-clause-t_bound
 child_of-y-requires-clause-t_bound t c =
     let page = c.args.page.now in
-    let h = and-true (isMap (kindOf page c.args.a)) (isMap (kindOf page c.args.b)) (sym c.are_maps.ensures ∙ c.if-not-are_maps.false) in
-    let w = two-children page c.requires.held.sound c.args.b c.requires.a_bound.1 h.1 in
+    let h = and_true (is_map (kind_of page c.args.a)) (is_map (kind_of page c.args.b)) (sym c.are_maps.ensures ∙ c.if-not-are_maps.false) in
+    let w = two_children page c.requires.held.sound c.args.b c.requires.a_bound.1 h.1 in
     (c.requires.a_bound.1, omega (arith, c.loop-i-test.true, w))
 
 pub null_array_elision-requires-clause-noted : goal.null_array_elision-requires-clause-noted
@@ -68,7 +68,7 @@ null_map_elision-requires t c =
 
 pub note-requires : goal.note-requires
 note-requires t c =
-    let small = in-use-small c.args.page.now c.requires.held.sound in
+    let small = in_use_small c.args.page.now c.requires.held.sound in
     (small c.args.a c.requires.a_bound.0, small c.args.b c.requires.a_bound.1)
 
 pub returns-then-not-null_map_elision-clause-value : goal.returns-then-not-null_map_elision-clause-value
@@ -77,14 +77,14 @@ returns-then-not-null_map_elision-clause-value t c =
     let i = c.loop-i.i in
     let x = c.child_of-x in
     let y = c.child_of-y in
-    let rule = partRule page (nullMapElision page) in
-    let bare = not-elided page x.result y.result c.loop-i.memo (sym c.is_elided.ensures ∙ c.if-not-is_elided.true) in
-    let s = elided-rule page rule c.args.a c.args.b i x.result y.result x.ensures.0 y.ensures.0 bare in
-    let m = part-map page (nullMapElision page) x.result y.result (sym c.null_array_elision.ensures.value ∙ c.if-not-null_array_elision.true) in
+    let rule = part_rule page (null_map_elision page) in
+    let bare = not_elided page x.result y.result c.loop-i.memo (sym c.is_elided.ensures ∙ c.if-not-is_elided.true) in
+    let s = elided_rule page rule c.args.a c.args.b i x.result y.result x.ensures.0 y.ensures.0 bare in
+    let m = part_map page (null_map_elision page) x.result y.result (sym c.null_array_elision.ensures.value ∙ c.if-not-null_array_elision.true) in
     let r = s ∙ m ∙ sym c.null_map_elision.ensures.value ∙ c.if-not-null_map_elision.true in
-    let f = all-failed (elided page rule c.args.a c.args.b) 2 i c.loop-i-test.true r in
+    let f = all_failed (elided page rule c.args.a c.args.b) 2 i c.loop-i-test.true r in
     let h = sym c.are_maps.ensures ∙ c.if-not-are_maps.false in
-    sym f ∙ map-all page c.requires.held.sound c.args.a c.requires.a_bound.0 c.args.b h
+    sym f ∙ map_all page c.requires.held.sound c.args.a c.requires.a_bound.0 c.args.b h
 
 pub returns-then-not-null_map_elision-clause-noted_2 : goal.returns-then-not-null_map_elision-clause-noted_2
 returns-then-not-null_map_elision-clause-noted_2 t c =
@@ -92,16 +92,16 @@ returns-then-not-null_map_elision-clause-noted_2 t c =
     let i = c.loop-i.i in
     let x = c.child_of-x in
     let y = c.child_of-y in
-    let rule = partRule page (nullMapElision page) in
-    let bare = not-elided page x.result y.result c.loop-i.memo (sym c.is_elided.ensures ∙ c.if-not-is_elided.true) in
-    let s = elided-rule page rule c.args.a c.args.b i x.result y.result x.ensures.0 y.ensures.0 bare in
-    let m = part-map page (nullMapElision page) x.result y.result (sym c.null_array_elision.ensures.value ∙ c.if-not-null_array_elision.true) in
+    let rule = part_rule page (null_map_elision page) in
+    let bare = not_elided page x.result y.result c.loop-i.memo (sym c.is_elided.ensures ∙ c.if-not-is_elided.true) in
+    let s = elided_rule page rule c.args.a c.args.b i x.result y.result x.ensures.0 y.ensures.0 bare in
+    let m = part_map page (null_map_elision page) x.result y.result (sym c.null_array_elision.ensures.value ∙ c.if-not-null_array_elision.true) in
     let r = s ∙ m ∙ sym c.null_map_elision.ensures.value ∙ c.if-not-null_map_elision.true in
-    let f = all-failed (elided page rule c.args.a c.args.b) 2 i c.loop-i-test.true r in
+    let f = all_failed (elided page rule c.args.a c.args.b) 2 i c.loop-i-test.true r in
     let h = sym c.are_maps.ensures ∙ c.if-not-are_maps.false in
-    let e = sym f ∙ map-all page c.requires.held.sound c.args.a c.requires.a_bound.0 c.args.b h in
-    let n = noted-found page c.null_map_elision.new.memo c.null_map_elision.ensures.noted_2 c.args.a c.args.b false c.requires.a_bound.0 c.requires.a_bound.1
-    (e ∙ sym (found-maps page c.args.a c.args.b h)) in
+    let e = sym f ∙ map_all page c.requires.held.sound c.args.a c.requires.a_bound.0 c.args.b h in
+    let n = noted_found page c.null_map_elision.new.memo c.null_map_elision.ensures.noted_2 c.args.a c.args.b false c.requires.a_bound.0 c.requires.a_bound.1
+    (e ∙ sym (found_maps page c.args.a c.args.b h)) in
     rw c.note.ensures n
 
 pub loop-i-preserved : goal.loop-i-preserved
@@ -110,27 +110,27 @@ loop-i-preserved t c =
     let l = c.loop-i in
     let x = c.child_of-x in
     let y = c.child_of-y in
-    let rule = partRule page (nullMapElision page) in
-    let more = all-more (elided page rule c.args.a c.args.b) l.i l.invariant.2 in
-    let by = elided-rule page rule c.args.a c.args.b l.i x.result y.result x.ensures.0 y.ensures.0 in
+    let rule = part_rule page (null_map_elision page) in
+    let more = all_more (elided page rule c.args.a c.args.b) l.i l.invariant.2 in
+    let by = elided_rule page rule c.args.a c.args.b l.i x.result y.result x.ensures.0 y.ensures.0 in
     elim c.if-not-is_elided.branch [
       | then-not-is_elided+then-not-null_array_elision+else-not-null_map_elision w ↦
-          let m = part-map page (nullMapElision page) x.result y.result (sym w.null_array_elision.ensures.value ∙ w.if-not-null_array_elision.true) in
-          let bare = not-elided page x.result y.result l.memo (sym c.is_elided.ensures ∙ w.if-not-is_elided.true) in
+          let m = part_map page (null_map_elision page) x.result y.result (sym w.null_array_elision.ensures.value ∙ w.if-not-null_array_elision.true) in
+          let bare = not_elided page x.result y.result l.memo (sym c.is_elided.ensures ∙ w.if-not-is_elided.true) in
           (omega arith, rw w.memo-is w.null_map_elision.ensures.noted_2, more (by bare ∙ m ∙ sym w.null_map_elision.ensures.value ∙ w.if-not-null_map_elision.false))
       | then-not-is_elided+else-not-null_array_elision w ↦
-          let m = part-array page (nullMapElision page) x.result y.result (sym w.null_array_elision.ensures.value ∙ w.if-not-null_array_elision.false) in
-          let bare = not-elided page x.result y.result l.memo (sym c.is_elided.ensures ∙ w.if-not-is_elided.true) in
+          let m = part_array page (null_map_elision page) x.result y.result (sym w.null_array_elision.ensures.value ∙ w.if-not-null_array_elision.false) in
+          let bare = not_elided page x.result y.result l.memo (sym c.is_elided.ensures ∙ w.if-not-is_elided.true) in
           (omega arith, rw w.memo-is w.null_array_elision.ensures.noted_2, more (by bare ∙ m))
       | else-not-is_elided w ↦
-          let known = elided-so page x.result y.result l.memo l.invariant.1 (sym c.is_elided.ensures ∙ w.if-not-is_elided.false) rule (part-array page (nullMapElision page) x.result y.result) in
-          let s = elided-known page rule c.args.a c.args.b l.i x.result y.result x.ensures.0 y.ensures.0 known in
+          let known = elided_so page x.result y.result l.memo l.invariant.1 (sym c.is_elided.ensures ∙ w.if-not-is_elided.false) rule (part_array page (null_map_elision page) x.result y.result) in
+          let s = elided_known page rule c.args.a c.args.b l.i x.result y.result x.ensures.0 y.ensures.0 known in
           (omega arith, rw w.memo-is l.invariant.1, more s)
     ]
 
 pub note-requires-2 : goal.note-requires-2
 note-requires-2 t c =
-    let small = in-use-small c.args.page.now c.requires.held.sound in
+    let small = in_use_small c.args.page.now c.requires.held.sound in
     (small c.args.a c.requires.a_bound.0, small c.args.b c.requires.a_bound.1)
 
 pub returns-clause-value : goal.returns-clause-value
@@ -139,8 +139,8 @@ returns-clause-value t c =
     let l = c.loop-i in
     let h = sym c.are_maps.ensures ∙ c.if-not-are_maps.false in
     let i : l.i ≡ 2 = omega (arith, l.invariant.0, c.loop-i-test.false) in
-    let q : allTo 2 (elided page (partRule page (nullMapElision page)) c.args.a c.args.b) ≡ true = rw i at l.invariant.2 in
-    sym q ∙ map-all page c.requires.held.sound c.args.a c.requires.a_bound.0 c.args.b h
+    let q : all_to 2 (elided page (part_rule page (null_map_elision page)) c.args.a c.args.b) ≡ true = rw i at l.invariant.2 in
+    sym q ∙ map_all page c.requires.held.sound c.args.a c.requires.a_bound.0 c.args.b h
 
 pub returns-clause-noted_2 : goal.returns-clause-noted_2
 returns-clause-noted_2 t c =
@@ -148,7 +148,7 @@ returns-clause-noted_2 t c =
     let l = c.loop-i in
     let h = sym c.are_maps.ensures ∙ c.if-not-are_maps.false in
     let i : l.i ≡ 2 = omega (arith, l.invariant.0, c.loop-i-test.false) in
-    let q : allTo 2 (elided page (partRule page (nullMapElision page)) c.args.a c.args.b) ≡ true = rw i at l.invariant.2 in
-    let e = sym q ∙ map-all page c.requires.held.sound c.args.a c.requires.a_bound.0 c.args.b h in
-    let n = noted-found page l.memo l.invariant.1 c.args.a c.args.b true c.requires.a_bound.0 c.requires.a_bound.1 (e ∙ sym (found-maps page c.args.a c.args.b h)) in
+    let q : all_to 2 (elided page (part_rule page (null_map_elision page)) c.args.a c.args.b) ≡ true = rw i at l.invariant.2 in
+    let e = sym q ∙ map_all page c.requires.held.sound c.args.a c.requires.a_bound.0 c.args.b h in
+    let n = noted_found page l.memo l.invariant.1 c.args.a c.args.b true c.requires.a_bound.0 c.requires.a_bound.1 (e ∙ sym (found_maps page c.args.a c.args.b h)) in
     rw c.note-2.ensures n

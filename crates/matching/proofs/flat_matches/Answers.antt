@@ -1,18 +1,18 @@
-use Rattle.matching.specs.Matching.{flatMatches}
+use Rattle.matching.specs.Matching.{flat_matches}
 use Rattle.matching.proofs.flat_matches.Goals as goal
 
 pub returns-then-const_matches : goal.returns-then-const_matches
-unfolding flatMatches
+unfolding flat_matches
 returns-then-const_matches c = rw (← c.const_matches.ensures, c.if-const_matches.true)
 
 pub returns-then-record_matches : goal.returns-then-record_matches
-unfolding flatMatches
+unfolding flat_matches
 returns-then-record_matches c =
     let const-matches = c.const_matches in
     rw (← const-matches.ensures, c.if-const_matches.false, ← c.record_matches.ensures, c.if-record_matches.true)
 
 pub returns-then-enum_matches : goal.returns-then-enum_matches
-unfolding flatMatches
+unfolding flat_matches
 returns-then-enum_matches c =
     let const-matches = c.const_matches in
     let if1 = c.if-const_matches in
@@ -20,7 +20,7 @@ returns-then-enum_matches c =
     rw (← const-matches.ensures, if1.false, ← record-matches.ensures, c.if-record_matches.false, ← c.enum_matches.ensures, c.if-enum_matches.true)
 
 pub returns-then-set_matches : goal.returns-then-set_matches
-unfolding flatMatches
+unfolding flat_matches
 returns-then-set_matches c =
     let const-matches = c.const_matches in
     let if1 = c.if-const_matches in
@@ -39,7 +39,7 @@ returns-then-set_matches c =
     )
 
 pub returns : goal.returns
-unfolding flatMatches
+unfolding flat_matches
 returns c =
     let const-matches = c.const_matches in
     let if1 = c.if-const_matches in

@@ -1,17 +1,17 @@
 use mathlib.Core.Path.{sym, ◌∙◌}
 use native.Mathlib.Omega.{arith}
-use Rattle.matching.specs.Matching.{setMatches}
-use Rattle.matching.proofs.Parts.{one-child}
+use Rattle.matching.specs.Matching.{set_matches}
+use Rattle.matching.proofs.Parts.{one_child}
 use Rattle.matching.proofs.set_matches.Goals as goal
 
 pub returns-then-not-is_set : goal.returns-then-not-is_set
-unfolding setMatches
+unfolding set_matches
 returns-then-not-is_set c =
     let is_set = c.is_set in
     rw (← c.kind_of.ensures, sym is_set.ensures ∙ c.if-not-is_set.true)
 
 pub returns-then-not-is_set-2 : goal.returns-then-not-is_set-2
-unfolding setMatches
+unfolding set_matches
 returns-then-not-is_set-2 c =
     let kind-of = c.kind_of in
     let is_set = c.is_set in
@@ -32,7 +32,7 @@ child_of-requires c =
         c.requires.a_bound.0,
         omega (
           arith,
-          one-child _ c.requires.held.sound _ c.requires.a_bound.0 21 22 (omega arith) (omega arith)
+          one_child _ c.requires.held.sound _ c.requires.a_bound.0 21 22 (omega arith) (omega arith)
               (rw kind-of.ensures at k),
         ),
       );
@@ -48,14 +48,14 @@ child_of-requires-2 c =
         c.requires.a_bound.1,
         omega (
           arith,
-          one-child _ c.requires.held.sound _ c.requires.a_bound.1 21 22 (omega arith) (omega arith)
+          one_child _ c.requires.held.sound _ c.requires.a_bound.1 21 22 (omega arith) (omega arith)
               (rw kind-of2.ensures at l),
         ),
       );
     }
 
 pub returns : goal.returns
-unfolding setMatches
+unfolding set_matches
 returns c =
     let kind-of = c.kind_of in
     let is_set = c.is_set in

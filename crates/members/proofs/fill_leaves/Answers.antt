@@ -2,10 +2,10 @@ use mathlib.Core.Path.{◌≡◌, refl, sym, ◌∙◌}
 use Prim.Native.Nat.{◌<◌}
 use native.Mathlib.Omega.{arith}
 use lib.Seq.{drop-set-lt}
-use Rattle.types.specs.Store.{typesMax}
-use Rattle.types.specs.Types.{typesIn}
-use Rattle.types.proofs.Types.{whole, types-few}
-use Rattle.members.proofs.Leaves.{leaves-more}
+use Rattle.types.specs.Store.{types_max}
+use Rattle.types.specs.Types.{types_in}
+use Rattle.types.proofs.Types.{whole, types_few}
+use Rattle.members.proofs.Leaves.{leaves_more}
 use Rattle.members.proofs.fill_leaves.Goals as goal
 
 pub count-n-requires : goal.count-n-requires
@@ -27,8 +27,8 @@ set_type-requires c =
     let loop = c.loop-t in
     let count = c.count-n in
     let loop-test = c.loop-t-test in
-    let few = types-few c.args.page.now c.requires.held.sound in
-    let low : loop.t < typesMax = omega (arith, few, loop-test.true, count.ensures) in
+    let few = types_few c.args.page.now c.requires.held.sound in
+    let low : loop.t < types_max = omega (arith, few, loop-test.true, count.ensures) in
     (omega (arith, low, loop.invariant.1.size), omega (arith, low, c.leaf_of-leaf.ensures.1))
 
 pub loop-t-preserved : goal.loop-t-preserved
@@ -38,11 +38,11 @@ loop-t-preserved c =
     let leaf-of = c.leaf_of-leaf in
     let count = c.count-n in
     let a = c.args in
-    let few = types-few a.page.now c.requires.held.sound in
-    let low : loop.t < typesMax = omega (arith, few, loop-test.true, count.ensures) in
+    let few = types_few a.page.now c.requires.held.sound in
+    let low : loop.t < types_max = omega (arith, few, loop-test.true, count.ensures) in
     rw c.set_type.ensures (
       omega (arith, loop-test.true),
-      leaves-more a.unary a.page.now loop.leaves loop.t leaf-of.result low loop.invariant.1 leaf-of.ensures.0,
+      leaves_more a.unary a.page.now loop.leaves loop.t leaf-of.result low loop.invariant.1 leaf-of.ensures.0,
       drop-set-lt count.result loop.leaves loop.t leaf-of.result loop-test.true ∙ loop.invariant.2,
     )
 
@@ -52,6 +52,6 @@ shape_of-leaves c = c.loop-t.invariant.1.size ∙ sym c.requires.from_bound.1.si
 pub returns : goal.returns
 returns c =
     let loop = c.loop-t in
-    let e : loop.t ≡ typesIn c.args.page.now =
+    let e : loop.t ≡ types_in c.args.page.now =
     omega (arith, loop.invariant.0, c.loop-t-test.false, c.count-n.ensures) in
     record { leaves = rw e at loop.invariant.1; leaves_unchanged = rw c.count-n.ensures at loop.invariant.2 }

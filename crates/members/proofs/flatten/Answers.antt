@@ -2,16 +2,16 @@ use mathlib.Core.Path.{◌≡◌, sym, ◌∙◌}
 use Prim.Native.Nat.{◌<◌}
 use native.Mathlib.Omega.{arith}
 use Rattle.types.specs.Types.{arity}
-use Rattle.types.proofs.Types.{types-few}
+use Rattle.types.proofs.Types.{types_few}
 use Rattle.members.specs.Members.{gather}
-use Rattle.members.proofs.Flattening.{gathered-none, shares, flat-itself, flat-room, flat-more, flat-all}
+use Rattle.members.proofs.Flattening.{gathered_none, shares, flat_itself, flat_room, flat_more, flat_all}
 use Rattle.members.proofs.flatten.Goals as goal
 
 pub set_type-requires : goal.set_type-requires
 set_type-requires c =
     let a = c.args in
     let pre = c.requires in
-    (omega (arith, pre.t_bound.1), omega (arith, pre.t_bound.0, types-few a.page.now pre.held.sound))
+    (omega (arith, pre.t_bound.1), omega (arith, pre.t_bound.0, types_few a.page.now pre.held.sound))
 
 pub returns-then-not-is_union : goal.returns-then-not-is_union
 returns-then-not-is_union c =
@@ -21,13 +21,13 @@ returns-then-not-is_union c =
     let a = c.args in
     let pre = c.requires in
     let u = rw kind-of.ensures at (sym is_union.ensures ∙ if1.true) in
-    rw c.set_type.ensures (flat-itself a.page.now pre.held.sound a.t pre.t_bound.0 a.types.now pre.t_bound.1 u)
+    rw c.set_type.ensures (flat_itself a.page.now pre.held.sound a.t pre.t_bound.0 a.types.now pre.t_bound.1 u)
 
 pub loop-i-init : goal.loop-i-init
 unfolding gather
 loop-i-init c =
     let a = c.args in
-    (omega arith, omega arith, gathered-none (shares a.page.now a.t) a.types.now 0)
+    (omega arith, omega arith, gathered_none (shares a.page.now a.t) a.types.now 0)
 
 pub child_of-child-requires : goal.child_of-child-requires
 child_of-child-requires c =
@@ -49,7 +49,7 @@ add_share-n-requires c =
       held = pre.held;
       x_bound = omega (arith, child.1, pre.t_bound.0);
       x_in_bounds = rw (child.0, loop.invariant.2)
-          (flat-room a.page.now pre.held.sound a.t pre.t_bound.0 a.types.now pre.t_bound.1
+          (flat_room a.page.now pre.held.sound a.t pre.t_bound.0 a.types.now pre.t_bound.1
           u loop.i loop.n loop.invariant.1 h);
     }
 
@@ -67,7 +67,7 @@ loop-i-preserved c =
     let share = c.add_share-n.ensures in
     let u = rw kind-of.ensures at (sym is_union.ensures ∙ if1.false) in
     let h : loop.i < arity a.page.now a.t = omega (arith, children.ensures.0, loop-test.true) in
-    let m = flat-more a.page.now pre.held.sound a.t pre.t_bound.0 a.types.now pre.t_bound.1
+    let m = flat_more a.page.now pre.held.sound a.t pre.t_bound.0 a.types.now pre.t_bound.1
     u loop.i loop.n loop.invariant.1 h in (
       omega (arith, loop-test.true),
       share.0 ∙ rw child-of.ensures.0 m.0,
@@ -85,7 +85,7 @@ shape_of-types c =
     let u = rw kind-of.ensures at (sym is_union.ensures ∙ if1.false) in
     let e : loop.i ≡ arity a.page.now a.t = omega (arith, loop.invariant.0, c.loop-i-test.false, c.arity-k.ensures.0) in
     rw loop.invariant.2
-    ((flat-all a.page.now pre.held.sound a.t pre.t_bound.0 a.types.now pre.t_bound.1
+    ((flat_all a.page.now pre.held.sound a.t pre.t_bound.0 a.types.now pre.t_bound.1
     u loop.i loop.n loop.invariant.1 e).3 ∙ sym pre.t_bound.1)
 
 pub returns : goal.returns
@@ -99,4 +99,4 @@ returns c =
     let u = rw kind-of.ensures at (sym is_union.ensures ∙ if1.false) in
     let e : loop.i ≡ arity a.page.now a.t = omega (arith, loop.invariant.0, c.loop-i-test.false, c.arity-k.ensures.0) in
     rw loop.invariant.2
-    (flat-all a.page.now pre.held.sound a.t pre.t_bound.0 a.types.now pre.t_bound.1 u loop.i loop.n loop.invariant.1 e)
+    (flat_all a.page.now pre.held.sound a.t pre.t_bound.0 a.types.now pre.t_bound.1 u loop.i loop.n loop.invariant.1 e)

@@ -1,22 +1,22 @@
 use mathlib.Core.Path.{◌≡◌, sym, ◌∙◌}
 use native.Mathlib.Omega.{arith}
-use Rattle.members.proofs.Merging.{has-none, has-found, has-more}
+use Rattle.members.proofs.Merging.{has_none, has_found, has_more}
 use Rattle.members.proofs.is_among.Goals as goal
 
 pub loop-i-init : goal.loop-i-init
-loop-i-init c = (omega arith, has-none c.args.t)
+loop-i-init c = (omega arith, has_none c.args.t)
 
 pub returns-then-member_at-t : goal.returns-then-member_at-t
 returns-then-member_at-t c =
     let loop = c.loop-i in
-    has-found c.args.t c.args.types.now loop.i c.args.n c.loop-i-test.true c.requires
+    has_found c.args.t c.args.types.now loop.i c.args.n c.loop-i-test.true c.requires
     (sym c.member_at.ensures ∙ c.if-member_at-t.true)
 
 pub loop-i-preserved : goal.loop-i-preserved
 loop-i-preserved c =
     let loop = c.loop-i in (
       omega arith,
-      has-more c.args.t c.args.types.now loop.i (omega arith) loop.invariant.1
+      has_more c.args.t c.args.types.now loop.i (omega arith) loop.invariant.1
           (λ e. c.if-member_at-t.false (c.member_at.ensures ∙ e)),
     )
 

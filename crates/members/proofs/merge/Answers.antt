@@ -1,12 +1,12 @@
 use mathlib.Core.Path.{sym, ◌∙◌}
-use Rattle.members.proofs.Merging.{merge-there, merge-new}
+use Rattle.members.proofs.Merging.{merge_there, merge_new}
 use Rattle.members.proofs.merge.Goals as goal
 
 pub returns-then-is_among : goal.returns-then-is_among
 returns-then-is_among c =
     let a = c.args in
     let pre = c.requires in
-    merge-there a.types.now a.n a.t pre.0 pre.1 (sym c.is_among.ensures ∙ c.if-is_among.true)
+    merge_there a.types.now a.n a.t pre.0 pre.1 (sym c.is_among.ensures ∙ c.if-is_among.true)
 
 pub returns : goal.returns
 returns c =
@@ -15,4 +15,4 @@ returns c =
     let a = c.args in
     let pre = c.requires in
     rw c.set_type.ensures
-    (merge-new a.types.now a.n a.t pre.0 pre.1 (sym is_among.ensures ∙ if1.false))
+    (merge_new a.types.now a.n a.t pre.0 pre.1 (sym is_among.ensures ∙ if1.false))

@@ -1,36 +1,36 @@
 use mathlib.Core.Path.{◌≡◌, refl, sym, ◌∙◌}
 use native.Mathlib.Omega.{arith}
-use Rattle.names.proofs.Table.{offset-ge, step-in, step-at, found-at}
+use Rattle.names.proofs.Table.{offset_ge, step_in, step_at, found_at}
 use Rattle.names.specs.Table.{offset}
-use Rattle.pages.proofs.Quant.{any-none, any-more, first-none, first-at}
+use Rattle.pages.proofs.Quant.{any_none, any_more, first_none, first_at}
 use Rattle.names.proofs.find.Goals as goal
 
 pub loop-i-init : goal.loop-i-init
 unfolding offset
 loop-i-init c =
-    (omega arith, refl, let z = offset-ge c.args.page.now c.args.n in omega (arith, c.requires), any-none _)
+    (omega arith, refl, let z = offset_ge c.args.page.now c.args.n in omega (arith, c.requires), any_none _)
 
 pub overflow_add-start : goal.overflow_add-start
 overflow_add-start c =
     let loop = c.loop-i in
-    let z = step-in c.args.page.now loop.i loop.at c.args.n loop.invariant.1 c.loop-i-test.true c.requires in omega arith
+    let z = step_in c.args.page.now loop.i loop.at c.args.n loop.invariant.1 c.loop-i-test.true c.requires in omega arith
 
 pub bounds-page-at : goal.bounds-page-at
 bounds-page-at c =
     let loop = c.loop-i in
-    let z = step-in c.args.page.now loop.i loop.at c.args.n loop.invariant.1 c.loop-i-test.true c.requires in omega arith
+    let z = step_in c.args.page.now loop.i loop.at c.args.n loop.invariant.1 c.loop-i-test.true c.requires in omega arith
 
 pub overflow_add-end : goal.overflow_add-end
 overflow_add-end c =
     let loop = c.loop-i in
     let loop-test = c.loop-i-test in
-    let z = step-in c.args.page.now loop.i loop.at c.args.n loop.invariant.1 loop-test.true c.requires in omega arith
+    let z = step_in c.args.page.now loop.i loop.at c.args.n loop.invariant.1 loop-test.true c.requires in omega arith
 
 pub slice_bounds-same-end : goal.slice_bounds-same-end
 slice_bounds-same-end c =
     let loop = c.loop-i in
     let loop-test = c.loop-i-test in
-    let z = step-in c.args.page.now loop.i loop.at c.args.n loop.invariant.1 loop-test.true c.requires in omega arith
+    let z = step_in c.args.page.now loop.i loop.at c.args.n loop.invariant.1 loop-test.true c.requires in omega arith
 
 pub returns-then-same : goal.returns-then-same
 returns-then-same c =
@@ -39,7 +39,7 @@ returns-then-same c =
     let index = c.index in
     let p = c.args.page.now in let l = loop in
     sym
-    (first-at _ _ l.i loop-test.true l.invariant.3 (found-at p l.i l.at _ c.args.name.now l.invariant.1 index.ensures.0 _ (sym c.same.ensures ∙ c.if-same.true)))
+    (first_at _ _ l.i loop-test.true l.invariant.3 (found_at p l.i l.at _ c.args.name.now l.invariant.1 index.ensures.0 _ (sym c.same.ensures ∙ c.if-same.true)))
 
 pub loop-i-preserved : goal.loop-i-preserved
 loop-i-preserved c =
@@ -47,10 +47,10 @@ loop-i-preserved c =
     let loop-test = c.loop-i-test in
     let index = c.index in
     let p = c.args.page.now in let l = loop in
-    let z = step-in p l.i l.at c.args.n l.invariant.1 loop-test.true c.requires in
-    (omega arith, step-at p l.i l.at c.args.n l.invariant.1 loop-test.true c.requires _ index.ensures.0, omega arith, any-more _ _ l.invariant.3 (found-at p l.i l.at _ c.args.name.now l.invariant.1 index.ensures.0 _ (sym c.same.ensures ∙ c.if-same.false)))
+    let z = step_in p l.i l.at c.args.n l.invariant.1 loop-test.true c.requires in
+    (omega arith, step_at p l.i l.at c.args.n l.invariant.1 loop-test.true c.requires _ index.ensures.0, omega arith, any_more _ _ l.invariant.3 (found_at p l.i l.at _ c.args.name.now l.invariant.1 index.ensures.0 _ (sym c.same.ensures ∙ c.if-same.false)))
 
 pub returns : goal.returns
 returns c =
     let loop = c.loop-i in
-    let e : loop.i ≡ c.args.n = omega arith in sym (first-none _ _ (rw e at loop.invariant.3))
+    let e : loop.i ≡ c.args.n = omega arith in sym (first_none _ _ (rw e at loop.invariant.3))

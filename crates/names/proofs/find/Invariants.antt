@@ -3,11 +3,11 @@ use mathlib.Core.Path.{◌≡◌}
 use mathlib.Core.Bool.{false}
 use lib.ListN.{length}
 use Rattle.names.specs.Table.{offset, named}
-use Rattle.pages.specs.Quant.{anyTo}
+use Rattle.pages.specs.Quant.{any_to}
 use Rattle.names.proofs.find.Given as goal
 
 abbrev pub invariant-loop-i : goal.invariant-loop-i
-invariant-loop-i l = (l.i ≤ l.n) × (l.at ≡ offset l.page l.i) × (l.at ≤ length l.page) × (anyTo l.i (named l.page l.name) ≡ false)
+invariant-loop-i l = (l.i ≤ l.n) × (l.at ≡ offset l.page l.i) × (l.at ≤ length l.page) × (any_to l.i (named l.page l.name) ≡ false)
 
 abbrev pub decreases-loop-i : goal.decreases-loop-i
 decreases-loop-i l = l.n - l.i

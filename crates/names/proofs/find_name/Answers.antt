@@ -1,12 +1,12 @@
 use mathlib.Core.Path.{sym, ◌∙◌}
 use native.Mathlib.Nat.{le_of_eq}
-use Rattle.names.proofs.Calls.{form, fits-to, find-broken, find-malformed, find-known, find-absent}
+use Rattle.names.proofs.Calls.{form, fits_to, find_broken, find_malformed, find_known, find_absent}
 use Rattle.names.proofs.find_name.Goals as goal
 
 pub returns-then-not-is_formed : goal.returns-then-not-is_formed
 returns-then-not-is_formed c =
     let is-formed = c.is_formed in
-    find-broken c.args.page.now c.args.name.now (sym is-formed.ensures ∙ c.if-not-is_formed.true)
+    find_broken c.args.page.now c.args.name.now (sym is-formed.ensures ∙ c.if-not-is_formed.true)
 
 pub returns-then-not-is_name : goal.returns-then-not-is_name
 returns-then-not-is_name c =
@@ -16,7 +16,7 @@ returns-then-not-is_name c =
     let page = c.args.page.now in
     let name = c.args.name.now in
     let f = sym is-formed.ensures ∙ if1.false in
-    find-malformed page name f (sym is_name.ensures ∙ c.if-not-is_name.true)
+    find_malformed page name f (sym is_name.ensures ∙ c.if-not-is_name.true)
 
 pub count-n-requires : goal.count-n-requires
 count-n-requires c =
@@ -28,7 +28,7 @@ pub find-k-requires : goal.find-k-requires
 find-k-requires c =
     let is-formed = c.is_formed in
     let if1 = c.if-not-is_formed in
-    fits-to c.args.page.now (form c.args.page.now (sym is-formed.ensures ∙ if1.false))
+    fits_to c.args.page.now (form c.args.page.now (sym is-formed.ensures ∙ if1.false))
     c.count-n.result (le_of_eq c.count-n.ensures.0)
 
 pub returns-then-k-n : goal.returns-then-k-n
@@ -42,7 +42,7 @@ returns-then-k-n c =
     let page = c.args.page.now in
     let name = c.args.name.now in
     let f = sym is-formed.ensures ∙ if1.false in
-    find-known page name f (sym is_name.ensures ∙ if2.false) count.result find.result count.ensures.0
+    find_known page name f (sym is_name.ensures ∙ if2.false) count.result find.result count.ensures.0
     find.ensures c.if-k-n.true
 
 pub returns : goal.returns
@@ -56,5 +56,5 @@ returns c =
     let page = c.args.page.now in
     let name = c.args.name.now in
     let f = sym is-formed.ensures ∙ if1.false in
-    find-absent page name f (sym is_name.ensures ∙ if2.false) count.result find.result count.ensures.0
+    find_absent page name f (sym is_name.ensures ∙ if2.false) count.result find.result count.ensures.0
     find.ensures c.if-k-n.false

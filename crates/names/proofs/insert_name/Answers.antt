@@ -3,9 +3,9 @@ use Prim.Native.Nat.{◌≤◌}
 use native.Mathlib.Nat.{le_of_eq}
 use native.Mathlib.Omega.{arith}
 use lib.ListN.{length}
-use Rattle.pages.proofs.Quant.{first-le}
+use Rattle.pages.proofs.Quant.{first_le}
 use Rattle.names.specs.Table.{named}
-use Rattle.names.proofs.Calls.{form, fits-to, name-small, add-malformed, add-known, add-many, add-short, add-new}
+use Rattle.names.proofs.Calls.{form, fits_to, name_small, add_malformed, add_known, add_many, add_short, add_new}
 use Rattle.names.proofs.insert_name.Goals as goal
 
 pub count-n-requires : goal.count-n-requires
@@ -15,7 +15,7 @@ count-n-requires c =
 pub find-k-requires : goal.find-k-requires
 find-k-requires c =
     let count = c.count-n in
-    fits-to c.args.page.now (form c.args.page.now c.requires.0) count.result (le_of_eq count.ensures.0)
+    fits_to c.args.page.now (form c.args.page.now c.requires.0) count.result (le_of_eq count.ensures.0)
 
 pub returns-then-k-n : goal.returns-then-k-n
 returns-then-k-n c =
@@ -27,7 +27,7 @@ returns-then-k-n c =
     let w = sym is_name.ensures ∙ if1.true in
     let n = count in
     let k = c.find-k in
-    add-known c.args.limit page name c.requires.0 w n.result k.result n.ensures.0 k.ensures c.if-k-n.true
+    add_known c.args.limit page name c.requires.0 w n.result k.result n.ensures.0 k.ensures c.if-k-n.true
 
 pub returns-then-n-limit : goal.returns-then-n-limit
 returns-then-n-limit c =
@@ -40,12 +40,12 @@ returns-then-n-limit c =
     let w = sym is_name.ensures ∙ if1.true in
     let n = count in
     let k = find in
-    add-many c.args.limit page name c.requires.0 w n.result k.result n.ensures.0 k.ensures c.if-k-n.false c.if-n-limit.true
+    add_many c.args.limit page name c.requires.0 w n.result k.result n.ensures.0 k.ensures c.if-k-n.false c.if-n-limit.true
 
 pub offset_of-end-requires : goal.offset_of-end-requires
 offset_of-end-requires c =
     let count = c.count-n in
-    fits-to c.args.page.now (form c.args.page.now c.requires.0) count.result (le_of_eq count.ensures.0)
+    fits_to c.args.page.now (form c.args.page.now c.requires.0) count.result (le_of_eq count.ensures.0)
 
 pub overflow_add-end : goal.overflow_add-end
 overflow_add-end c =
@@ -53,8 +53,8 @@ overflow_add-end c =
     let if1 = c.if-is_name in
     let count = c.count-n in
     let page = c.args.page.now in
-    let z : c.offset_of-end.result ≤ length page = rw c.offset_of-end.ensures (fits-to page (form page c.requires.0) count.result (le_of_eq count.ensures.0)) in
-    let y = name-small c.args.name.now (sym is_name.ensures ∙ if1.true) in
+    let z : c.offset_of-end.result ≤ length page = rw c.offset_of-end.ensures (fits_to page (form page c.requires.0) count.result (le_of_eq count.ensures.0)) in
+    let y = name_small c.args.name.now (sym is_name.ensures ∙ if1.true) in
     omega arith
 
 pub overflow_add-end-then-is_name : goal.overflow_add-end-then-is_name
@@ -63,8 +63,8 @@ overflow_add-end-then-is_name c =
     let if1 = c.if-is_name in
     let count = c.count-n in
     let page = c.args.page.now in
-    let z : c.offset_of-end.result ≤ length page = rw c.offset_of-end.ensures (fits-to page (form page c.requires.0) count.result (le_of_eq count.ensures.0)) in
-    let y = name-small c.args.name.now (sym is_name.ensures ∙ if1.true) in
+    let z : c.offset_of-end.result ≤ length page = rw c.offset_of-end.ensures (fits_to page (form page c.requires.0) count.result (le_of_eq count.ensures.0)) in
+    let y = name_small c.args.name.now (sym is_name.ensures ∙ if1.true) in
     omega arith
 
 pub returns-then-page-end : goal.returns-then-page-end
@@ -81,14 +81,14 @@ returns-then-page-end c =
     let w = sym is_name.ensures ∙ if1.true in
     let n = count in
     let k = find in
-    add-short c.args.limit page name c.requires.0 w n.result k.result n.ensures.0 k.ensures if2.false if3.false offset-of.result
+    add_short c.args.limit page name c.requires.0 w n.result k.result n.ensures.0 k.ensures if2.false if3.false offset-of.result
     offset-of.ensures c.if-page-end.true
 
 pub overflow_cast-size : goal.overflow_cast-size
 overflow_cast-size c =
     let is_name = c.is_name in
     let if1 = c.if-is_name in
-    let y = name-small c.args.name.now (sym is_name.ensures ∙ if1.true) in omega arith
+    let y = name_small c.args.name.now (sym is_name.ensures ∙ if1.true) in omega arith
 
 pub put_bytes-requires-then-is_name-2 : goal.put_bytes-requires-then-is_name-2
 put_bytes-requires-then-is_name-2 c =
@@ -118,11 +118,11 @@ returns-else-page-end c =
     let w = sym is_name.ensures ∙ if1.true in
     let n = count in
     let k = find in
-    let m = first-le (named page name) n.result in
+    let m = first_le (named page name) n.result in
     let e : k.result ≡ n.result = omega (arith, k.ensures, m, if2.false) in
-    let d = add-new c.args.limit page name c.requires.0 w n.result k.result n.ensures.0 k.ensures if2.false if3.false offset-of.result offset-of.ensures e if4.false in
+    let d = add_new c.args.limit page name c.requires.0 w n.result k.result n.ensures.0 k.ensures if2.false if3.false offset-of.result offset-of.ensures e if4.false in
     (d.0, put-bytes3.ensures ∙ rw (put-bytes2.ensures, put-bytes.ensures, count-bytes.ensures) d.1)
 
 pub returns-else-is_name : goal.returns-else-is_name
 returns-else-is_name c =
-    add-malformed c.args.limit c.args.page.now c.args.name.now c.requires.0 (sym c.is_name.ensures ∙ c.if-is_name.false)
+    add_malformed c.args.limit c.args.page.now c.args.name.now c.requires.0 (sym c.is_name.ensures ∙ c.if-is_name.false)

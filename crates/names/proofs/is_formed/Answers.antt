@@ -1,24 +1,24 @@
 use mathlib.Core.Path.{◌≡◌, sym, ◌∙◌}
 use native.Mathlib.Omega.{arith}
-use Rattle.names.proofs.Table.{bad-past, bad-long, bad-name, unformed-short, unformed-many, unformed-at, formed-when}
-use Rattle.names.proofs.Prints.{tables-none, tables-more, head-is, known-name}
+use Rattle.names.proofs.Table.{bad_past, bad_long, bad_name, unformed_short, unformed_many, unformed_at, formed_when}
+use Rattle.names.proofs.Prints.{tables_none, tables_more, head_is, known_name}
 use Rattle.names.proofs.is_formed.Goals as goal
 
 pub returns-then-page-lt-COUNT_BYTES : goal.returns-then-page-lt-COUNT_BYTES
-returns-then-page-lt-COUNT_BYTES c = unformed-short _ c.if-page-lt-COUNT_BYTES.true
+returns-then-page-lt-COUNT_BYTES c = unformed_short _ c.if-page-lt-COUNT_BYTES.true
 
 pub returns-then-n-gt-NAMES : goal.returns-then-n-gt-NAMES
 returns-then-n-gt-NAMES c =
     let if1 = c.if-page-lt-COUNT_BYTES in
     let count = c.count-n in
-    unformed-many _ _ count.ensures.0 if1.false c.if-n-gt-NAMES.true
+    unformed_many _ _ count.ensures.0 if1.false c.if-n-gt-NAMES.true
 
 pub loop-i-init : goal.loop-i-init
 loop-i-init c =
     let if1 = c.if-page-lt-COUNT_BYTES in
     let no-heads = c.no_heads-heads in
     let no-links = c.no_links-links in
-    (omega arith, omega (arith, if1.false), tables-none c.args.page.now _ _ _ if1.false no-heads.ensures no-links.ensures c.no_offsets-offsets.ensures)
+    (omega arith, omega (arith, if1.false), tables_none c.args.page.now _ _ _ if1.false no-heads.ensures no-links.ensures c.no_offsets-offsets.ensures)
 
 pub returns-then-at-page : goal.returns-then-at-page
 returns-then-at-page c =
@@ -27,8 +27,8 @@ returns-then-at-page c =
     let if2 = c.if-n-gt-NAMES in
     let loop = c.loop-i in
     let loop-test = c.loop-i-test in
-    (unformed-at c.args.page.now _ count.ensures.0 if1.false if2.false loop.i loop-test.true)
-    (bad-past c.args.page.now loop.i loop.at loop.invariant.2.stands c.if-at-page.true)
+    (unformed_at c.args.page.now _ count.ensures.0 if1.false if2.false loop.i loop-test.true)
+    (bad_past c.args.page.now loop.i loop.at loop.invariant.2.stands c.if-at-page.true)
 
 pub returns-then-end-page : goal.returns-then-end-page
 returns-then-end-page c =
@@ -38,8 +38,8 @@ returns-then-end-page c =
     let loop = c.loop-i in
     let loop-test = c.loop-i-test in
     let index = c.index in
-    (unformed-at c.args.page.now _ count.ensures.0 if1.false if2.false loop.i loop-test.true)
-    (bad-long c.args.page.now loop.i loop.at index.result loop.invariant.2.stands index.ensures.0 c.if-end-page.true)
+    (unformed_at c.args.page.now _ count.ensures.0 if1.false if2.false loop.i loop-test.true)
+    (bad_long c.args.page.now loop.i loop.at index.result loop.invariant.2.stands index.ensures.0 c.if-end-page.true)
 
 pub returns-then-not-is_name : goal.returns-then-not-is_name
 returns-then-not-is_name c =
@@ -51,8 +51,8 @@ returns-then-not-is_name c =
     let index = c.index in
     let if4 = c.if-end-page in
     let is_name = c.is_name in
-    (unformed-at c.args.page.now _ count.ensures.0 if1.false if2.false loop.i loop-test.true)
-    (bad-name c.args.page.now loop.i loop.at index.result loop.invariant.2.stands index.ensures.0 if4.false (sym is_name.ensures ∙ c.if-not-is_name.true))
+    (unformed_at c.args.page.now _ count.ensures.0 if1.false if2.false loop.i loop-test.true)
+    (bad_name c.args.page.now loop.i loop.at index.result loop.invariant.2.stands index.ensures.0 if4.false (sym is_name.ensures ∙ c.if-not-is_name.true))
 
 pub slice_bounds-is_among-end : goal.slice_bounds-is_among-end
 slice_bounds-is_among-end c =
@@ -73,7 +73,7 @@ is_among-requires c =
     let if5 = c.if-not-is_name in
     let print-of = c.print_of-print in
     let word-index = c.word_index-head in
-    (loop.invariant.2.chain, head-is c.args.page.now loop.i loop.at index.result loop.heads loop.links loop.offsets loop.invariant.2 index.ensures.0 if4.false (sym is_name.ensures ∙ if5.false) print-of.result print-of.ensures.0 print-of.ensures.1 word-index.result word-index.ensures.0)
+    (loop.invariant.2.chain, head_is c.args.page.now loop.i loop.at index.result loop.heads loop.links loop.offsets loop.invariant.2 index.ensures.0 if4.false (sym is_name.ensures ∙ if5.false) print-of.result print-of.ensures.0 print-of.ensures.1 word-index.result word-index.ensures.0)
 
 pub returns-then-is_among : goal.returns-then-is_among
 returns-then-is_among c =
@@ -87,8 +87,8 @@ returns-then-is_among c =
     let is_name = c.is_name in
     let if5 = c.if-not-is_name in
     let is_among = c.is_among in
-    (unformed-at c.args.page.now _ count.ensures.0 if1.false if2.false loop.i loop-test.true)
-    (known-name c.args.page.now loop.i loop.at index.result loop.heads loop.links loop.offsets loop.invariant.2 index.ensures.0 if4.false (sym is_name.ensures ∙ if5.false) is_among.result is_among.ensures c.if-is_among.true)
+    (unformed_at c.args.page.now _ count.ensures.0 if1.false if2.false loop.i loop-test.true)
+    (known_name c.args.page.now loop.i loop.at index.result loop.heads loop.links loop.offsets loop.invariant.2 index.ensures.0 if4.false (sym is_name.ensures ∙ if5.false) is_among.result is_among.ensures c.if-is_among.true)
 
 pub slice_bounds-note-end : goal.slice_bounds-note-end
 slice_bounds-note-end c =
@@ -136,7 +136,7 @@ loop-i-preserved c =
     let if6 = c.if-is_among in
     let note = c.note in
     let link = c.link in
-    (omega (arith, loop-test.true), if4.false, tables-more c.args.page.now loop.i loop.at index.result loop.heads loop.links loop.offsets loop.invariant.2 index.ensures.0 if4.false (sym is_name.ensures ∙ if5.false) print-of.result print-of.ensures.0 print-of.ensures.1 is_among.result is_among.ensures if6.false (omega (arith, loop-test.true, if2.false)) _ _ _ link.ensures.0 link.ensures.1 note.ensures)
+    (omega (arith, loop-test.true), if4.false, tables_more c.args.page.now loop.i loop.at index.result loop.heads loop.links loop.offsets loop.invariant.2 index.ensures.0 if4.false (sym is_name.ensures ∙ if5.false) print-of.result print-of.ensures.0 print-of.ensures.1 is_among.result is_among.ensures if6.false (omega (arith, loop-test.true, if2.false)) _ _ _ link.ensures.0 link.ensures.1 note.ensures)
 
 pub returns : goal.returns
 returns c =
@@ -145,4 +145,4 @@ returns c =
     let if2 = c.if-n-gt-NAMES in
     let loop = c.loop-i in
     let e : loop.i ≡ count.result = omega arith in
-    c.zeros_from.ensures ∙ formed-when c.args.page.now _ count.ensures.0 if1.false if2.false (rw e at loop.invariant.2.good) _ (rw e at loop.invariant.2.stands)
+    c.zeros_from.ensures ∙ formed_when c.args.page.now _ count.ensures.0 if1.false if2.false (rw e at loop.invariant.2.good) _ (rw e at loop.invariant.2.stands)

@@ -1,25 +1,25 @@
-use Rattle.names.proofs.Table.{byte-1, byte-2, byte-3, byte-4, byte-5, byte-6, byte-7}
+use Rattle.names.proofs.Table.{byte_1, byte_2, byte_3, byte_4, byte_5, byte_6, byte_7}
 use Rattle.names.proofs.is_name_byte.Goals as goal
 
 pub returns-then-b-lt48 : goal.returns-then-b-lt48
-returns-then-b-lt48 c = byte-1 _ c.if-b-lt48.true
+returns-then-b-lt48 c = byte_1 _ c.if-b-lt48.true
 
 pub returns-then-b-le57 : goal.returns-then-b-le57
-returns-then-b-le57 c = byte-2 _ c.if-b-lt48.false c.if-b-le57.true
+returns-then-b-le57 c = byte_2 _ c.if-b-lt48.false c.if-b-le57.true
 
 pub returns-then-b-lt65 : goal.returns-then-b-lt65
-returns-then-b-lt65 c = byte-3 _ c.if-b-le57.false c.if-b-lt65.true
+returns-then-b-lt65 c = byte_3 _ c.if-b-le57.false c.if-b-lt65.true
 
 pub returns-then-b-le90 : goal.returns-then-b-le90
-returns-then-b-le90 c = byte-4 _ c.if-b-lt65.false c.if-b-le90.true
+returns-then-b-le90 c = byte_4 _ c.if-b-lt65.false c.if-b-le90.true
 
 pub returns-then-b-eq95 : goal.returns-then-b-eq95
-returns-then-b-eq95 c = byte-5 _ c.if-b-eq95.true
+returns-then-b-eq95 c = byte_5 _ c.if-b-eq95.true
 
 pub returns-then-b-lt97 : goal.returns-then-b-lt97
 returns-then-b-lt97 c =
     let if4 = c.if-b-le90 in
-    byte-6 _ if4.false c.if-b-lt97.true c.if-b-eq95.false
+    byte_6 _ if4.false c.if-b-lt97.true c.if-b-eq95.false
 
 pub returns : goal.returns
-returns c = byte-7 _ c.if-b-lt97.false
+returns c = byte_7 _ c.if-b-lt97.false

@@ -4,17 +4,17 @@ use native.Mathlib.Nat.{le_of_lt}
 use native.Mathlib.Omega.{arith}
 use lib.ListN.{get_or}
 use Rattle.names.specs.Table.{offset}
-use Rattle.names.proofs.Table.{part-is}
-use Rattle.names.proofs.Calls.{form, fits-to, name-small, in-use-named}
+use Rattle.names.proofs.Table.{part_is}
+use Rattle.names.proofs.Calls.{form, fits_to, name_small, in_use_named}
 use Rattle.names.proofs.name_of.Goals as goal
 
 pub offset_of-at-requires : goal.offset_of-at-requires
-offset_of-at-requires c = fits-to c.args.page.now (form c.args.page.now c.requires.0) c.args.k (le_of_lt c.requires.1)
+offset_of-at-requires c = fits_to c.args.page.now (form c.args.page.now c.requires.0) c.args.k (le_of_lt c.requires.1)
 
 pub overflow_add-start : goal.overflow_add-start
 unfolding offset
 overflow_add-start c = let f = form c.args.page.now c.requires.0 in
-    let z = fits-to c.args.page.now f (suc c.args.k) c.requires.1 in
+    let z = fits_to c.args.page.now f (suc c.args.k) c.requires.1 in
     let o : offset c.args.page.now (suc c.args.k) ≡ c.offset_of-at.result + 1 + get_or c.args.page.now c.offset_of-at.result 0 = rw c.offset_of-at.ensures in
     omega arith
 
@@ -23,7 +23,7 @@ unfolding offset
 bounds-page-at c =
     let offset-of = c.offset_of-at in
     let f = form c.args.page.now c.requires.0 in
-    let z = fits-to c.args.page.now f (suc c.args.k) c.requires.1 in
+    let z = fits_to c.args.page.now f (suc c.args.k) c.requires.1 in
     let o : offset c.args.page.now (suc c.args.k) ≡ offset-of.result + 1 + get_or c.args.page.now offset-of.result 0 = rw offset-of.ensures in
     omega arith
 
@@ -32,7 +32,7 @@ unfolding offset
 overflow_add-end c =
     let offset-of = c.offset_of-at in
     let f = form c.args.page.now c.requires.0 in
-    let z = fits-to c.args.page.now f (suc c.args.k) c.requires.1 in
+    let z = fits_to c.args.page.now f (suc c.args.k) c.requires.1 in
     let o : offset c.args.page.now (suc c.args.k) ≡ offset-of.result + 1 + get_or c.args.page.now offset-of.result 0 = rw offset-of.ensures in
     omega (arith, c.index.ensures.0)
 
@@ -41,7 +41,7 @@ unfolding offset
 slice_bounds-result-end c =
     let offset-of = c.offset_of-at in
     let f = form c.args.page.now c.requires.0 in
-    let z = fits-to c.args.page.now f (suc c.args.k) c.requires.1 in
+    let z = fits_to c.args.page.now f (suc c.args.k) c.requires.1 in
     let o : offset c.args.page.now (suc c.args.k) ≡ offset-of.result + 1 + get_or c.args.page.now offset-of.result 0 = rw offset-of.ensures in
     omega (arith, c.index.ensures.0)
 
@@ -49,6 +49,6 @@ pub returns : goal.returns
 returns c =
     let offset-of = c.offset_of-at in
     let index = c.index in
-    let e = part-is c.args.page.now c.args.k offset-of.result index.result offset-of.ensures index.ensures.0 in
-    let s = name-small _ (in-use-named c.args.page.now (form c.args.page.now c.requires.0) c.args.k c.requires.1) in
+    let e = part_is c.args.page.now c.args.k offset-of.result index.result offset-of.ensures index.ensures.0 in
+    let s = name_small _ (in_use_named c.args.page.now (form c.args.page.now c.requires.0) c.args.k c.requires.1) in
     (e, rw e s.0, rw e s.1)

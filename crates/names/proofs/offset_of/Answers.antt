@@ -1,35 +1,35 @@
 use mathlib.Core.Path.{◌≡◌, refl}
 use native.Mathlib.Omega.{arith}
-use Rattle.names.proofs.Table.{offset-ge, step-in, step-at}
+use Rattle.names.proofs.Table.{offset_ge, step_in, step_at}
 use Rattle.names.specs.Table.{offset}
 use Rattle.names.proofs.offset_of.Goals as goal
 
 pub loop-i-init : goal.loop-i-init
 unfolding offset
 loop-i-init c =
-    (omega arith, refl, let z = offset-ge c.args.page.now c.args.n in omega (arith, c.requires))
+    (omega arith, refl, let z = offset_ge c.args.page.now c.args.n in omega (arith, c.requires))
 
 pub overflow_add-at : goal.overflow_add-at
 overflow_add-at c =
     let loop = c.loop-i in
-    let z = step-in c.args.page.now loop.i loop.at c.args.n loop.invariant.1 c.loop-i-test.true c.requires in omega arith
+    let z = step_in c.args.page.now loop.i loop.at c.args.n loop.invariant.1 c.loop-i-test.true c.requires in omega arith
 
 pub bounds-page-at : goal.bounds-page-at
 bounds-page-at c =
     let loop = c.loop-i in
-    let z = step-in c.args.page.now loop.i loop.at c.args.n loop.invariant.1 c.loop-i-test.true c.requires in omega arith
+    let z = step_in c.args.page.now loop.i loop.at c.args.n loop.invariant.1 c.loop-i-test.true c.requires in omega arith
 
 pub overflow_add-at-in-loop-i : goal.overflow_add-at-in-loop-i
 overflow_add-at-in-loop-i c =
     let loop = c.loop-i in
     let loop-test = c.loop-i-test in
-    let z = step-in c.args.page.now loop.i loop.at c.args.n loop.invariant.1 loop-test.true c.requires in omega arith
+    let z = step_in c.args.page.now loop.i loop.at c.args.n loop.invariant.1 loop-test.true c.requires in omega arith
 
 pub loop-i-preserved : goal.loop-i-preserved
 loop-i-preserved c =
     let loop = c.loop-i in
     let loop-test = c.loop-i-test in
-    (omega arith, step-at c.args.page.now loop.i loop.at c.args.n loop.invariant.1 loop-test.true c.requires _ c.index.ensures.0, let z = step-in c.args.page.now loop.i loop.at c.args.n loop.invariant.1 loop-test.true c.requires in omega arith)
+    (omega arith, step_at c.args.page.now loop.i loop.at c.args.n loop.invariant.1 loop-test.true c.requires _ c.index.ensures.0, let z = step_in c.args.page.now loop.i loop.at c.args.n loop.invariant.1 loop-test.true c.requires in omega arith)
 
 pub returns : goal.returns
 returns c =

@@ -1,13 +1,13 @@
 use mathlib.Core.Path.{sym, ap, ◌∙◌}
-use Rattle.names.specs.Calls.{nameOf}
-use Rattle.names.proofs.Used.{used-below}
-use Rattle.names.proofs.Calls.{form, read-broken, read-unused, read-name}
+use Rattle.names.specs.Calls.{name_of}
+use Rattle.names.proofs.Used.{used_below}
+use Rattle.names.proofs.Calls.{form, read_broken, read_unused, read_name}
 use Rattle.names.proofs.read_name.Goals as goal
 
 pub returns-then-not-is_formed : goal.returns-then-not-is_formed
 returns-then-not-is_formed c =
     let is-formed = c.is_formed in
-    c.no_name.ensures ∙ read-broken c.args.page.now c.args.k (sym is-formed.ensures ∙ c.if-not-is_formed.true)
+    c.no_name.ensures ∙ read_broken c.args.page.now c.args.k (sym is-formed.ensures ∙ c.if-not-is_formed.true)
 
 pub count-requires : goal.count-requires
 count-requires c =
@@ -20,7 +20,7 @@ returns-then-not-is_used c =
     let if1 = c.if-not-is_formed in
     let count = c.count in
     let is-used = c.is_used in
-    c.no_name-then-not-is_used.ensures ∙ read-unused c.args.page.now c.args.k
+    c.no_name-then-not-is_used.ensures ∙ read_unused c.args.page.now c.args.k
     (sym is-formed.ensures ∙ if1.false) count.result count.ensures.0
     (sym is-used.ensures ∙ c.if-not-is_used.true)
 
@@ -31,7 +31,7 @@ name_of-requires c =
     let count = c.count in
     let is-used = c.is_used in
     let used = sym is-used.ensures ∙ c.if-not-is_used.false in
-    (sym is-formed.ensures ∙ if1.false, rw (← count.ensures.0) (used-below count.result c.args.k used).0)
+    (sym is-formed.ensures ∙ if1.false, rw (← count.ensures.0) (used_below count.result c.args.k used).0)
 
 pub copied-requires : goal.copied-requires
 copied-requires c = c.name_of.ensures.2
@@ -43,6 +43,6 @@ returns c =
     let count = c.count in
     let is-used = c.is_used in
     let if2 = c.if-not-is_used in
-    c.copied.ensures ∙ ap nameOf c.name_of.ensures.0 ∙ read-name c.args.page.now c.args.k
+    c.copied.ensures ∙ ap name_of c.name_of.ensures.0 ∙ read_name c.args.page.now c.args.k
     (sym is-formed.ensures ∙ if1.false) count.result count.ensures.0
     (sym is-used.ensures ∙ if2.false)

@@ -1,8 +1,8 @@
-use Rattle.operators.specs.Outcome.{plainBinary}
+use Rattle.operators.specs.Outcome.{plain_binary}
 use Rattle.operators.proofs.plain_binary.Goals as goal
 
 pub returns-then-does_fit : goal.returns-then-does_fit
-unfolding plainBinary
+unfolding plain_binary
 returns-then-does_fit c =
     let does-fit = c.does_fit in
     let if1 = c.if-does_fit in
@@ -10,5 +10,5 @@ returns-then-does_fit c =
     rw (← does-fit.ensures, if1.true, ← given.ensures) c.known.ensures
 
 pub returns : goal.returns
-unfolding plainBinary
+unfolding plain_binary
 returns c = rw (← c.does_fit.ensures, c.if-does_fit.false) c.misfit_of.ensures

@@ -1,11 +1,11 @@
 use mathlib.Core.Path.{ap, ◌∙◌}
 use borrow.Author.Tests.{eq-eqb, ne_eqb}
 use Rattle.matching.specs.declared.Checked.TheVariants.{Unknown}
-use Rattle.operators.specs.Outcome.{outcome, plainUnary}
+use Rattle.operators.specs.Outcome.{outcome, plain_unary}
 use Rattle.operators.proofs.plain_unary.Goals as goal
 
 pub returns-then-taker_of-op : goal.returns-then-taker_of-op
-unfolding plainUnary
+unfolding plain_unary
 returns-then-taker_of-op c =
     let taker-of = c.taker_of in
     let if1 = c.if-taker_of-op in
@@ -13,7 +13,7 @@ returns-then-taker_of-op c =
     rw (← taker-of.ensures, eq-eqb _ _ if1.true, ← family-of.ensures) c.known.ensures
 
 pub returns : goal.returns
-unfolding plainUnary
+unfolding plain_unary
 returns c =
     let taker-of = c.taker_of in
     let if1 = c.if-taker_of-op in

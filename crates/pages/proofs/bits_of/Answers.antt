@@ -1,6 +1,6 @@
 use mathlib.Core.Path.{refl, sym, ◌∙◌}
 use native.Mathlib.Omega.{arith}
-use Rattle.pages.proofs.Bytes.{bits-more, bits-all}
+use Rattle.pages.proofs.Bytes.{bits_more, bits_all}
 use Rattle.pages.proofs.bits_of.Goals as goal
 
 pub loop-i-init : goal.loop-i-init
@@ -9,9 +9,9 @@ loop-i-init c = (omega arith, refl)
 pub loop-i-preserved : goal.loop-i-preserved
 loop-i-preserved c =
     let loop = c.loop-i in
-    (omega arith, loop.invariant.1 ∙ bits-more c.args.bytes.now loop.i (omega arith) loop.bits)
+    (omega arith, loop.invariant.1 ∙ bits_more c.args.bytes.now loop.i (omega arith) loop.bits)
 
 pub returns : goal.returns
 returns c =
     let loop = c.loop-i in
-    bits-all loop.bits c.args.bytes.now loop.i (omega arith) ∙ sym loop.invariant.1
+    bits_all loop.bits c.args.bytes.now loop.i (omega arith) ∙ sym loop.invariant.1

@@ -1,4 +1,4 @@
-use Rattle.pages.proofs.Bytes.{four-words}
+use Rattle.pages.proofs.Bytes.{four_words}
 use Rattle.pages.proofs.long.Goals as goal
 
 pub returns : goal.returns
@@ -7,4 +7,4 @@ returns c =
     let y = c.word_at-b.ensures.0 in
     let z = c.word_at-c.ensures.0 in
     let u = c.word_at-d.ensures.0 in
-    rw (x, y, z, u) (four-words c.args.page.now c.args.at)
+    rw (x, y, z, u) (four_words c.args.page.now c.args.at)

@@ -1,28 +1,28 @@
 use mathlib.Core.Path.{◌≡◌, sym}
 use native.Mathlib.Omega.{arith}
 use borrow.Author.Tests.{eq-eqb, ne_eqb}
-use Rattle.pages.proofs.Quant.{any-none, any-more, first-none, first-at}
-use Rattle.pairs.specs.Calls.{isOf}
+use Rattle.pages.proofs.Quant.{any_none, any_more, first_none, first_at}
+use Rattle.pairs.specs.Calls.{is_of}
 use Rattle.pairs.proofs.find_symbol.Goals as goal
 
 pub loop-i-init : goal.loop-i-init
-loop-i-init c = (omega arith, any-none (isOf c.args.bodies.now c.args.symbol))
+loop-i-init c = (omega arith, any_none (is_of c.args.bodies.now c.args.symbol))
 
 pub returns-then-symbol_at-symbol : goal.returns-then-symbol_at-symbol
 returns-then-symbol_at-symbol c =
     let a = c.args in
     let l = c.loop-i in
-    sym (first-at (isOf a.bodies.now a.symbol) a.k l.i c.loop-i-test.true l.invariant.1 (eq-eqb _ _ (rw c.symbol_at.ensures at c.if-symbol_at-symbol.true)))
+    sym (first_at (is_of a.bodies.now a.symbol) a.k l.i c.loop-i-test.true l.invariant.1 (eq-eqb _ _ (rw c.symbol_at.ensures at c.if-symbol_at-symbol.true)))
 
 pub loop-i-preserved : goal.loop-i-preserved
 loop-i-preserved c =
     let a = c.args in
     let l = c.loop-i in
-    (omega arith, any-more (isOf a.bodies.now a.symbol) l.i l.invariant.1 (ne_eqb _ _ (rw c.symbol_at.ensures at c.if-symbol_at-symbol.false)))
+    (omega arith, any_more (is_of a.bodies.now a.symbol) l.i l.invariant.1 (ne_eqb _ _ (rw c.symbol_at.ensures at c.if-symbol_at-symbol.false)))
 
 pub returns : goal.returns
 returns c =
     let a = c.args in
     let l = c.loop-i in
     let e : l.i ≡ a.k = omega (arith, l.invariant.0, c.loop-i-test.false) in
-    sym (first-none (isOf a.bodies.now a.symbol) a.k (rw e at l.invariant.1))
+    sym (first_none (is_of a.bodies.now a.symbol) a.k (rw e at l.invariant.1))

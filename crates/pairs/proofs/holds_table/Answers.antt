@@ -1,20 +1,20 @@
 use mathlib.Core.Path.{◌∙◌}
-use Rattle.pairs.proofs.Page.{held-short, held-many, held-cut, held-rest}
+use Rattle.pairs.proofs.Page.{held_short, held_many, held_cut, held_rest}
 use Rattle.pairs.proofs.holds_table.Goals as goal
 
 pub returns-then-page-lt-COUNT_BYTES : goal.returns-then-page-lt-COUNT_BYTES
 returns-then-page-lt-COUNT_BYTES c =
-    held-short c.args.page.now c.if-page-lt-COUNT_BYTES.true
+    held_short c.args.page.now c.if-page-lt-COUNT_BYTES.true
 
 pub returns-then-k-gt-PAIRS : goal.returns-then-k-gt-PAIRS
 returns-then-k-gt-PAIRS c =
     let count = c.count-k in
-    held-many c.args.page.now count.result count.ensures.0 c.if-k-gt-PAIRS.true
+    held_many c.args.page.now count.result count.ensures.0 c.if-k-gt-PAIRS.true
 
 pub returns-then-page-end : goal.returns-then-page-end
 returns-then-page-end c =
     let count = c.count-k in
-    held-cut c.args.page.now count.result
+    held_cut c.args.page.now count.result
     count.ensures.0 c.if-k-gt-PAIRS.false (rw c.size_of-end.ensures at c.if-page-end.true)
 
 pub returns : goal.returns
@@ -23,4 +23,4 @@ returns c =
     let count = c.count-k in
     c.zeros_from.ensures
     ∙ rw type_size.ensures
-    (held-rest c.args.page.now count.result count.ensures.0 c.if-k-gt-PAIRS.false (rw type_size.ensures at c.if-page-end.false))
+    (held_rest c.args.page.now count.result count.ensures.0 c.if-k-gt-PAIRS.false (rw type_size.ensures at c.if-page-end.false))

@@ -1,11 +1,11 @@
 use mathlib.Core.Path.{sym, ◌∙◌}
-use Rattle.pairs.proofs.Calls.{broken-names, broken-rest}
+use Rattle.pairs.proofs.Calls.{broken_names, broken_rest}
 use Rattle.pairs.proofs.is_broken.Goals as goal
 
 pub returns-then-is_broken : goal.returns-then-is_broken
 returns-then-is_broken c =
     let a = c.args in
-    broken-names a.page.now a.names.now a.lent (sym c.is_broken.ensures ∙ c.if-is_broken.true)
+    broken_names a.page.now a.names.now a.lent (sym c.is_broken.ensures ∙ c.if-is_broken.true)
 
 pub in_use-requires : goal.in_use-requires
 in_use-requires c = sym c.is_broken.ensures ∙ c.if-is_broken.false
@@ -14,4 +14,4 @@ pub returns : goal.returns
 returns c =
     let a = c.args in
     rw (c.is_formed.ensures, c.in_use.ensures.0)
-    (broken-rest a.page.now a.names.now a.lent (sym c.is_broken.ensures ∙ c.if-is_broken.false))
+    (broken_rest a.page.now a.names.now a.lent (sym c.is_broken.ensures ∙ c.if-is_broken.false))

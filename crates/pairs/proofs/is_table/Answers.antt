@@ -2,34 +2,34 @@ use mathlib.Core.Path.{◌≡◌, sym, ◌∙◌}
 use Prim.Native.Nat.{◌*◌}
 use native.Mathlib.Omega.{arith}
 use lib.ListN.{length}
-use Rattle.pairs.specs.Table.{pairsMax, pairBytes}
-use Rattle.pairs.proofs.Table.{form-many, form-unused, form-rest}
+use Rattle.pairs.specs.Table.{pairs_max, pair_bytes}
+use Rattle.pairs.proofs.Table.{form_many, form_unused, form_rest}
 use borrow.Author.Rules.{rules}
 use Rattle.pairs.proofs.is_table.Goals as goal
 
 pub returns-then-k-gt-PAIRS : goal.returns-then-k-gt-PAIRS
-returns-then-k-gt-PAIRS c = form-many c.args.t c.args.n c.if-k-gt-PAIRS.true
+returns-then-k-gt-PAIRS c = form_many c.args.t c.args.n c.if-k-gt-PAIRS.true
 
 pub all_used-requires : goal.all_used-requires
 all_used-requires c =
-    let z : length c.args.t.pairs ≡ pairBytes * pairsMax = search rules in
+    let z : length c.args.t.pairs ≡ pair_bytes * pairs_max = search rules in
     omega (arith, z, c.if-k-gt-PAIRS.false)
 
 pub returns-then-not-all_used : goal.returns-then-not-all_used
 returns-then-not-all_used c =
     let if1 = c.if-k-gt-PAIRS in
     let all-used = c.all_used in
-    form-unused c.args.t c.args.n
+    form_unused c.args.t c.args.n
     if1.false (sym all-used.ensures ∙ c.if-not-all_used.true)
 
 pub replayed-given-requires : goal.replayed-given-requires
 replayed-given-requires c =
     let if1 = c.if-k-gt-PAIRS in
-    let z : length c.args.t.pairs ≡ pairBytes * pairsMax = search rules in
+    let z : length c.args.t.pairs ≡ pair_bytes * pairs_max = search rules in
     omega (arith, z, if1.false)
 
 pub returns : goal.returns
 returns c =
     let a = c.args in
     let u = sym c.all_used.ensures ∙ c.if-not-all_used.false in
-    c.are_same.ensures ∙ rw c.replayed-given.ensures (form-rest a.t a.n c.if-k-gt-PAIRS.false u)
+    c.are_same.ensures ∙ rw c.replayed-given.ensures (form_rest a.t a.n c.if-k-gt-PAIRS.false u)

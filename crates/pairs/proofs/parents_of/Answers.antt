@@ -1,17 +1,17 @@
 use mathlib.Core.Path.{◌≡◌, ap, ◌∙◌}
 use lib.ListN.{length}
 use native.Mathlib.Omega.{arith}
-use Rattle.names.specs.Table.{namesMax}
-use Rattle.groups.proofs.UnionFind.{length-selves}
-use Rattle.pairs.proofs.Page.{parents-read}
+use Rattle.names.specs.Table.{names_max}
+use Rattle.groups.proofs.UnionFind.{length_selves}
+use Rattle.pairs.proofs.Page.{parents_read}
 use Rattle.pairs.proofs.parents_of.Goals as goal
 
 pub read_bytes-requires : goal.read_bytes-requires
 read_bytes-requires c =
-    let size = ap length c.own_parents-parents.ensures ∙ length-selves 0 namesMax in
+    let size = ap length c.own_parents-parents.ensures ∙ length_selves 0 names_max in
     omega (arith, size, c.parents_at-at.ensures, c.count.ensures.0, c.requires.room)
 
 pub returns : goal.returns
 returns c =
-    let size : length c.own_parents-parents.result ≡ namesMax = ap length c.own_parents-parents.ensures ∙ length-selves 0 namesMax in
-    parents-read c.args.page.now c.parents_at-at.result c.requires (c.parents_at-at.ensures ∙ rw c.count.ensures.0) _ (c.read_bytes.ensures ∙ rw size)
+    let size : length c.own_parents-parents.result ≡ names_max = ap length c.own_parents-parents.ensures ∙ length_selves 0 names_max in
+    parents_read c.args.page.now c.parents_at-at.result c.requires (c.parents_at-at.ensures ∙ rw c.count.ensures.0) _ (c.read_bytes.ensures ∙ rw size)

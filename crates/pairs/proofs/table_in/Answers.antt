@@ -1,11 +1,11 @@
 use mathlib.Core.Path.{◌∙◌}
-use Rattle.pairs.proofs.Page.{table-read}
+use Rattle.pairs.proofs.Page.{table_read}
 use Rattle.pairs.proofs.table_in.Goals as goal
 
 pub returns : goal.returns
 returns c =
     let k = c.count-k in
-    table-read c.args.page.now k.result c.parents_at-at.result k.ensures.0
+    table_read c.args.page.now k.result c.parents_at-at.result k.ensures.0
     c.parents_at-at.ensures
     (rw k.ensures.0 c.requires.few)
     (rw k.ensures.0 c.requires.room) _ _

@@ -2,31 +2,31 @@ use mathlib.Core.Path.{sym, ap, ◌∙◌}
 use mir.Syntax.{w16}
 use mir.Val.{to_z, of_z}
 use Rattle.units.proofs.Signed.{back}
-use Rattle.units.proofs.Form.{expAt}
-use Rattle.sums.proofs.Held.{placesIn, comparing-start, compared-size, compared-all, compared-symbol, compared-exponent, comparing-next}
+use Rattle.units.proofs.Form.{exp_at}
+use Rattle.sums.proofs.Held.{places_in, comparing_start, compared_size, compared_all, compared_symbol, compared_exponent, comparing_next}
 use Rattle.sums.proofs.same_sums.Goals as goal
 
 pub returns-then-n-m : goal.returns-then-n-m
 returns-then-n-m c =
-    compared-size c.args.a c.args.b c.if-n-m.true
+    compared_size c.args.a c.args.b c.if-n-m.true
 
 pub loop-i-init : goal.loop-i-init
 loop-i-init c =
-    comparing-start c.args.a c.args.b c.if-n-m.false
+    comparing_start c.args.a c.args.b c.if-n-m.false
 
 pub returns-then-a-i : goal.returns-then-a-i
 returns-then-a-i c =
     let start = c in
     let loop = c.loop-i in
     let loop-test = c.loop-i-test in
-    compared-symbol start.args.a start.args.b loop.i loop.invariant loop-test.true c.if-a-i.true
+    compared_symbol start.args.a start.args.b loop.i loop.invariant loop-test.true c.if-a-i.true
 
 pub returns-then-a-i-2 : goal.returns-then-a-i-2
 returns-then-a-i-2 c =
     let start = c in
     let loop = c.loop-i in
     let loop-test = c.loop-i-test in
-    compared-exponent start.args.a start.args.b loop.i loop.invariant loop-test.true (λ e. c.if-a-i-2.true (ap (of_z w16) e))
+    compared_exponent start.args.a start.args.b loop.i loop.invariant loop-test.true (λ e. c.if-a-i-2.true (ap (of_z w16) e))
 
 pub loop-i-preserved : goal.loop-i-preserved
 loop-i-preserved c =
@@ -36,13 +36,13 @@ loop-i-preserved c =
     let if2 = c.if-a-i in
     let if32 = c.t20-1 in
     let if33 = c.t23-1 in
-    let a = placesIn start.args.a in
-    let b = placesIn start.args.b in
+    let a = places_in start.args.a in
+    let b = places_in start.args.b in
     let i = loop.i in
-    comparing-next start.args.a start.args.b i loop.invariant loop-test.true if2.false
-    (sym (back (expAt a i) if32.given) ∙ ap (to_z w16) c.if-a-i-2.false ∙ back (expAt b i) if33.given)
+    comparing_next start.args.a start.args.b i loop.invariant loop-test.true if2.false
+    (sym (back (exp_at a i) if32.given) ∙ ap (to_z w16) c.if-a-i-2.false ∙ back (exp_at b i) if33.given)
 
 pub returns : goal.returns
 returns c =
     let loop = c.loop-i in
-    compared-all c.args.a c.args.b loop.i loop.invariant c.loop-i-test.false
+    compared_all c.args.a c.args.b loop.i loop.invariant c.loop-i-test.false

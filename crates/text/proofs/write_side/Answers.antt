@@ -1,16 +1,16 @@
 use mathlib.Core.Path.{sym, ap, ◌∙◌}
 use native.Mathlib.Omega.{arith}
 use Rattle.units.proofs.Signed.{back}
-use Rattle.units.proofs.Form.{expAt}
-use Rattle.units.proofs.Held.{placesOf}
+use Rattle.units.proofs.Form.{exp_at}
+use Rattle.units.proofs.Held.{places_of}
 use Rattle.text.specs.Text.{stands}
-use Rattle.text.proofs.Power.{separator-short}
-use Rattle.text.proofs.Sides.{writing-start, writing-length, here-used, here-inside, here-room, writing-on, writing-off, writing-end}
+use Rattle.text.proofs.Power.{separator_short}
+use Rattle.text.proofs.Sides.{writing_start, writing_length, here_used, here_inside, here_room, writing_on, writing_off, writing_end}
 use Rattle.text.proofs.write_side.Goals as goal
 
 pub loop-i-init : goal.loop-i-init
 loop-i-init c =
-    writing-start c.args.page.now c.args.above (placesOf c.args.v) c.args.out.now c.args.start c.requires.1
+    writing_start c.args.page.now c.args.above (places_of c.args.v) c.args.out.now c.args.start c.requires.1
     (record { used = c.requires.0.used; inside = c.requires.0.inside })
 
 pub write_separator-a-requires : goal.write_separator-a-requires
@@ -19,8 +19,8 @@ write_separator-a-requires c =
     let loop-test = c.loop-i-test in
     let g = c.args in
     let l = loop in
-    let w = writing-length g.page.now g.above (placesOf g.v) g.out.now g.start l.out l.at l.i l.invariant in
-    let r = here-room g.page.now g.above (placesOf g.v) g.out.now g.start l.out l.at l.i l.invariant loop-test.true (sym (c.is_on.ensures ∙ ap (stands c.args.above) (back (expAt (placesOf c.args.v) c.loop-i.i) c.e-1.given)) ∙ c.if-is_on.true) in
+    let w = writing_length g.page.now g.above (places_of g.v) g.out.now g.start l.out l.at l.i l.invariant in
+    let r = here_room g.page.now g.above (places_of g.v) g.out.now g.start l.out l.at l.i l.invariant loop-test.true (sym (c.is_on.ensures ∙ ap (stands c.args.above) (back (exp_at (places_of c.args.v) c.loop-i.i) c.e-1.given)) ∙ c.if-is_on.true) in
     omega (arith, w, r)
 
 pub name_of-requires : goal.name_of-requires
@@ -29,7 +29,7 @@ name_of-requires c =
     let loop-test = c.loop-i-test in
     let g = c.args in
     let l = loop in
-    (c.requires.0.form, rw c.symbol_index.ensures.0 (here-used g.page.now g.above (placesOf g.v) g.out.now g.start l.out l.at l.i l.invariant loop-test.true))
+    (c.requires.0.form, rw c.symbol_index.ensures.0 (here_used g.page.now g.above (places_of g.v) g.out.now g.start l.out l.at l.i l.invariant loop-test.true))
 
 pub size-requires : goal.size-requires
 size-requires c =
@@ -38,8 +38,8 @@ size-requires c =
     let e = c.e-1 in
     let g = c.args in
     let l = loop in
-    rw (back (expAt (placesOf g.v) l.i) e.given)
-    (here-inside g.page.now g.above (placesOf g.v) g.out.now g.start l.out l.at l.i l.invariant loop-test.true)
+    rw (back (exp_at (places_of g.v) l.i) e.given)
+    (here_inside g.page.now g.above (places_of g.v) g.out.now g.start l.out l.at l.i l.invariant loop-test.true)
 
 pub write_power-at-requires : goal.write_power-at-requires
 write_power-at-requires c =
@@ -49,10 +49,10 @@ write_power-at-requires c =
     let write-separator = c.write_separator-a in
     let g = c.args in
     let l = loop in
-    let w = writing-length g.page.now g.above (placesOf g.v) g.out.now g.start l.out l.at l.i l.invariant in
-    let r = here-room g.page.now g.above (placesOf g.v) g.out.now g.start l.out l.at l.i l.invariant loop-test.true (sym (c.is_on.ensures ∙ ap (stands c.args.above) (back (expAt (placesOf c.args.v) c.loop-i.i) c.e-1.given)) ∙ if1.true) in
+    let w = writing_length g.page.now g.above (places_of g.v) g.out.now g.start l.out l.at l.i l.invariant in
+    let r = here_room g.page.now g.above (places_of g.v) g.out.now g.start l.out l.at l.i l.invariant loop-test.true (sym (c.is_on.ensures ∙ ap (stands c.args.above) (back (exp_at (places_of c.args.v) c.loop-i.i) c.e-1.given)) ∙ if1.true) in
     let z = write-separator.ensures l.invariant.text l.invariant.wrote.0 in
-    let y = separator-short g.above l.invariant.text in
+    let y = separator_short g.above l.invariant.text in
     (c.name_of.ensures.2, c.size.ensures.1, omega (arith, w, r, z.0, y, write-separator.auto.out))
 
 pub loop-i-preserved-then-is_on : goal.loop-i-preserved-then-is_on
@@ -68,11 +68,11 @@ loop-i-preserved-then-is_on c =
     let write-power = c.write_power-at in
     let g = c.args in
     let l = loop in
-    writing-on g.page.now g.above (placesOf g.v) g.out.now g.start l.out l.at l.i l.invariant loop-test.true
-    (sym (c.is_on.ensures ∙ ap (stands c.args.above) (back (expAt (placesOf c.args.v) c.loop-i.i) c.e-1.given)) ∙ if1.true)
+    writing_on g.page.now g.above (places_of g.v) g.out.now g.start l.out l.at l.i l.invariant loop-test.true
+    (sym (c.is_on.ensures ∙ ap (stands c.args.above) (back (exp_at (places_of c.args.v) c.loop-i.i) c.e-1.given)) ∙ if1.true)
     c.requires.0.form _ _ _ _
     (write-separator.ensures l.invariant.text l.invariant.wrote.0)
-    (rw (name_of.ensures.0, symbol-index.ensures.0, size.ensures.0, back (expAt (placesOf g.v) l.i) e.given) at write-power.ensures)
+    (rw (name_of.ensures.0, symbol-index.ensures.0, size.ensures.0, back (exp_at (places_of g.v) l.i) e.given) at write-power.ensures)
 
 pub loop-i-preserved : goal.loop-i-preserved
 loop-i-preserved c =
@@ -80,17 +80,17 @@ loop-i-preserved c =
     let loop-test = c.loop-i-test in
     let g = c.args in
     let l = loop in
-    writing-off g.page.now g.above (placesOf g.v) g.out.now g.start l.out l.at l.i l.invariant loop-test.true
-    (sym (c.is_on.ensures ∙ ap (stands c.args.above) (back (expAt (placesOf c.args.v) c.loop-i.i) c.e-1.given)) ∙ c.if-is_on.false)
+    writing_off g.page.now g.above (places_of g.v) g.out.now g.start l.out l.at l.i l.invariant loop-test.true
+    (sym (c.is_on.ensures ∙ ap (stands c.args.above) (back (exp_at (places_of c.args.v) c.loop-i.i) c.e-1.given)) ∙ c.if-is_on.false)
 
 pub shape_of-out : goal.shape_of-out
 shape_of-out c =
     let g = c.args in
     let l = c.loop-i in
-    writing-length g.page.now g.above (placesOf g.v) g.out.now g.start l.out l.at l.i l.invariant
+    writing_length g.page.now g.above (places_of g.v) g.out.now g.start l.out l.at l.i l.invariant
 
 pub returns : goal.returns
 returns c =
     let g = c.args in
     let l = c.loop-i in
-    writing-end g.page.now g.above (placesOf g.v) g.out.now g.start l.out l.at l.i l.invariant c.loop-i-test.false
+    writing_end g.page.now g.above (places_of g.v) g.out.now g.start l.out l.at l.i l.invariant c.loop-i-test.false

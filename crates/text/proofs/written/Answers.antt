@@ -1,12 +1,12 @@
-use Rattle.pages.proofs.Pad.{put-pad}
-use Rattle.units.specs.Calls.{termsOf}
-use Rattle.text.specs.Text.{lineOf}
-use Rattle.text.specs.Calls.{textMax}
-use Rattle.text.proofs.Lines.{line-short}
+use Rattle.pages.proofs.Pad.{put_pad}
+use Rattle.units.specs.Calls.{terms_of}
+use Rattle.text.specs.Text.{line_of}
+use Rattle.text.specs.Calls.{text_max}
+use Rattle.text.proofs.Lines.{line_short}
 use Rattle.text.proofs.written.Goals as goal
 
 pub returns : goal.returns
 returns c =
     let write-line = c.write_line-size in
     rw
-    (write-line.ensures.0, write-line.ensures.1, put-pad textMax (lineOf c.args.page.now (termsOf c.args.v)) (line-short c.args.page.now c.args.v c.requires))
+    (write-line.ensures.0, write-line.ensures.1, put_pad text_max (line_of c.args.page.now (terms_of c.args.v)) (line_short c.args.page.now c.args.v c.requires))

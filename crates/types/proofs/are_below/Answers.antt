@@ -1,23 +1,23 @@
 use mathlib.Core.Path.{◌≡◌, sym}
 use native.Mathlib.Omega.{arith}
 use borrow.Author.Tests.{lt-ltb, le-ltb}
-use Rattle.pages.proofs.Quant.{all-none, all-more, all-failed}
-use Rattle.types.specs.Store.{isBelow}
+use Rattle.pages.proofs.Quant.{all_none, all_more, all_failed}
+use Rattle.types.specs.Store.{is_below}
 use Rattle.types.proofs.are_below.Goals as goal
 
 pub loop-i-init : goal.loop-i-init
-loop-i-init c = (omega arith, all-none (isBelow c.args.page.now c.args.o c.args.t))
+loop-i-init c = (omega arith, all_none (is_below c.args.page.now c.args.o c.args.t))
 
 pub returns-then-t-word_at : goal.returns-then-t-word_at
 returns-then-t-word_at c =
     let a = c.args in
-    sym (all-failed (isBelow a.page.now a.o a.t) a.k c.loop-i.i c.loop-i-test.true (le-ltb _ _ (rw c.word_at.ensures.0 at c.if-t-word_at.true)))
+    sym (all_failed (is_below a.page.now a.o a.t) a.k c.loop-i.i c.loop-i-test.true (le-ltb _ _ (rw c.word_at.ensures.0 at c.if-t-word_at.true)))
 
 pub loop-i-preserved : goal.loop-i-preserved
 loop-i-preserved c =
     let loop = c.loop-i in
     let a = c.args in
-    (omega arith, all-more (isBelow a.page.now a.o a.t) loop.i loop.invariant.1 (lt-ltb _ _ (rw c.word_at.ensures.0 at c.if-t-word_at.false)))
+    (omega arith, all_more (is_below a.page.now a.o a.t) loop.i loop.invariant.1 (lt-ltb _ _ (rw c.word_at.ensures.0 at c.if-t-word_at.false)))
 
 pub returns : goal.returns
 returns c =

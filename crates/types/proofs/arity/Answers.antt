@@ -1,16 +1,16 @@
 use mathlib.Core.Path.{◌∙◌}
 use native.Mathlib.Omega.{arith}
-use Rattle.types.proofs.Types.{arity-fixed, arity-entry, few-children, head-inside, offset-asks, offset-is}
+use Rattle.types.proofs.Types.{arity_fixed, arity_entry, few_children, head_inside, offset_asks, offset_is}
 use Rattle.types.proofs.arity.Goals as goal
 
 pub returns-then-t-lt-FIXED : goal.returns-then-t-lt-FIXED
 returns-then-t-lt-FIXED c =
     let page = c.args.page.now in
-    (arity-fixed page c.args.t c.if-t-lt-FIXED.true, omega arith)
+    (arity_fixed page c.args.t c.if-t-lt-FIXED.true, omega arith)
 
 pub offset_of-requires : goal.offset_of-requires
 offset_of-requires c =
-    offset-asks c.args.page.now c.args.offsets.now c.requires.held c.args.t c.requires.t_bound
+    offset_asks c.args.page.now c.args.offsets.now c.requires.held c.args.t c.requires.t_bound
     c.if-t-lt-FIXED.false
 
 pub bounds-page-offset_of : goal.bounds-page-offset_of
@@ -19,9 +19,9 @@ bounds-page-offset_of c =
     let if1 = c.if-t-lt-FIXED in
     let page = c.args.page.now in
     let e =
-    offset-is page c.args.offsets.now c.requires.held c.args.t c.requires.t_bound offset-of.result if1.false
+    offset_is page c.args.offsets.now c.requires.held c.args.t c.requires.t_bound offset-of.result if1.false
     offset-of.ensures in
-    omega (arith, e, head-inside page c.requires.held.sound c.args.t c.requires.t_bound if1.false)
+    omega (arith, e, head_inside page c.requires.held.sound c.args.t c.requires.t_bound if1.false)
 
 pub returns : goal.returns
 returns c =
@@ -29,8 +29,8 @@ returns c =
     let if1 = c.if-t-lt-FIXED in
     let page = c.args.page.now in
     let e =
-    offset-is page c.args.offsets.now c.requires.held c.args.t c.requires.t_bound offset-of.result if1.false
+    offset_is page c.args.offsets.now c.requires.held c.args.t c.requires.t_bound offset-of.result if1.false
     offset-of.ensures in
     let r = rw e at c.index.ensures.0 in
-    let q = r ∙ arity-entry page c.args.t if1.false in
-    (q, rw q (few-children page c.requires.held.sound c.args.t c.requires.t_bound))
+    let q = r ∙ arity_entry page c.args.t if1.false in
+    (q, rw q (few_children page c.requires.held.sound c.args.t c.requires.t_bound))

@@ -1,28 +1,28 @@
 use native.Mathlib.Omega.{arith}
-use Rattle.types.proofs.Making.{enter-two, enter-end, enter-asks, enter-depth, enter-place, enter-known, enter-deep, enter-many, enter-short, enter-new}
+use Rattle.types.proofs.Making.{enter_two, enter_end, enter_asks, enter_depth, enter_place, enter_known, enter_deep, enter_many, enter_short, enter_new}
 use borrow.Author.Rules.{rules}
 use Rattle.types.proofs.enter.Goals as goal
 
 pub count-n-requires : goal.count-n-requires
 count-n-requires c =
-    enter-two c.args.page.now _ _ _ c.requires
+    enter_two c.args.page.now _ _ _ c.requires
 
 pub find_entry-k-requires : goal.find_entry-k-requires
 find_entry-k-requires c =
     let count = c.count-n in
-    enter-end c.args.page.now _ _ _ c.requires count.result count.ensures.0
+    enter_end c.args.page.now _ _ _ c.requires count.result count.ensures.0
 
 pub returns-then-k-n : goal.returns-then-k-n
 returns-then-k-n c =
     let count = c.count-n in
     let find-entry = c.find_entry-k in
     let a = c.args in
-    enter-known a.page.now _ _ a.entry.now c.requires count.result find-entry.result count.ensures.0
+    enter_known a.page.now _ _ a.entry.now c.requires count.result find-entry.result count.ensures.0
     find-entry.ensures.0 c.if-k-n.true
 
 pub entry_depth-depth-requires : goal.entry_depth-depth-requires
 entry_depth-depth-requires c =
-    enter-asks c.args.page.now _ _ c.args.entry.now c.requires
+    enter_asks c.args.page.now _ _ c.args.entry.now c.requires
 
 pub returns-then-depth-gt-DEPTH : goal.returns-then-depth-gt-DEPTH
 returns-then-depth-gt-DEPTH c =
@@ -32,9 +32,9 @@ returns-then-depth-gt-DEPTH c =
     let if1 = c.if-k-n in
     let a = c.args in
     let d =
-    enter-depth a.page.now a.offsets.now a.depths.now a.entry.now c.requires entry-depth.result
+    enter_depth a.page.now a.offsets.now a.depths.now a.entry.now c.requires entry-depth.result
     entry-depth.ensures.0 in
-    enter-deep a.page.now _ _ a.entry.now c.requires count.result find-entry.result count.ensures.0
+    enter_deep a.page.now _ _ a.entry.now c.requires count.result find-entry.result count.ensures.0
     find-entry.ensures.0 if1.false entry-depth.result d c.if-depth-gt-DEPTH.true
 
 pub returns-then-n-ge-ENTRIES : goal.returns-then-n-ge-ENTRIES
@@ -46,9 +46,9 @@ returns-then-n-ge-ENTRIES c =
     let if2 = c.if-depth-gt-DEPTH in
     let a = c.args in
     let d =
-    enter-depth a.page.now a.offsets.now a.depths.now a.entry.now c.requires entry-depth.result
+    enter_depth a.page.now a.offsets.now a.depths.now a.entry.now c.requires entry-depth.result
     entry-depth.ensures.0 in
-    enter-many a.page.now _ _ a.entry.now c.requires count.result find-entry.result count.ensures.0
+    enter_many a.page.now _ _ a.entry.now c.requires count.result find-entry.result count.ensures.0
     find-entry.ensures.0 if1.false entry-depth.result d if2.false c.if-n-ge-ENTRIES.true
 
 pub overflow_add-end : goal.overflow_add-end
@@ -56,12 +56,12 @@ overflow_add-end c =
     let count = c.count-n in
     let a = c.args in
     let e =
-    enter-place a.page.now a.offsets.now a.depths.now a.entry.now c.requires count.result
+    enter_place a.page.now a.offsets.now a.depths.now a.entry.now c.requires count.result
     c.offset_of-end.result count.ensures.0 c.offset_of-end.ensures in
     search (
       rules,
       e,
-      enter-end a.page.now a.offsets.now a.depths.now a.entry.now c.requires count.result
+      enter_end a.page.now a.offsets.now a.depths.now a.entry.now c.requires count.result
           count.ensures.0,
     )
 
@@ -76,18 +76,18 @@ returns-then-page-end c =
     let if3 = c.if-n-ge-ENTRIES in
     let a = c.args in
     let d =
-    enter-depth a.page.now a.offsets.now a.depths.now a.entry.now c.requires entry-depth.result
+    enter_depth a.page.now a.offsets.now a.depths.now a.entry.now c.requires entry-depth.result
     entry-depth.ensures.0 in
     let e =
-    enter-place a.page.now a.offsets.now a.depths.now a.entry.now c.requires count.result
+    enter_place a.page.now a.offsets.now a.depths.now a.entry.now c.requires count.result
     offset-of.result count.ensures.0 offset-of.ensures in
-    enter-short a.page.now _ _ a.entry.now c.requires count.result find-entry.result count.ensures.0
+    enter_short a.page.now _ _ a.entry.now c.requires count.result find-entry.result count.ensures.0
     find-entry.ensures.0 if1.false entry-depth.result d if2.false if3.false offset-of.result e c.if-page-end.true
 
 pub put_bytes-requires-2 : goal.put_bytes-requires-2
 put_bytes-requires-2 c =
     let two =
-    enter-two c.args.page.now c.args.offsets.now c.args.depths.now c.args.entry.now
+    enter_two c.args.page.now c.args.offsets.now c.args.depths.now c.args.entry.now
     c.requires in
     search (rules, two)
 
@@ -117,11 +117,11 @@ returns c =
     let if4 = c.if-page-end in
     let a = c.args in
     let d =
-    enter-depth a.page.now a.offsets.now a.depths.now a.entry.now c.requires entry-depth.result
+    enter_depth a.page.now a.offsets.now a.depths.now a.entry.now c.requires entry-depth.result
     entry-depth.ensures.0 in
     let e =
-    enter-place a.page.now a.offsets.now a.depths.now a.entry.now c.requires count.result
+    enter_place a.page.now a.offsets.now a.depths.now a.entry.now c.requires count.result
     offset-of.result count.ensures.0 offset-of.ensures in
     rw (put-bytes2.ensures, put-bytes.ensures, set-offset.ensures, set-depth.ensures, count-bytes.ensures)
-    (enter-new a.page.now _ _ a.entry.now c.requires count.result find-entry.result count.ensures.0
+    (enter_new a.page.now _ _ a.entry.now c.requires count.result find-entry.result count.ensures.0
     find-entry.ensures.0 if1.false entry-depth.result d if2.false if3.false offset-of.result e if4.false)

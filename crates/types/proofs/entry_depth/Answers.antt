@@ -3,21 +3,21 @@ use Prim.Native.Nat.{suc, ◌+◌}
 use native.Mathlib.Numerals.{add-one}
 use native.Mathlib.Omega.{arith}
 use lib.ListN.{length}
-use Rattle.kinds.specs.Kinds.{fixedMax}
-use Rattle.types.specs.Store.{larger, depthIn}
-use Rattle.types.proofs.Store.{deepest-none, deepest-next, larger-most, child-below}
+use Rattle.kinds.specs.Kinds.{fixed_max}
+use Rattle.types.specs.Store.{larger, depth_in}
+use Rattle.types.proofs.Store.{deepest_none, deepest_next, larger_most, child_below}
 use Rattle.types.proofs.entry_depth.Goals as goal
 
 pub loop-i-init : goal.loop-i-init
 loop-i-init c =
     let a = c.args in
-    (omega arith, deepest-none a.page.now a.depths.now a.o, omega arith)
+    (omega arith, deepest_none a.page.now a.depths.now a.o, omega arith)
 
 pub depth_in-depth-requires : goal.depth_in-depth-requires
 depth_in-depth-requires c =
     let a = c.args in
     let b =
-    child-below a.page.now a.o (fixedMax + length a.depths.now) c.loop-i.i c.requires.2
+    child_below a.page.now a.o (fixed_max + length a.depths.now) c.loop-i.i c.requires.2
     (rw c.index-children.ensures.0 at c.loop-i-test.true) in
     rw c.word_at-child.ensures.0 b
 
@@ -28,9 +28,9 @@ loop-i-preserved c =
     let a = c.args in
     let l = loop in (
       omega arith,
-      c.larger_of-deepest.ensures ∙ ap₂ larger l.invariant.1 (depth-in.ensures.0 ∙ ap (depthIn a.depths.now) c.word_at-child.ensures.0)
-          ∙ deepest-next a.page.now a.depths.now a.o l.i,
-      rw c.larger_of-deepest.ensures (larger-most l.deepest depth-in.result 256 l.invariant.2 depth-in.ensures.1),
+      c.larger_of-deepest.ensures ∙ ap₂ larger l.invariant.1 (depth-in.ensures.0 ∙ ap (depth_in a.depths.now) c.word_at-child.ensures.0)
+          ∙ deepest_next a.page.now a.depths.now a.o l.i,
+      rw c.larger_of-deepest.ensures (larger_most l.deepest depth-in.result 256 l.invariant.2 depth-in.ensures.1),
     )
 
 pub returns : goal.returns

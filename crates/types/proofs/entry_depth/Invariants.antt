@@ -1,6 +1,6 @@
 use mathlib.Core.Path.{◌≡◌}
 use Prim.Native.Nat.{◌-◌, ◌≤◌, ◌<◌}
-use Rattle.types.specs.Store.{larger, deepest, depthIn}
+use Rattle.types.specs.Store.{larger, deepest, depth_in}
 use Rattle.types.proofs.entry_depth.Given as goal
 
 abbrev pub invariant-loop-i : goal.invariant-loop-i

@@ -1,7 +1,7 @@
 use mathlib.Core.Path.{sym, ◌∙◌}
 use native.Mathlib.Omega.{arith}
-use Rattle.types.proofs.Entries.{named-size, named-made, other-size, other-made}
-use Rattle.types.proofs.Width.{name-width}
+use Rattle.types.proofs.Entries.{named_size, named_made, other_size, other_made}
+use Rattle.types.proofs.Width.{name_width}
 use Rattle.types.proofs.entry_of.Goals as goal
 
 pub overflow_cast-named : goal.overflow_cast-named
@@ -14,8 +14,8 @@ returns-then-is_named c =
     let if1 = c.if-is_named in
     let a = c.args in
     let h = sym is-named.ensures ∙ if1.true in (
-      c.put_bytes.ensures ∙ rw no_bytes.ensures (named-made a.kind a.children.now a.name h),
-      omega (arith, named-size a.kind a.children.now a.name h, name-width),
+      c.put_bytes.ensures ∙ rw no_bytes.ensures (named_made a.kind a.children.now a.name h),
+      omega (arith, named_size a.kind a.children.now a.name h, name_width),
       omega arith,
     )
 
@@ -27,7 +27,7 @@ returns c =
     let put-bytes2 = c.put_bytes-2 in
     let a = c.args in
     let h = sym is-named.ensures ∙ if1.false in (
-      c.put_words.ensures ∙ rw (put-bytes2.ensures, no_bytes.ensures) (other-made a.kind a.children.now a.name h c.requires),
-      other-size a.kind a.children.now a.name h,
+      c.put_words.ensures ∙ rw (put-bytes2.ensures, no_bytes.ensures) (other_made a.kind a.children.now a.name h c.requires),
+      other_size a.kind a.children.now a.name h,
       omega (arith, c.requires),
     )

@@ -1,7 +1,7 @@
 use mathlib.Core.Path.{sym, ◌∙◌, subst}
 use lib.Dec.{T}
-use Rattle.types.proofs.Calls.{broken-names, broken-or-not}
-use Rattle.types.proofs.Surveyed.{unopened, opened-is}
+use Rattle.types.proofs.Calls.{broken_names, broken_or_not}
+use Rattle.types.proofs.Surveyed.{unopened, opened_is}
 use Rattle.types.proofs.opened.Goals as goal
 
 pub returns-then-is_broken : goal.returns-then-is_broken
@@ -10,7 +10,7 @@ returns-then-is_broken c =
     let is-broken = c.is_broken in
     let l = sym is-broken.ensures ∙ c.if-is_broken.true in
     let u = unopened a.page.now a.names.now a.lent a.offsets.now a.depths.now l in
-    (broken-names a.page.now a.names.now a.lent l, λ h. absurd (subst T (sym h) tt), u.0, u.1)
+    (broken_names a.page.now a.names.now a.lent l, λ h. absurd (subst T (sym h) tt), u.0, u.1)
 
 pub in_use-n-requires : goal.in_use-n-requires
 in_use-n-requires c = sym c.is_broken.ensures ∙ c.if-is_broken.false
@@ -23,8 +23,8 @@ returns c =
     let in_use = c.in_use-n in
     let survey = c.survey in
     let l = sym is-broken.ensures ∙ if1.false in
-    let u = opened-is a.page.now a.names.now a.lent a.offsets.now a.depths.now l in_use.result in_use.ensures.0 in (
-      broken-or-not a.page.now a.names.now a.lent l in_use.result in_use.ensures.0 survey.result survey.ensures.0,
+    let u = opened_is a.page.now a.names.now a.lent a.offsets.now a.depths.now l in_use.result in_use.ensures.0 in (
+      broken_or_not a.page.now a.names.now a.lent l in_use.result in_use.ensures.0 survey.result survey.ensures.0,
       survey.ensures.1,
       survey.ensures.2 ∙ u.0,
       survey.ensures.3 ∙ u.1,

@@ -3,20 +3,20 @@ use Prim.Native.Nat.{ℕ, ◌+◌}
 use native.Mathlib.Omega.{arith}
 use lib.ListN.{length-set}
 use borrow.Author.Rules.{rules}
-use Rattle.types.proofs.Store.{size-head}
-use Rattle.types.proofs.Form.{depth-asks}
-use Rattle.types.proofs.Surveyed.{Looked, survey-short, survey-many, going-start, going-room, going-reached, going-placed, going-broken, going-parts, going-in, going-equal, going-next, going-end}
+use Rattle.types.proofs.Store.{size_head}
+use Rattle.types.proofs.Form.{depth_asks}
+use Rattle.types.proofs.Surveyed.{Looked, survey_short, survey_many, going_start, going_room, going_reached, going_placed, going_broken, going_parts, going_in, going_equal, going_next, going_end}
 use Rattle.types.proofs.survey.Goals as goal
 
 pub returns-then-page-lt-COUNT_BYTES : goal.returns-then-page-lt-COUNT_BYTES
 returns-then-page-lt-COUNT_BYTES c =
-    survey-short c.args.page.now c.args.n _ _ c.if-page-lt-COUNT_BYTES.true
+    survey_short c.args.page.now c.args.n _ _ c.if-page-lt-COUNT_BYTES.true
 
 pub returns-then-k-gt-ENTRIES : goal.returns-then-k-gt-ENTRIES
 returns-then-k-gt-ENTRIES c =
     let if1 = c.if-page-lt-COUNT_BYTES in
     let count = c.count-k in
-    survey-many c.args.page.now c.args.n _ _ if1.false count.result count.ensures.0 c.if-k-gt-ENTRIES.true
+    survey_many c.args.page.now c.args.n _ _ if1.false count.result count.ensures.0 c.if-k-gt-ENTRIES.true
 
 pub loop-j-init : goal.loop-j-init
 loop-j-init c =
@@ -26,16 +26,16 @@ loop-j-init c =
     let no-heads = c.no_heads-heads in
     let look : Looked c.args.page.now count.result c.args.offsets.now c.args.depths.now =
     record { two = if1.false; is = count.ensures.0; few = if2.false; room = c.requires.0; size = c.requires.1 } in
-    going-start look c.args.n _ _ no-heads.ensures c.no_links-links.ensures
+    going_start look c.args.n _ _ no-heads.ensures c.no_links-links.ensures
 
 pub set_offset-requires : goal.set_offset-requires
-set_offset-requires c = going-room c.loop-j.invariant
+set_offset-requires c = going_room c.loop-j.invariant
 
 pub is_whole-requires : goal.is_whole-requires
 is_whole-requires c =
     let loop = c.loop-j in
     let loop-test = c.loop-j-test in
-    going-reached loop.invariant loop-test.true
+    going_reached loop.invariant loop-test.true
 
 pub shape_of-offsets-then-not-is_whole : goal.shape_of-offsets-then-not-is_whole
 shape_of-offsets-then-not-is_whole c =
@@ -52,7 +52,7 @@ returns-then-not-is_whole c =
     let loop-test = c.loop-j-test in
     let set-offset = c.set_offset in
     let is_whole = c.is_whole in
-    rw set-offset.ensures (going-broken loop.invariant loop-test.true (sym is_whole.ensures ∙ c.if-not-is_whole.true))
+    rw set-offset.ensures (going_broken loop.invariant loop-test.true (sym is_whole.ensures ∙ c.if-not-is_whole.true))
 
 pub slice_bounds-is_new-end : goal.slice_bounds-is_new-end
 slice_bounds-is_new-end c = sym c.loop-j.invariant.chained.prints
@@ -68,7 +68,7 @@ is_new-requires c =
     let if3 = c.if-not-is_whole in
     let set-offset = c.set_offset in
     let w = sym is_whole.ensures ∙ if3.false in
-    rw set-offset.ensures ((going-reached loop.invariant loop-test.true).few, going-in loop.invariant loop-test.true w, going-placed loop.invariant loop-test.true, loop.invariant.chained)
+    rw set-offset.ensures ((going_reached loop.invariant loop-test.true).few, going_in loop.invariant loop-test.true w, going_placed loop.invariant loop-test.true, loop.invariant.chained)
 
 pub shape_of-offsets-then-not-is_new : goal.shape_of-offsets-then-not-is_new
 shape_of-offsets-then-not-is_new c =
@@ -86,9 +86,9 @@ returns-then-not-is_new c =
     let is_whole = c.is_whole in
     let if3 = c.if-not-is_whole in
     let set-offset = c.set_offset in
-    let is-new = c.is_new in
+    let is_new_lem = c.is_new in
     let w = sym is_whole.ensures ∙ if3.false in
-    rw set-offset.ensures (going-equal loop.invariant loop-test.true w (sym is-new.ensures.0 ∙ c.if-not-is_new.true))
+    rw set-offset.ensures (going_equal loop.invariant loop-test.true w (sym is_new_lem.ensures.0 ∙ c.if-not-is_new.true))
 
 pub entry_depth-depth-requires : goal.entry_depth-depth-requires
 entry_depth-depth-requires c =
@@ -96,8 +96,8 @@ entry_depth-depth-requires c =
     let loop-test = c.loop-j-test in
     let is_whole = c.is_whole in
     let if3 = c.if-not-is_whole in
-    let q = going-parts loop.invariant loop-test.true (sym is_whole.ensures ∙ if3.false) in
-    depth-asks c.args.page.now loop.depths loop.j loop.o (going-reached loop.invariant loop-test.true) c.args.n q.1 q.0
+    let q = going_parts loop.invariant loop-test.true (sym is_whole.ensures ∙ if3.false) in
+    depth_asks c.args.page.now loop.depths loop.j loop.o (going_reached loop.invariant loop-test.true) c.args.n q.1 q.0
 
 pub set_depth-requires : goal.set_depth-requires
 set_depth-requires c =
@@ -106,8 +106,8 @@ set_depth-requires c =
     let is_whole = c.is_whole in
     let if3 = c.if-not-is_whole in
     let entry-depth = c.entry_depth-depth in
-    let r = going-reached loop.invariant loop-test.true in
-    let q = going-parts loop.invariant loop-test.true (sym is_whole.ensures ∙ if3.false) in
+    let r = going_reached loop.invariant loop-test.true in
+    let q = going_parts loop.invariant loop-test.true (sym is_whole.ensures ∙ if3.false) in
     (omega (arith, r.few, r.size), omega (arith, q.2, entry-depth.ensures.0))
 
 pub entry_size-o-requires : goal.entry_size-o-requires
@@ -116,8 +116,8 @@ entry_size-o-requires c =
     let loop-test = c.loop-j-test in
     let is_whole = c.is_whole in
     let if3 = c.if-not-is_whole in
-    let q = going-parts loop.invariant loop-test.true (sym is_whole.ensures ∙ if3.false) in
-    omega (arith, q.0, size-head c.args.page.now loop.o)
+    let q = going_parts loop.invariant loop-test.true (sym is_whole.ensures ∙ if3.false) in
+    omega (arith, q.0, size_head c.args.page.now loop.o)
 
 pub overflow_add-o : goal.overflow_add-o
 overflow_add-o c =
@@ -125,7 +125,7 @@ overflow_add-o c =
     let loop-test = c.loop-j-test in
     let is_whole = c.is_whole in
     let if3 = c.if-not-is_whole in
-    let q = going-parts loop.invariant loop-test.true (sym is_whole.ensures ∙ if3.false) in
+    let q = going_parts loop.invariant loop-test.true (sym is_whole.ensures ∙ if3.false) in
     search (rules, q.0, c.entry_size-o.ensures.0, c.well_formed.0.0)
 
 pub loop-j-preserved : goal.loop-j-preserved
@@ -135,15 +135,15 @@ loop-j-preserved c =
     let is_whole = c.is_whole in
     let if3 = c.if-not-is_whole in
     let set-offset = c.set_offset in
-    let is-new = c.is_new in
+    let is_new_lem = c.is_new in
     let if4 = c.if-not-is_new in
     let entry-depth = c.entry_depth-depth in
     let set-depth = c.set_depth in
     let w = sym is_whole.ensures ∙ if3.false in
-    let b = sym is-new.ensures.0 ∙ if4.false in
+    let b = sym is_new_lem.ensures.0 ∙ if4.false in
     rw (set-depth.ensures, set-offset.ensures)
-    (going-next loop.invariant loop-test.true w b entry-depth.result _ entry-depth.ensures.0
-    (ap (λ (x : ℕ). loop.o + x) c.entry_size-o.ensures.0) _ _ is-new.ensures.1)
+    (going_next loop.invariant loop-test.true w b entry-depth.result _ entry-depth.ensures.0
+    (ap (λ (x : ℕ). loop.o + x) c.entry_size-o.ensures.0) _ _ is_new_lem.ensures.1)
 
 pub set_offset-requires-2 : goal.set_offset-requires-2
 set_offset-requires-2 c =
@@ -165,4 +165,4 @@ returns c =
     let loop = c.loop-j in
     let loop-test = c.loop-j-test in
     let set-offset2 = c.set_offset-2 in
-    rw set-offset2.ensures (going-end loop.invariant loop-test.false _ c.zeros_from.ensures)
+    rw set-offset2.ensures (going_end loop.invariant loop-test.false _ c.zeros_from.ensures)

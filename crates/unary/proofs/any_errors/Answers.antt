@@ -1,10 +1,10 @@
 use mathlib.Core.Path.{◌≡◌, sym, ◌∙◌, ap}
 use native.Mathlib.Omega.{arith}
 use lib.ListN.{length, length-replicate}
-use Rattle.members.specs.Members.{sizeOf}
-use Rattle.members.proofs.Members.{member-used}
-use Rattle.members.proofs.Flattening.{member-is}
-use Rattle.unary.proofs.Failing.{failing-none, passed-more, first-failed, next-failed, errors-empty, errors-none, errors-some}
+use Rattle.members.specs.Members.{size_of}
+use Rattle.members.proofs.Members.{member_used}
+use Rattle.members.proofs.Flattening.{member_is}
+use Rattle.unary.proofs.Failing.{failing_none, passed_more, first_failed, next_failed, errors_empty, errors_none, errors_some}
 use Rattle.unary.proofs.any_errors.Goals as goal
 use Rattle.unary.proofs.any_errors.Goals.{then-not-does_pass, then-count-eq0, else-count-eq0, else-not-does_pass}
 
@@ -17,12 +17,12 @@ pub returns-then-size-eq0 : goal.returns-then-size-eq0
 returns-then-size-eq0 c =
     let empty = sym c.flatten-size.ensures.0 ∙ c.if-size-eq0.true in
     let a = c.args in
-    c.one_error.ensures ∙ errors-empty a.page.now a.op a.t c.requires.op_nonzero.2 empty
+    c.one_error.ensures ∙ errors_empty a.page.now a.op a.t c.requires.op_nonzero.2 empty
 
 pub loop-i-init : goal.loop-i-init
 loop-i-init c =
     let a = c.args in
-    (omega arith, omega arith, failing-none a.page.now a.op a.t)
+    (omega arith, omega arith, failing_none a.page.now a.op a.t)
 
 pub member_at-x-requires : goal.member_at-x-requires
 member_at-x-requires c =
@@ -37,8 +37,8 @@ does_pass-requires c =
     let i = c.loop-i.i in
     let taken = c.loop-i-test.true in
     let member = c.member_at-x in
-    let is = member-is page t flatten.result _ flatten.ensures i member.result taken member.ensures in
-    let used = member-used page c.requires.held.sound t c.requires.op_nonzero.1 i (omega (arith, taken, flatten.ensures.0)) in
+    let is = member_is page t flatten.result _ flatten.ensures i member.result taken member.ensures in
+    let used = member_used page c.requires.held.sound t c.requires.op_nonzero.1 i (omega (arith, taken, flatten.ensures.0)) in
     record { held = c.requires.held; leaves = c.requires.leaves; op_nonzero = (c.requires.op_nonzero.0, omega (arith, is, used)) }
 
 pub overflow_add-count : goal.overflow_add-count
@@ -65,7 +65,7 @@ loop-i-preserved c =
     let member = c.member_at-x in
     let x = member.result in
     let passes = c.does_pass in
-    let is = member-is page t flatten.result _ flatten.ensures l.i x taken member.ensures in (
+    let is = member_is page t flatten.result _ flatten.ensures l.i x taken member.ensures in (
       omega (arith, taken),
       elim c.if-not-does_pass.branch [
         | then-not-does_pass w ↦ omega (arith, w.count-is, l.invariant.1)
@@ -75,12 +75,12 @@ loop-i-preserved c =
         | then-not-does_pass w ↦
             let fails = sym passes.ensures ∙ w.if-not-does_pass.true in
             elim w.if-count-eq0.branch [
-              | then-count-eq0 v ↦ rw (w.count-is, w.first-is, v.first-is) (first-failed page op t l.i l.count l.first l.invariant.2 x is fails v.if-count-eq0.true)
-              | else-count-eq0 v ↦ rw (w.count-is, w.first-is, v.first-is) (next-failed page op t l.i l.count l.first l.invariant.2 x is fails v.if-count-eq0.false)
+              | then-count-eq0 v ↦ rw (w.count-is, w.first-is, v.first-is) (first_failed page op t l.i l.count l.first l.invariant.2 x is fails v.if-count-eq0.true)
+              | else-count-eq0 v ↦ rw (w.count-is, w.first-is, v.first-is) (next_failed page op t l.i l.count l.first l.invariant.2 x is fails v.if-count-eq0.false)
             ]
         | else-not-does_pass w ↦
             let p = sym passes.ensures ∙ w.if-not-does_pass.false in
-            rw (w.count-is, w.first-is) (passed-more page op t l.i l.count l.first l.invariant.2 x is p)
+            rw (w.count-is, w.first-is) (passed_more page op t l.i l.count l.first l.invariant.2 x is p)
       ],
     )
 
@@ -91,10 +91,10 @@ returns-then-count-eq0-2 c =
     let t = c.args.t in
     let size = c.flatten-size.ensures.0 in
     let l = c.loop-i in
-    let n : l.i ≡ sizeOf page t = omega (arith, l.invariant.0, c.loop-i-test.false, size) in
-    let some : sizeOf page t ≡ 0 → ⊥ = λ z. c.if-size-eq0.false (size ∙ z) in
+    let n : l.i ≡ size_of page t = omega (arith, l.invariant.0, c.loop-i-test.false, size) in
+    let some : size_of page t ≡ 0 → ⊥ = λ z. c.if-size-eq0.false (size ∙ z) in
     c.no_error.ensures
-    ∙ errors-none page op t c.requires.op_nonzero.2 l.count l.first (rw n at l.invariant.2) some c.if-count-eq0-2.true
+    ∙ errors_none page op t c.requires.op_nonzero.2 l.count l.first (rw n at l.invariant.2) some c.if-count-eq0-2.true
 
 pub returns : goal.returns
 returns c =
@@ -103,5 +103,5 @@ returns c =
     let t = c.args.t in
     let size = c.flatten-size.ensures.0 in
     let l = c.loop-i in
-    let n : l.i ≡ sizeOf page t = omega (arith, l.invariant.0, c.loop-i-test.false, size) in
-    c.some_fail.ensures ∙ errors-some page op t c.requires.op_nonzero.2 l.count l.first (rw n at l.invariant.2) c.if-count-eq0-2.false
+    let n : l.i ≡ size_of page t = omega (arith, l.invariant.0, c.loop-i-test.false, size) in
+    c.some_fail.ensures ∙ errors_some page op t c.requires.op_nonzero.2 l.count l.first (rw n at l.invariant.2) c.if-count-eq0-2.false

@@ -1,8 +1,8 @@
-use Rattle.unification.specs.Unification.{isAlike}
+use Rattle.unification.specs.Unification.{is_alike}
 use Rattle.unification.proofs.are_alike.Goals as goal
 
 pub returns : goal.returns
-unfolding isAlike
+unfolding is_alike
 returns c =
     let is-array = c.is_array in
     let is-array2 = c.is_array-2 in

@@ -1,8 +1,8 @@
 use mathlib.Core.Path.{sym, ◌∙◌}
 use borrow.Author.Tests.{eq-eqb, ne_eqb}
 use Rattle.kinds.specs.Kinds.{null}
-use Rattle.unification.specs.Unification.{isAdopted}
-use Rattle.unification.proofs.Unification.{one-element}
+use Rattle.unification.specs.Unification.{is_adopted}
+use Rattle.unification.proofs.Unification.{one_element}
 use Rattle.unification.proofs.is_adopted.Goals as goal
 
 pub returns-then-not-are_arrays : goal.returns-then-not-are_arrays
@@ -14,10 +14,10 @@ pub child_of-element-requires : goal.child_of-element-requires
 child_of-element-requires c =
     let arrays = c.are_arrays in
     let k = sym arrays.ensures ∙ c.if-not-are_arrays.false in
-    record { held = c.requires.held; t_bound = (c.requires.e_bound.1, (one-element _ c.requires.held.sound c.args.e c.args.a c.requires.e_bound.0 c.requires.e_bound.1 k).1) }
+    record { held = c.requires.held; t_bound = (c.requires.e_bound.1, (one_element _ c.requires.held.sound c.args.e c.args.a c.requires.e_bound.0 c.requires.e_bound.1 k).1) }
 
 pub returns-then-element-eq-NULL : goal.returns-then-element-eq-NULL
-unfolding isAdopted
+unfolding is_adopted
 returns-then-element-eq-NULL c =
     let if1 = c.if-not-are_arrays in
     let arrays = c.are_arrays in
@@ -29,10 +29,10 @@ child_of-expected-requires c =
     let if1 = c.if-not-are_arrays in
     let arrays = c.are_arrays in
     let k = sym arrays.ensures ∙ if1.false in
-    record { held = c.requires.held; t_bound = (c.requires.e_bound.0, (one-element _ c.requires.held.sound c.args.e c.args.a c.requires.e_bound.0 c.requires.e_bound.1 k).0) }
+    record { held = c.requires.held; t_bound = (c.requires.e_bound.0, (one_element _ c.requires.held.sound c.args.e c.args.a c.requires.e_bound.0 c.requires.e_bound.1 k).0) }
 
 pub returns : goal.returns
-unfolding isAdopted
+unfolding is_adopted
 returns c =
     let if1 = c.if-not-are_arrays in
     let child-of = c.child_of-element in

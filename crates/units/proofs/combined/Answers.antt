@@ -4,9 +4,9 @@ use lib.IntN.{nat_abs, ◌+ℤ◌}
 use mir.Syntax.{w16}
 use mir.Val.{SFits}
 use mir.Facts.{to_z-of_z}
-use Rattle.units.specs.Unit.{exponentMax}
+use Rattle.units.specs.Unit.{exponent_max}
 use Rattle.units.specs.Merge.{turn}
-use Rattle.units.proofs.Signed.{small, abs-turn, sum-fits}
+use Rattle.units.proofs.Signed.{small, abs_turn, sum_fits}
 use Rattle.units.proofs.combined.Goals as goal
 use Rattle.units.proofs.combined.Goals.{Start}
 
@@ -14,8 +14,8 @@ use Rattle.units.proofs.combined.Goals.{Start}
 fits : (d : Bool) (c : Start) → SFits w16 (c.args.e +ℤ turn d c.args.f)
 fits d c =
     let k = small c.args.f c.requires.1 in
-    let h : nat_abs (turn d c.args.f) ≤ exponentMax = rw (abs-turn d c.args.f) k in
-    sum-fits c.args.e (turn d c.args.f) (small c.args.e c.requires.0) h
+    let h : nat_abs (turn d c.args.f) ≤ exponent_max = rw (abs_turn d c.args.f) k in
+    sum_fits c.args.e (turn d c.args.f) (small c.args.e c.requires.0) h
 
 pub overflow_sub-result : goal.overflow_sub-result
 overflow_sub-result c =

@@ -2,7 +2,7 @@ use mathlib.Core.Path.{sym, ap, ◌∙◌}
 use Rattle.refusals.specs.declared.Verdict.TheVariants.{Passed}
 use Rattle.units.specs.declared.Sum.{Sum}
 use Rattle.units.specs.declared.UnitResult.{UnitResult}
-use Rattle.units.proofs.Calls.{product-left, product-right, product-large, product-many, product-done}
+use Rattle.units.proofs.Calls.{product_left, product_right, product_large, product_many, product_done}
 use Rattle.units.proofs.product.Goals as goal
 
 -- the result that a sum within the limits makes
@@ -13,7 +13,7 @@ pub returns-then-not-is_formed : goal.returns-then-not-is_formed
 returns-then-not-is_formed c =
     let is-formed = c.is_formed in
     let g = c.args in
-    c.no_product.ensures ∙ product-left g.quotient g.a g.b (sym is-formed.ensures ∙ c.if-not-is_formed.true)
+    c.no_product.ensures ∙ product_left g.quotient g.a g.b (sym is-formed.ensures ∙ c.if-not-is_formed.true)
 
 pub returns-then-not-is_formed-2 : goal.returns-then-not-is_formed-2
 returns-then-not-is_formed-2 c =
@@ -21,7 +21,7 @@ returns-then-not-is_formed-2 c =
     let if1 = c.if-not-is_formed in
     let is-formed2 = c.is_formed-2 in
     let g = c.args in
-    c.no_product-then-not-is_formed-2.ensures ∙ product-right g.quotient g.a g.b (sym is-formed.ensures ∙ if1.false)
+    c.no_product-then-not-is_formed-2.ensures ∙ product_right g.quotient g.a g.b (sym is-formed.ensures ∙ if1.false)
     (sym is-formed2.ensures ∙ c.if-not-is_formed-2.true)
 
 pub merged-w-requires : goal.merged-w-requires
@@ -39,7 +39,7 @@ returns-then-w c =
     let if2 = c.if-not-is_formed-2 in
     let merged = c.merged-w in
     let g = c.args in
-    c.no_product-then-w.ensures ∙ product-large g.quotient g.a g.b (sym is-formed.ensures ∙ if1.false)
+    c.no_product-then-w.ensures ∙ product_large g.quotient g.a g.b (sym is-formed.ensures ∙ if1.false)
     (sym is-formed2.ensures ∙ if2.false)
     (ap (λ (w : Sum). w.wide) (sym merged.ensures) ∙ c.if-w.true)
 
@@ -52,7 +52,7 @@ returns-then-count-gt-PLACES c =
     let merged = c.merged-w in
     let if3 = c.if-w in
     let g = c.args in
-    c.no_product-then-count-gt-PLACES.ensures ∙ product-many g.quotient g.a g.b (sym is-formed.ensures ∙ if1.false)
+    c.no_product-then-count-gt-PLACES.ensures ∙ product_many g.quotient g.a g.b (sym is-formed.ensures ∙ if1.false)
     (sym is-formed2.ensures ∙ if2.false) (ap (λ (w : Sum). w.wide) (sym merged.ensures) ∙ if3.false)
     (rw merged.ensures at c.if-count-gt-PLACES.true)
 
@@ -66,6 +66,6 @@ returns c =
     let if3 = c.if-w in
     let if4 = c.if-count-gt-PLACES in
     let g = c.args in
-    ap result merged.ensures ∙ product-done g.quotient g.a g.b (sym is-formed.ensures ∙ if1.false)
+    ap result merged.ensures ∙ product_done g.quotient g.a g.b (sym is-formed.ensures ∙ if1.false)
     (sym is-formed2.ensures ∙ if2.false) (ap (λ (w : Sum). w.wide) (sym merged.ensures) ∙ if3.false)
     (rw merged.ensures at if4.false)

@@ -3,18 +3,18 @@ use mathlib.Core.List.{[], ◌∷◌, ◌++◌}
 use Prim.Native.Nat.{◌+◌, ◌*◌}
 use native.Mathlib.Omega.{arith}
 use lib.ListN.{get_or}
-use Rattle.pages.specs.Bytes.{wordAt}
+use Rattle.pages.specs.Bytes.{word_at}
 use Rattle.units.specs.Unit.{term}
-use Rattle.units.specs.Calls.{unitOf}
+use Rattle.units.specs.Calls.{unit_of}
 use Rattle.units.proofs.Signed.{back}
 use Rattle.units.proofs.Held.{grown}
-use Rattle.values.specs.Value.{signedOf}
-use Rattle.values.proofs.Terms.{reading-start, reading-count, reading-next, reading-end}
+use Rattle.values.specs.Value.{signed_of}
+use Rattle.values.proofs.Terms.{reading_start, reading_count, reading_next, reading_end}
 use Rattle.values.proofs.unit_at.Goals as goal
 
 pub loop-i-init : goal.loop-i-init
 loop-i-init c =
-    reading-start c.args.bytes.now c.args.n c.dimensionless-u.result c.dimensionless-u.ensures
+    reading_start c.args.bytes.now c.args.n c.dimensionless-u.result c.dimensionless-u.ensures
 
 pub bounds-bytes-at : goal.bounds-bytes-at
 bounds-bytes-at c =
@@ -48,7 +48,7 @@ pub with_term-u-requires : goal.with_term-u-requires
 with_term-u-requires c =
     let loop = c.loop-i in
     let loop-test = c.loop-i-test in
-    let z = reading-count c.args.bytes.now c.args.n loop.u loop.at loop.i loop.invariant in omega (arith, z, loop-test.true, c.requires.0)
+    let z = reading_count c.args.bytes.now c.args.n loop.u loop.at loop.i loop.invariant in omega (arith, z, loop-test.true, c.requires.0)
 
 pub overflow_add-at-in-loop-i-2 : goal.overflow_add-at-in-loop-i-2
 overflow_add-at-in-loop-i-2 c =
@@ -63,11 +63,11 @@ loop-i-preserved c =
     let signed = c.signed in
     let bytes = c.args.bytes.now in
     let l = loop in
-    let e : signedOf (get_or bytes (l.at + 1) 0 * 256 + get_or bytes (l.at + 2) 0) ≡ signedOf (wordAt bytes (l.at + 1)) =
-    let z : l.at + 2 ≡ l.at + 1 + 1 = omega arith in ap (λ k. signedOf (get_or bytes (l.at + 1) 0 * 256 + get_or bytes k 0)) z in
-    reading-next bytes c.args.n l.u l.at l.i l.invariant loop-test.true c.with_term-u.result
-    (λ k q. c.with_term-u.ensures ∙ grown _ _ _ k q ∙ ap₂ (λ x z. unitOf (k ++ (term x z ∷ []))) c.index-symbol.ensures.0 (back signed.result signed.type_inv ∙ signed.ensures ∙ e))
+    let e : signed_of (get_or bytes (l.at + 1) 0 * 256 + get_or bytes (l.at + 2) 0) ≡ signed_of (word_at bytes (l.at + 1)) =
+    let z : l.at + 2 ≡ l.at + 1 + 1 = omega arith in ap (λ k. signed_of (get_or bytes (l.at + 1) 0 * 256 + get_or bytes k 0)) z in
+    reading_next bytes c.args.n l.u l.at l.i l.invariant loop-test.true c.with_term-u.result
+    (λ k q. c.with_term-u.ensures ∙ grown _ _ _ k q ∙ ap₂ (λ x z. unit_of (k ++ (term x z ∷ []))) c.index-symbol.ensures.0 (back signed.result signed.type_inv ∙ signed.ensures ∙ e))
 
 pub returns : goal.returns
 returns c =
-    let l = c.loop-i in reading-end c.args.bytes.now c.args.n l.u l.at l.i l.invariant c.loop-i-test.false
+    let l = c.loop-i in reading_end c.args.bytes.now c.args.n l.u l.at l.i l.invariant c.loop-i-test.false

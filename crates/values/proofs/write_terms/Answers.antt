@@ -1,15 +1,15 @@
 use mathlib.Core.Path.{◌≡◌, ap, ◌∙◌}
 use native.Mathlib.Omega.{arith}
 use Rattle.units.proofs.Signed.{back}
-use Rattle.units.proofs.Form.{expAt}
-use Rattle.units.proofs.Held.{placesOf}
-use Rattle.values.specs.Value.{rawOf}
-use Rattle.values.proofs.Terms.{writing-start, writing-next, writing-end}
+use Rattle.units.proofs.Form.{exp_at}
+use Rattle.units.proofs.Held.{places_of}
+use Rattle.values.specs.Value.{raw_of}
+use Rattle.values.proofs.Terms.{writing_start, writing_next, writing_end}
 use Rattle.values.proofs.write_terms.Goals as goal
 
 pub loop-i-init : goal.loop-i-init
 loop-i-init c =
-    writing-start c.args.out.now c.args.u
+    writing_start c.args.out.now c.args.u
 
 pub count_bytes-word-requires : goal.count_bytes-word-requires
 count_bytes-word-requires c = c.raw.ensures.1
@@ -37,10 +37,10 @@ loop-i-preserved c =
     let page = c.args.out.now in
     let u = c.args.u in
     let l = loop in
-    let r : raw.result ≡ rawOf (expAt (placesOf u) l.i) = raw.ensures.0 ∙ ap rawOf (back (expAt (placesOf u) l.i) raw-arg.given) in
-    writing-next page u l.out l.at l.i l.invariant loop-test.true c.requires.0 c.requires.1 _
+    let r : raw.result ≡ raw_of (exp_at (places_of u) l.i) = raw.ensures.0 ∙ ap raw_of (back (exp_at (places_of u) l.i) raw-arg.given) in
+    writing_next page u l.out l.at l.i l.invariant loop-test.true c.requires.0 c.requires.1 _
     (put-bytes.ensures ∙ rw (count-bytes.ensures, r))
 
 pub returns : goal.returns
 returns c =
-    let l = c.loop-i in writing-end c.args.out.now c.args.u l.out l.at l.i l.invariant c.loop-i-test.false
+    let l = c.loop-i in writing_end c.args.out.now c.args.u l.out l.at l.i l.invariant c.loop-i-test.false
