@@ -12,7 +12,7 @@ use Rattle.pages.specs.Bytes.{count_bytes}
 use Rattle.pages.proofs.Quant.{all_at}
 use Rattle.names.specs.Calls.{is_used}
 use Rattle.kinds.specs.Kinds.{fixed_max, is_named, is_stored, fewest, most}
-use Rattle.types.specs.Store.{head_bytes, child_bytes, name_bytes, children_at, kind_at, child_at, name_at, size_at, entry_at, offset, depth_in, larger, deepest, depth_max, depth_at, depths, is_below, children_below, parts_at, equal_to, good_at, whole_at, new_at}
+use Rattle.types.specs.Store.{head_bytes, child_bytes, name_bytes, children_at, kind_at, child_at, name_at, size_at, entry_at, offset, depth_in, larger, deepest, depth_max, depth_at, depths, is_below, children_below, parts_at, good_at, whole_at, new_at}
 
 -- ---- sizes
 

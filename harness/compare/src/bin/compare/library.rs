@@ -1,4 +1,4 @@
-//! The static library `riddlepoppy`, asked the same questions as the oracle.
+//! The static library `calls`, asked the same questions as the oracle.
 
 use compare::call::{Answer, Call, Question};
 use compare::exports::*;
