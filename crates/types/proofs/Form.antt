@@ -8,14 +8,29 @@ use native.Mathlib.Omega.{arith}
 use lib.Dec.{ltb, leb, eqb}
 use lib.ListN.{length, get_or, take}
 use lib.Seq.{get_or-take}
+use Rattle.std.proofs.Math.Bool.{and_comm}
 use borrow.Author.Tests.{lt-ltb, ltb-true, le-leb, lt-leb, leb-true, eqb-true, ltb-false}
 use Rattle.pages.specs.Quant.{all_to}
 use Rattle.pages.specs.Bytes.{within}
 use Rattle.pages.proofs.Quant.{and_true, all_none, all_each}
 use Rattle.names.specs.Calls.{is_used}
 use Rattle.kinds.specs.Kinds.{fixed_max, is_named, is_stored, fewest, most}
-use Rattle.types.specs.Store.{depth_max, head_bytes, child_bytes, children_at, kind_at, child_at, name_at, size_at, offset, depth_in, larger, deepest, depth_at, depths, is_below, children_below, parts_at, whole_at, Reached}
+use Rattle.types.specs.Store.{depth_max, head_bytes, child_bytes, children_at, kind_at, child_at, name_at, size_at, offset, depth_in, larger, deepest, depth_at, depths, is_below, children_below, parts_at, good_at, Reached}
+use Rattle.types.specs.Survey.{whole_at, new_at}
 use Rattle.types.proofs.Store.{size_head, size_children, offset_next, child_below, depth_fixed, depth_entry}
+
+-- ---- a good entry is whole and new
+
+pub good_both : (page : List ℕ) (n j : ℕ) → good_at page n j ≡ (whole_at page n j && new_at page j)
+unfolding good_at
+good_both page n j =
+    go (leb (offset page (suc j)) (length page)) (parts_at page n (fixed_max + j) (offset page j)) (new_at page j)
+    (leb (depth_at page (depths page j) (offset page j)) depth_max)
+  where
+    go : (a b c d : Bool) → (a && (b && (c && d))) ≡ ((a && (b && d)) && c)
+    go false b c d = refl
+    go true false c d = refl
+    go true true c d = and_comm c d
 
 -- ---- an entry with its parts
 

@@ -17,8 +17,8 @@ use Rattle.chains.specs.Last.{last_below, Links}
 use Rattle.chains.specs.Prints.{prints_max, print_of}
 use Rattle.chains.proofs.Walk as walk
 use Rattle.chains.proofs.Grow.{heads_none, heads_more, links_none, links_more}
-use Rattle.types.specs.Store.{entries_max, size_at, entry_at, offset, is_entry, new_at}
-use Rattle.types.specs.Survey.{print_at, Placed, Chained}
+use Rattle.types.specs.Store.{entries_max, size_at, entry_at, offset, is_entry}
+use Rattle.types.specs.Survey.{new_at, print_at, Placed, Chained}
 use Rattle.types.proofs.Store.{offset_next, offset_le, entry_part}
 
 pub same_print : (page entry : List ℕ) (i : ℕ) → is_entry page entry i ≡ true → print_at page i ≡ print_of entry

@@ -1,18 +1,18 @@
 -- The store, entry by entry: one law for each return. Assumes nothing.
 use mathlib.Core.Path.{◌≡◌, refl, ap}
-use mathlib.Core.Bool.{Bool, true, false, ◌&&◌, cond}
+use mathlib.Core.Bool.{Bool, true, false, cond}
 use mathlib.Core.List.{List}
 use Prim.Native.Nat.{ℕ, zero, suc, ◌+◌, ◌-◌, ◌*◌, ◌<◌, ◌≤◌}
 use native.Mathlib.Numerals.{add-one}
 use native.Mathlib.Omega.{arith}
-use lib.Dec.{ltb, leb}
-use lib.ListN.{length, get_or, take, drop}
+use lib.Dec.{ltb}
+use lib.ListN.{get_or, take, drop}
 use borrow.Author.Tests.{lt-ltb, le-ltb, ltb-true, le-leb, lt-leb, eq-eqb, ne_eqb}
 use Rattle.pages.specs.Bytes.{count_bytes}
 use Rattle.pages.proofs.Quant.{all_at}
 use Rattle.names.specs.Calls.{is_used}
 use Rattle.kinds.specs.Kinds.{fixed_max, is_named, is_stored, fewest, most}
-use Rattle.types.specs.Store.{head_bytes, child_bytes, name_bytes, children_at, kind_at, child_at, name_at, size_at, entry_at, offset, depth_in, larger, deepest, depth_max, depth_at, depths, is_below, children_below, parts_at, good_at, whole_at, new_at}
+use Rattle.types.specs.Store.{head_bytes, child_bytes, name_bytes, children_at, kind_at, child_at, name_at, size_at, entry_at, offset, depth_in, larger, deepest, is_below, children_below, parts_at}
 
 -- ---- sizes
 
@@ -119,19 +119,3 @@ pub entry_part : (page : List ℕ) (at next : ℕ) → next ≡ at + size_at pag
 entry_part page at next e =
     let s : next - at ≡ size_at page at = omega arith in
     ap (λ (k : ℕ). take k (drop at page)) s
-
--- ---- a good entry is whole and new
-
-pub good_both : (page : List ℕ) (n j : ℕ) → good_at page n j ≡ (whole_at page n j && new_at page j)
-unfolding good_at
-good_both page n j =
-    go (leb (offset page (suc j)) (length page)) (parts_at page n (fixed_max + j) (offset page j)) (new_at page j)
-    (leb (depth_at page (depths page j) (offset page j)) depth_max)
-  where
-    go : (a b c d : Bool) → (a && (b && (c && d))) ≡ ((a && (b && d)) && c)
-    go false b c d = refl
-    go true false c d = refl
-    go true true false false = refl
-    go true true false true = refl
-    go true true true false = refl
-    go true true true true = refl

@@ -118,16 +118,6 @@ good_at page n j =
     && (leb j (equal_to page j (entry_at page (offset page j)))
     && leb (depth_at page (depths page j) (offset page j)) depth_max))
 
--- so it is whole, which speaks of no entry's bytes but its own, and new (`good_both` in proofs/Store.antt)
-abbrev pub whole_at : List ℕ → ℕ → ℕ → Bool
-whole_at page n j =
-    leb (offset page (suc j)) (length page)
-    && (parts_at page n (fixed_max + j) (offset page j)
-    && leb (depth_at page (depths page j) (offset page j)) depth_max)
-
-abbrev pub new_at : List ℕ → ℕ → Bool
-new_at page j = leb j (equal_to page j (entry_at page (offset page j)))
-
 -- where a test stands that goes through the entries: entry j begins at o, and ds begins with the depths of those before it
 pub record Reached (page ds : List ℕ) (j o : ℕ) : Type 0 where
   pub at : o ≡ offset page j

@@ -1,12 +1,26 @@
 -- The test of a store's form, one entry after another: what it keeps in mind, and what it leaves in the tables that it is lent.
-use Rattle.std.specs.Prelude.{◌≡◌, Bool, ◌&&◌, not, cond, List, ◌++◌, ℕ, suc, ◌<◌, ◌≤◌, leb, length, get_or, drop}
+use Rattle.std.specs.Prelude.{◌≡◌, Bool, ◌&&◌, not, cond, List, ◌++◌, ℕ, suc, ◌+◌, ◌<◌, ◌≤◌, leb, length, get_or, drop}
 use Rattle.pages.specs.Quant.{first_to}
 use Rattle.pages.specs.Bytes.{count_bytes, count_of}
 use Rattle.chains.specs.Last.{Heads, Links}
 use Rattle.chains.specs.Prints.{prints_max, print_of}
 use Rattle.names.specs.Calls.{lent_broken, used_of}
-use Rattle.types.specs.Store.{entries_max, entry_at, offset, depths, good_at}
+use Rattle.kinds.specs.Kinds.{fixed_max}
+use Rattle.types.specs.Store.{entries_max, depth_max, entry_at, offset, depth_at, depths, parts_at, equal_to, good_at}
 use Rattle.types.specs.Calls.{list_to}
+
+-- ---- an entry that is good is whole and new (`good_both` in proofs/Form.antt), and is tested in this order
+
+-- entry j lies in the page, has its parts, and is not too deep
+abbrev pub whole_at : List ℕ → ℕ → ℕ → Bool
+whole_at page n j =
+    leb (offset page (suc j)) (length page)
+    && (parts_at page n (fixed_max + j) (offset page j)
+    && leb (depth_at page (depths page j) (offset page j)) depth_max)
+
+-- it is equal to none before it: "no two entries are equal"
+abbrev pub new_at : List ℕ → ℕ → Bool
+new_at page j = leb j (equal_to page j (entry_at page (offset page j)))
 
 -- ---- an entry is compared only with those before it that have its print
 

@@ -9,11 +9,11 @@ ghost use Rattle.pages.specs.Pad.{pad};
 ghost use Rattle.chains.specs.Last.{last_below, Links};
 ghost use Rattle.chains.specs.Prints.{print_of};
 ghost use Rattle.kinds.specs.Kinds.{fixed_max, children_max, is_named, fewest, most};
-ghost use Rattle.types.specs.Store.{entries_max, head_bytes, child_bytes, children_at, size_at, offset, depth_in, larger, depth_at, is_below, children_below, parts_at, is_entry, equal_to, whole_at, new_at, formed, Reached};
+ghost use Rattle.types.specs.Store.{entries_max, head_bytes, child_bytes, children_at, size_at, offset, depth_in, larger, depth_at, is_below, children_below, parts_at, is_entry, equal_to, formed, Reached};
 ghost use Rattle.types.specs.Types.{types_in, kind_of, arity, child_of, name_of, Held, Measured};
 ghost use Rattle.types.specs.Making.{entry_of, entry_max, Ready, enter_answer, enter_page, taken_back};
 ghost use Rattle.types.specs.Calls.{store_broken, empty_verdict, empty_page, all_below, parts_used, make_answer, make_page, list_to, type_at, shown, read_answer, const_entry, const_answer, const_page};
-ghost use Rattle.types.specs.Survey.{print_at, Placed, Chained, offsets_left, depths_left, opened_offsets, opened_depths};
+ghost use Rattle.types.specs.Survey.{whole_at, new_at, print_at, Placed, Chained, offsets_left, depths_left, opened_offsets, opened_depths};
 
 use kinds::{CHILDREN, FIXED, Kind};
 use names::{Symbol, symbol_index};
