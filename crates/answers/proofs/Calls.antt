@@ -1,4 +1,6 @@
 -- What the calls for operators and indexing come to, one law for each return. Assumes nothing.
+use Rattle.units.specs.declared.Unit.{Unit}
+use Rattle.std.proofs.Common.{Result, Ok, Err, Option}
 use mathlib.Core.Path.{◌≡◌, refl, sym, ap, fun_ext, ◌∙◌}
 use mathlib.Core.Bool.{Bool, true, false, ◌&&◌, ◌||◌, not}
 use mathlib.Core.List.{List, [], ◌∷◌}
@@ -9,7 +11,6 @@ use borrow.Author.Tests.{not-false}
 use Rattle.refusals.specs.Lowest.{◌when◌, lowest}
 use Rattle.refusals.specs.declared.Refusal.{Refusal}
 use Rattle.refusals.specs.declared.Refusal.TheVariants.{Undefined, Broken, Unused, BadUnit}
-use Rattle.refusals.specs.declared.Verdict.TheVariants.{Passed, Refused}
 use Rattle.refusals.proofs.Lowest.{first_holds, passed_parts}
 use Rattle.pages.proofs.Quant.{and_true}
 use Rattle.names.specs.Calls.{used_of}
@@ -21,7 +22,6 @@ use Rattle.matching.specs.Matching as matching
 use Rattle.matching.specs.declared.Checked.{Checked}
 use Rattle.units.specs.Unit.{in_use}
 use Rattle.units.specs.Calls.{present}
-use Rattle.units.specs.declared.MaybeUnit.{MaybeUnit}
 use Rattle.pairs.specs.Calls.{table_broken}
 use Rattle.sums.specs.Calls.{roots_in, or_empty}
 use Rattle.operators.specs.Operators.{is_operator}
@@ -29,44 +29,43 @@ use Rattle.operators.specs.Outcome.{number_of}
 use Rattle.operators.proofs.Table.{operator_range}
 use Rattle.operators.specs.declared.Outcome.{Outcome}
 use Rattle.members.specs.Members.{Concluded, concluded}
-use Rattle.members.specs.declared.Conclusion.{Conclusion}
 use Rattle.members.specs.Leaves.{Leaves}
 use Rattle.members.proofs.Leaves.{leaves_grown}
 use Rattle.members.proofs.Kept.{Kept, number_used}
 use Rattle.unary.specs.Unary.{check_unary}
 use Rattle.unary.proofs.Kept.{unary_kept}
 use Rattle.indexing.specs.Indexing.{check_index}
-use Rattle.answers.specs.Calls.{operand_used, operand_formed, operand_conditions, refused, answered, binary_verdict, binary_checked, binary_answer, concluded_by, store_after, unary_verdict, unary_unit, unary_checked, unary_answer, unary_page, keyed, index_verdict, index_answer, index_page}
+use Rattle.answers.specs.Calls.{operand_used, operand_formed, operand_conditions, answered, binary_verdict, binary_checked, binary_answer, concluded_by, store_after, unary_verdict, unary_unit, unary_checked, unary_answer, unary_page, keyed, index_verdict, index_answer, index_page}
 use Rattle.answers.specs.declared.CheckedExpr.{CheckedExpr}
 use Rattle.answers.specs.declared.Answered.{Answered}
 
 -- ---- two operands
 
 module _ (page : List ℕ) (n : ℕ) (left right : CheckedExpr) where
-  unused : (operand_used page n left && operand_used page n right) ≡ false → Refused Unused ≡ lowest (operand_conditions page n left right)
+  unused : (operand_used page n left && operand_used page n right) ≡ false → Err Unused ≡ lowest (operand_conditions page n left right)
   unused u = sym (rw u (first_holds Unused ((BadUnit when not (operand_formed left && operand_formed right)) ∷ []) refl))
 
-  pub left_unused : operand_used page n left ≡ false → Refused Unused ≡ lowest (operand_conditions page n left right)
+  pub left_unused : operand_used page n left ≡ false → Err Unused ≡ lowest (operand_conditions page n left right)
   left_unused u = unused (rw u)
 
   module _ (l : operand_used page n left ≡ true) where
-    pub right_unused : operand_used page n right ≡ false → Refused Unused ≡ lowest (operand_conditions page n left right)
+    pub right_unused : operand_used page n right ≡ false → Err Unused ≡ lowest (operand_conditions page n left right)
     right_unused u = unused (rw (l, u))
 
     module _ (r : operand_used page n right ≡ true) where
-      pub left_bad : operand_formed left ≡ false → Refused BadUnit ≡ lowest (operand_conditions page n left right)
+      pub left_bad : operand_formed left ≡ false → Err BadUnit ≡ lowest (operand_conditions page n left right)
       left_bad f = rw (l, r, f)
 
       module _ (f : operand_formed left ≡ true) where
-        pub right_bad : operand_formed right ≡ false → Refused BadUnit ≡ lowest (operand_conditions page n left right)
+        pub right_bad : operand_formed right ≡ false → Err BadUnit ≡ lowest (operand_conditions page n left right)
         right_bad g = rw (l, r, f, g)
 
-        pub both_pass : operand_formed right ≡ true → Passed ≡ lowest (operand_conditions page n left right)
+        pub both_pass : operand_formed right ≡ true → Ok tt ≡ lowest (operand_conditions page n left right)
         both_pass g = rw (l, r, f, g)
 
   -- what two operands have that are not refused
-  module _ (v : lowest (operand_conditions page n left right) ≡ Passed) where
-    parts : (not (operand_used page n left && operand_used page n right) ≡ false) × (lowest ((BadUnit when not (operand_formed left && operand_formed right)) ∷ []) ≡ Passed)
+  module _ (v : lowest (operand_conditions page n left right) ≡ Ok tt) where
+    parts : (not (operand_used page n left && operand_used page n right) ≡ false) × (lowest ((BadUnit when not (operand_formed left && operand_formed right)) ∷ []) ≡ Ok tt)
     parts = passed_parts Unused (not (operand_used page n left && operand_used page n right)) ((BadUnit when not (operand_formed left && operand_formed right)) ∷ []) v
 
     pub passed_formed : (operand_formed left ≡ true) × (operand_formed right ≡ true)
@@ -84,11 +83,11 @@ module _ (page : List ℕ) (n : ℕ) (left right : CheckedExpr) where
 -- ---- binary operators
 
 module _ (page names : List ℕ) (lent : Bool) (pairs : List ℕ) (op : ℕ) (left right : CheckedExpr) where
-  binary_refused : (r : Refusal) → binary_verdict page names lent pairs op left right ≡ Refused r → refused r ≡ binary_answer page names lent pairs op left right
+  binary_refused : (r : Refusal) → binary_verdict page names lent pairs op left right ≡ Err r → Err r ≡ binary_answer page names lent pairs op left right
   unfolding binary_answer
   binary_refused r v = rw v
 
-  pub binary_undefined : is_operator op ≡ false → refused Undefined ≡ binary_answer page names lent pairs op left right
+  pub binary_undefined : is_operator op ≡ false → Err Undefined ≡ binary_answer page names lent pairs op left right
   binary_undefined d =
       binary_refused Undefined
       (rw d
@@ -96,15 +95,15 @@ module _ (page names : List ℕ) (lent : Bool) (pairs : List ℕ) (op : ℕ) (le
       ((Broken when (store_broken page names lent || table_broken pairs names lent)) ∷ operand_conditions page (used_of names lent) left right) refl))
 
   module _ (d : is_operator op ≡ true) where
-    pub binary_broken : (store_broken page names lent || table_broken pairs names lent) ≡ true → refused Broken ≡ binary_answer page names lent pairs op left right
+    pub binary_broken : (store_broken page names lent || table_broken pairs names lent) ≡ true → Err Broken ≡ binary_answer page names lent pairs op left right
     binary_broken b = binary_refused Broken (rw (d, b) (first_holds Broken (operand_conditions page (used_of names lent) left right) refl))
 
     module _ (b : store_broken page names lent ≡ false) (t : table_broken pairs names lent ≡ false) where
-      pub binary_unfit : (r : Refusal) → Refused r ≡ lowest (operand_conditions page (used_of names lent) left right)
-          → refused r ≡ binary_answer page names lent pairs op left right
+      pub binary_unfit : (r : Refusal) → Err r ≡ lowest (operand_conditions page (used_of names lent) left right)
+          → Err r ≡ binary_answer page names lent pairs op left right
       binary_unfit r v = binary_refused r (rw (d, b, t) (sym v))
 
-      pub binary_passed : Passed ≡ lowest (operand_conditions page (used_of names lent) left right)
+      pub binary_passed : Ok tt ≡ lowest (operand_conditions page (used_of names lent) left right)
           → (root : ℕ → ℕ) → ((s : ℕ) → root s ≡ roots_in pairs s)
           → binary_checked page root op left right ≡ binary_answer page names lent pairs op left right
       unfolding binary_answer
@@ -114,11 +113,11 @@ module _ (page names : List ℕ) (lent : Bool) (pairs : List ℕ) (op : ℕ) (le
 
 -- the check of an operator with one operand
 module _ (page : List ℕ) (f : Formed page) (op : ℕ) (d : is_operator op ≡ true) (x : Checked) (u : matching.in_use page x ≡ true)
-    (r : Conclusion) (after : List ℕ) (e : concluded r after ≡ check_unary page op x) where
+    (r : Result Outcome Refusal) (after : List ℕ) (e : concluded r after ≡ check_unary page op x) where
   kept : Kept page (concluded r after)
   kept = rw e (unary_kept page f op (operator_range op d).0 x u)
 
-  pub unary_used : (o : Outcome) → r ≡ Conclusion.Is o → number_of o.checked < types_in after
+  pub unary_used : (o : Outcome) → r ≡ Ok o → number_of o.checked < types_in after
   unary_used o h = number_used after o.checked (kept.used o h)
 
   pub unary_grown : Grows page after
@@ -130,19 +129,19 @@ module _ (page : List ℕ) (f : Formed page) (op : ℕ) (d : is_operator op ≡ 
   unary_leaves leaves n is l =
       (omega (arith, is, kept.grown.more), rw is (leaves_grown true page after f kept.form kept.grown leaves (types_in page) (le_refl (types_in page)) l))
 
-module _ (page : List ℕ) (z : Concluded) (r : Conclusion) (after : List ℕ) (e : concluded r after ≡ z) where
-  pub unary_is : (op : ℕ) (u : MaybeUnit) (o : Outcome) → r ≡ Conclusion.Is o
-      → (answered o (unary_unit after op o u) ≡ unary_checked z op u) × (after ≡ store_after z page)
+module _ (page : List ℕ) (z : Concluded) (r : Result Outcome Refusal) (after : List ℕ) (e : concluded r after ≡ z) where
+  pub unary_is : (op : ℕ) (u : Option Unit) (o : Outcome) → r ≡ Ok o
+      → (Ok (answered o (unary_unit after op o u)) ≡ unary_checked z op u) × (after ≡ store_after z page)
   unary_is op u o h = (rw (← e, h) refl, rw (← e, h) refl)
 
-  pub unary_stopped : (op : ℕ) (u : MaybeUnit) (q : Refusal) → r ≡ Conclusion.Refused q → (refused q ≡ unary_checked z op u) × (page ≡ store_after z page)
+  pub unary_stopped : (op : ℕ) (u : Option Unit) (q : Refusal) → r ≡ Err q → (Err q ≡ unary_checked z op u) × (page ≡ store_after z page)
   unary_stopped op u q h = (rw (← e, h) refl, rw (← e, h) refl)
 
-  pub index_is : (u : MaybeUnit) (o : Outcome) → r ≡ Conclusion.Is o → (answered o u ≡ concluded_by z.conclusion u) × (after ≡ store_after z page)
+  pub index_is : (u : Option Unit) (o : Outcome) → r ≡ Ok o → (Ok (answered o u) ≡ concluded_by z.conclusion u) × (after ≡ store_after z page)
   index_is u o h = (rw (← e, h) refl, rw (← e, h) refl)
 
-  pub index_stopped : (u : MaybeUnit) (q : Refusal) → r ≡ Conclusion.Refused q → z.store ≡ page
-      → (refused q ≡ concluded_by z.conclusion u) × (after ≡ store_after z page)
+  pub index_stopped : (u : Option Unit) (q : Refusal) → r ≡ Err q → z.store ≡ page
+      → (Err q ≡ concluded_by z.conclusion u) × (after ≡ store_after z page)
   index_stopped u q h same =
       let left : after ≡ page = ap (λ (y : Concluded). y.store) e ∙ same in
       (rw (← e, h) refl, left ∙ rw (← e, h) refl)
@@ -151,27 +150,27 @@ module _ (page : List ℕ) (z : Concluded) (r : Conclusion) (after : List ℕ) (
 
 module _ (page names : List ℕ) (lent : Bool) (op : ℕ) (x : CheckedExpr) where
   -- an answer and a page are those of the call
-  abbrev Unary : Answered → List ℕ → Type 0
+  abbrev Unary : Result Answered Refusal → List ℕ → Type 0
   Unary a after = (a ≡ unary_answer page names lent op x) × (after ≡ unary_page page names lent op x)
 
-  unary_refused : (r : Refusal) → unary_verdict page names lent op x ≡ Refused r → Unary (refused r) page
+  unary_refused : (r : Refusal) → unary_verdict page names lent op x ≡ Err r → Unary (Err r) page
   unfolding unary_answer unary_page
   unary_refused r v = (rw v refl, rw v refl)
 
-  pub unary_undefined : is_operator op ≡ false → Unary (refused Undefined) page
+  pub unary_undefined : is_operator op ≡ false → Unary (Err Undefined) page
   unary_undefined d =
       unary_refused Undefined
       (rw d (first_holds Undefined ((Broken when store_broken page names lent) ∷ operand_conditions page (used_of names lent) x x) refl))
 
   module _ (d : is_operator op ≡ true) where
-    pub unary_broken : store_broken page names lent ≡ true → Unary (refused Broken) page
+    pub unary_broken : store_broken page names lent ≡ true → Unary (Err Broken) page
     unary_broken b = unary_refused Broken (rw (d, b) (first_holds Broken (operand_conditions page (used_of names lent) x x) refl))
 
     module _ (b : store_broken page names lent ≡ false) where
-      pub unary_unfit : (r : Refusal) → Refused r ≡ lowest (operand_conditions page (used_of names lent) x x) → Unary (refused r) page
+      pub unary_unfit : (r : Refusal) → Err r ≡ lowest (operand_conditions page (used_of names lent) x x) → Unary (Err r) page
       unary_unfit r v = unary_refused r (rw (d, b) (sym v))
 
-      pub unary_passed : Passed ≡ lowest (operand_conditions page (used_of names lent) x x) → {a : Answered} {after : List ℕ}
+      pub unary_passed : Ok tt ≡ lowest (operand_conditions page (used_of names lent) x x) → {a : Result Answered Refusal} {after : List ℕ}
           → a ≡ unary_checked (check_unary page op x.checked) op x.unit → after ≡ store_after (check_unary page op x.checked) page → Unary a after
       unfolding unary_answer unary_page
       unary_passed v p q = (rw (d, b, ← v) p, rw (d, b, ← v) q)
@@ -180,21 +179,21 @@ module _ (page names : List ℕ) (lent : Bool) (op : ℕ) (x : CheckedExpr) wher
 
 module _ (page names : List ℕ) (lent : Bool) (target : CheckedExpr) (key : Checked) where
   -- an answer and a page are those of the call
-  abbrev Indexed : Answered → List ℕ → Type 0
+  abbrev Indexed : Result Answered Refusal → List ℕ → Type 0
   Indexed a after = (a ≡ index_answer page names lent target key) × (after ≡ index_page page names lent target key)
 
-  index_refused : (r : Refusal) → index_verdict page names lent target key ≡ Refused r → Indexed (refused r) page
+  index_refused : (r : Refusal) → index_verdict page names lent target key ≡ Err r → Indexed (Err r) page
   unfolding index_answer index_page
   index_refused r v = (rw v refl, rw v refl)
 
-  pub index_broken : store_broken page names lent ≡ true → Indexed (refused Broken) page
+  pub index_broken : store_broken page names lent ≡ true → Indexed (Err Broken) page
   index_broken b = index_refused Broken (rw b (first_holds Broken (operand_conditions page (used_of names lent) target (keyed key)) refl))
 
   module _ (b : store_broken page names lent ≡ false) where
-    pub index_unfit : (r : Refusal) → Refused r ≡ lowest (operand_conditions page (used_of names lent) target (keyed key)) → Indexed (refused r) page
+    pub index_unfit : (r : Refusal) → Err r ≡ lowest (operand_conditions page (used_of names lent) target (keyed key)) → Indexed (Err r) page
     index_unfit r v = index_refused r (rw b (sym v))
 
-    pub index_passed : Passed ≡ lowest (operand_conditions page (used_of names lent) target (keyed key)) → {a : Answered} {after : List ℕ}
+    pub index_passed : Ok tt ≡ lowest (operand_conditions page (used_of names lent) target (keyed key)) → {a : Result Answered Refusal} {after : List ℕ}
         → a ≡ concluded_by (check_index page key target.checked).conclusion target.unit
         → after ≡ store_after (check_index page key target.checked) page → Indexed a after
     unfolding index_answer index_page

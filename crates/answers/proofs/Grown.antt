@@ -1,6 +1,9 @@
 -- The store that a call leaves has grown out of the one that it was given, whether or not the call is refused, so that types in use
 -- keep their kinds and children; for operands in use it is in form as well, and the type that is answered is in use in it. Assumes
 -- nothing.
+use Rattle.units.specs.declared.Unit.{Unit}
+use Rattle.std.proofs.Common.{Result, Ok, Err, Option, IfOk}
+use Rattle.refusals.specs.declared.Refusal.{Refusal}
 use mathlib.Core.Path.{◌≡◌, refl}
 use mathlib.Core.Bool.{Bool, true, false, not, cond}
 use mathlib.Core.List.{List, ◌∷◌}
@@ -8,8 +11,7 @@ use Prim.Native.Nat.{ℕ}
 use borrow.Author.Tests.{not-false}
 use Rattle.refusals.specs.Lowest.{◌when◌, unless_refused}
 use Rattle.refusals.specs.declared.Refusal.TheVariants.{Undefined, Broken}
-use Rattle.refusals.specs.declared.Verdict.{Verdict}
-use Rattle.refusals.specs.declared.Verdict.TheVariants.{Passed, Refused}
+use Rattle.refusals.specs.Numbers.{Verdict}
 use Rattle.refusals.proofs.Lowest.{passed_parts}
 use Rattle.names.specs.Calls.{used_of}
 use Rattle.types.specs.Store.{Formed}
@@ -19,23 +21,20 @@ use Rattle.types.proofs.Calls.{unbroken_both}
 use Rattle.types.proofs.Grown.{grows_refl}
 use Rattle.matching.specs.Matching.{in_use}
 use Rattle.matching.specs.declared.Checked.{Checked}
-use Rattle.units.specs.declared.MaybeUnit.{MaybeUnit}
 use Rattle.operators.specs.Operators.{is_operator}
 use Rattle.operators.specs.Outcome.{passes}
 use Rattle.operators.specs.declared.Outcome.{Outcome}
 use Rattle.operators.proofs.Table.{operator_range}
 use Rattle.members.specs.Members.{Concluded}
-use Rattle.members.specs.declared.Conclusion.{Conclusion}
-use Rattle.members.proofs.Kept.{Kept, unknown_used}
+use Rattle.members.proofs.Kept.{Kept}
 use Rattle.binary.specs.Binary.{check_binary}
 use Rattle.binary.proofs.Settled.{binary_used}
 use Rattle.unary.specs.Unary.{check_unary}
 use Rattle.unary.proofs.Kept.{unary_kept}
 use Rattle.indexing.specs.Indexing.{check_index}
 use Rattle.indexing.proofs.Indexing.{index_kept}
-use Rattle.answers.specs.Calls.{operand_conditions, answered, unless, with_unit, binary_checked, concluded_by, left_by, store_after, unary_verdict, unary_concluded, unary_checked, unary_page, keyed, index_verdict, index_page}
+use Rattle.answers.specs.Calls.{operand_conditions, answered, with_unit, binary_checked, concluded_by, store_after, unary_verdict, unary_concluded, unary_checked, unary_page, keyed, index_verdict, index_page, beside}
 use Rattle.answers.specs.Units.{no_unit, clashes, binary_unit}
-use Rattle.answers.specs.declared.MaybeResult.{MaybeResult}
 use Rattle.answers.specs.declared.CheckedExpr.{CheckedExpr}
 use Rattle.answers.proofs.Calls.{passed_used}
 
@@ -49,13 +48,13 @@ module _ (page : List ℕ) (f : Formed page) where
   left_by_lem : (z : Concluded) → Kept page z → Left (store_after z page)
   left_by_lem z k = go z.conclusion
     where
-      go : (c : Conclusion) → Left (left_by c z.store page)
-      go (Conclusion.Is o) = (k.grown, k.form)
-      go (Conclusion.Refused r) = (grows_refl page, f)
+      go : (c : Result Outcome Refusal) → Left (unless_refused c z.store page)
+      go (Ok o) = (k.grown, k.form)
+      go (Err r) = (grows_refl page, f)
 
   -- what a binary check answers
   pub binary_answer_used : (root : ℕ → ℕ) (op : ℕ) (left right : CheckedExpr) → in_use page left.checked ≡ true → in_use page right.checked ≡ true
-      → in_use page (binary_checked page root op left right).checked ≡ true
+      → IfOk (binary_checked page root op left right) (λ a. in_use page a.checked ≡ true)
   unfolding binary_checked with_unit
   binary_answer_used root op left right u v = go (passes o) (binary_unit op left.unit right.unit)
     where
@@ -65,36 +64,33 @@ module _ (page : List ℕ) (f : Formed page) where
       used : in_use page o.checked ≡ true
       used = binary_used page f op (clashes root left.unit right.unit) left.checked right.checked u v
 
-      judged : (w : Verdict) (m : MaybeUnit) → in_use page (unless w (answered o m)).checked ≡ true
-      judged Passed m = used
-      judged (Refused r) m = unknown_used page
-
-      go : (b : Bool) (m : MaybeResult) → in_use page (cond b (unless m.verdict (answered o m.unit)) (answered o no_unit)).checked ≡ true
-      go true m = judged m.verdict m.unit
+      go : (b : Bool) (m : Result (Option Unit) Refusal) → IfOk (cond b (beside o m) (Ok (answered o no_unit))) (λ a. in_use page a.checked ≡ true)
+      go true (Ok m) = used
+      go true (Err r) = tt
       go false m = used
 
   -- and a check whose answer may enter a union, with any unit
-  unary_says : (z : Concluded) → Kept page z → (op : ℕ) (unit : MaybeUnit) → in_use (store_after z page) (unary_checked z op unit).checked ≡ true
+  unary_says : (z : Concluded) → Kept page z → (op : ℕ) (unit : Option Unit) → IfOk (unary_checked z op unit) (λ a. in_use (store_after z page) a.checked ≡ true)
   unary_says z k op unit = go z.conclusion refl
     where
-      go : (c : Conclusion) → z.conclusion ≡ c → in_use (left_by c z.store page) (unary_concluded c z.store op unit).checked ≡ true
-      go (Conclusion.Is o) e = k.used o e
-      go (Conclusion.Refused r) e = unknown_used page
+      go : (c : Result Outcome Refusal) → z.conclusion ≡ c → IfOk (unary_concluded c z.store op unit) (λ a. in_use (unless_refused c z.store page) a.checked ≡ true)
+      go (Ok o) e = k.used o e
+      go (Err r) e = tt
 
-  index_says : (z : Concluded) → Kept page z → (unit : MaybeUnit) → in_use (store_after z page) (concluded_by z.conclusion unit).checked ≡ true
+  index_says : (z : Concluded) → Kept page z → (unit : Option Unit) → IfOk (concluded_by z.conclusion unit) (λ a. in_use (store_after z page) a.checked ≡ true)
   index_says z k unit = go z.conclusion refl
     where
-      go : (c : Conclusion) → z.conclusion ≡ c → in_use (left_by c z.store page) (concluded_by c unit).checked ≡ true
-      go (Conclusion.Is o) e = k.used o e
-      go (Conclusion.Refused r) e = unknown_used page
+      go : (c : Result Outcome Refusal) → z.conclusion ≡ c → IfOk (concluded_by c unit) (λ a. in_use (unless_refused c z.store page) a.checked ≡ true)
+      go (Ok o) e = k.used o e
+      go (Err r) e = tt
 
   pub unary_answer_used : (op : ℕ) → is_operator op ≡ true → (x : CheckedExpr) → in_use page x.checked ≡ true
-      → let z = check_unary page op x.checked in in_use (store_after z page) (unary_checked z op x.unit).checked ≡ true
+      → let z = check_unary page op x.checked in IfOk (unary_checked z op x.unit) (λ a. in_use (store_after z page) a.checked ≡ true)
   unary_answer_used op d x u =
       unary_says (check_unary page op x.checked) (unary_kept page f op (operator_range op d).0 x.checked u) op x.unit
 
   pub index_answer_used : (target : CheckedExpr) (key : Checked) → in_use page target.checked ≡ true
-      → let z = check_index page key target.checked in in_use (store_after z page) (concluded_by z.conclusion target.unit).checked ≡ true
+      → let z = check_index page key target.checked in IfOk (concluded_by z.conclusion target.unit) (λ a. in_use (store_after z page) a.checked ≡ true)
   index_answer_used target key u =
       index_says (check_index page key target.checked) (index_kept page f key target.checked u) target.unit
 
@@ -118,8 +114,8 @@ module _ (page names : List ℕ) (lent : Bool) where
     where
       go : (v : Verdict) → unary_verdict page names lent op x ≡ v
           → Grows page (unless_refused v (store_after (check_unary page op x.checked) page) page)
-      go (Refused r) e = grows_refl page
-      go Passed e =
+      go (Err r) e = grows_refl page
+      go (Ok _) e =
           let operands = operand_conditions page (used_of names lent) x x in
           let p = passed_parts Undefined (not (is_operator op)) ((Broken when store_broken page names lent) ∷ operands) e in
           let q = passed_parts Broken (store_broken page names lent) operands p.1 in
@@ -132,8 +128,8 @@ module _ (page names : List ℕ) (lent : Bool) where
     where
       go : (v : Verdict) → index_verdict page names lent target key ≡ v
           → Grows page (unless_refused v (store_after (check_index page key target.checked) page) page)
-      go (Refused r) e = grows_refl page
-      go Passed e =
+      go (Err r) e = grows_refl page
+      go (Ok _) e =
           let operands = operand_conditions page (used_of names lent) target (keyed key) in
           let q = passed_parts Broken (store_broken page names lent) operands e in
           (index_left page (formed q.0) key target.checked (passed_used page (used_of names lent) target (keyed key) q.1).0).0

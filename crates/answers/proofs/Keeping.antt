@@ -1,58 +1,59 @@
 -- Answers that keep their operand's unit, and calls that keep the store: − of a type that is no union (`negation_keeps`), an index
 -- (`index_keeps`), and the store that a call leaves where its check leaves it (`store_same`). Assumes nothing.
+use Rattle.refusals.specs.Lowest.{guarded, unless_refused}
+use Rattle.std.proofs.Common.{IfOk}
+use Rattle.units.specs.declared.Unit.{Unit}
+use Rattle.std.proofs.Common.{Result, Ok, Err, Option}
+use Rattle.refusals.specs.declared.Refusal.{Refusal}
 use mathlib.Core.Path.{◌≡◌, refl}
 use mathlib.Core.Bool.{Bool, true, false}
 use mathlib.Core.List.{List}
 use Prim.Native.Nat.{ℕ}
-use native.Mathlib.Omega.{arith}
-use Rattle.refusals.specs.declared.Verdict.{Verdict}
-use Rattle.refusals.specs.declared.Verdict.TheVariants.{Passed, Refused}
+use Rattle.refusals.specs.Numbers.{Verdict}
 use Rattle.kinds.specs.Kinds.{is_union}
 use Rattle.types.specs.Types.{kind_of}
 use Rattle.matching.specs.declared.Checked.{Checked}
-use Rattle.units.specs.declared.MaybeUnit.{MaybeUnit}
 use Rattle.operators.specs.Operators.{minus}
 use Rattle.operators.specs.Outcome.{number_of, passes}
 use Rattle.operators.specs.declared.Outcome.{Outcome}
 use Rattle.members.specs.Members.{Concluded}
-use Rattle.members.specs.declared.Conclusion.{Conclusion}
 use Rattle.indexing.specs.Indexing.{check_index}
 use Rattle.answers.specs.Units.{negation_unit}
-use Rattle.answers.specs.Calls.{unless, concluded_by, left_by, store_after, unary_unit, unary_checked, index_verdict, index_answer}
+use Rattle.answers.specs.Calls.{concluded_by, store_after, unary_unit, unary_checked, index_verdict, index_answer}
 use Rattle.answers.specs.declared.CheckedExpr.{CheckedExpr}
 
 -- ---- operators with one operand
 
 -- − that passes has its operand's unit, where the type that it answers is no union
-pub negation_unit_lem : (store : List ℕ) (o : Outcome) (u : MaybeUnit) → passes o ≡ true → is_union (kind_of store (number_of o.checked)) ≡ false
+pub negation_unit_lem : (store : List ℕ) (o : Outcome) (u : Option Unit) → passes o ≡ true → is_union (kind_of store (number_of o.checked)) ≡ false
     → unary_unit store minus o u ≡ u
 unfolding unary_unit negation_unit
 negation_unit_lem store o u p h = rw (p, h) refl
 
 -- and so has the answer
-pub negation_keeps : (z : Concluded) (o : Outcome) (u : MaybeUnit) → z.conclusion ≡ Conclusion.Is o → passes o ≡ true
-    → is_union (kind_of z.store (number_of o.checked)) ≡ false → (unary_checked z minus u).unit ≡ u
+pub negation_keeps : (z : Concluded) (o : Outcome) (u : Option Unit) → z.conclusion ≡ Ok o → passes o ≡ true
+    → is_union (kind_of z.store (number_of o.checked)) ≡ false → IfOk (unary_checked z minus u) (λ a. a.unit ≡ u)
 negation_keeps z o u e p h = rw e (negation_unit_lem z.store o u p h)
 
 -- ---- indexing
 
 -- a conclusion that is not refused has the unit beside it
-pub concluded_unit : (c : Conclusion) (u : MaybeUnit) → (concluded_by c u).verdict ≡ Passed → (concluded_by c u).unit ≡ u
-concluded_unit (Conclusion.Is o) u e = refl
-concluded_unit (Conclusion.Refused r) u e = absurd (let z : ◌≡◌ {A = ℕ} 0 1 = cc in omega arith)
+pub concluded_unit : (c : Result Outcome Refusal) (u : Option Unit) → IfOk (concluded_by c u) (λ a. a.unit ≡ u)
+concluded_unit (Ok o) u = refl
+concluded_unit (Err r) u = tt
 
 -- an index that is not refused has its target's unit
 pub index_keeps : (page names : List ℕ) (lent : Bool) (target : CheckedExpr) (key : Checked)
-    → (index_answer page names lent target key).verdict ≡ Passed → (index_answer page names lent target key).unit ≡ target.unit
+    → IfOk (index_answer page names lent target key) (λ a. a.unit ≡ target.unit)
 unfolding index_answer
 index_keeps page names lent target key = go (index_verdict page names lent target key)
   where
-    c : Conclusion
+    c : Result Outcome Refusal
     c = (check_index page key target.checked).conclusion
 
-    go : (v : Verdict) → (unless v (concluded_by c target.unit)).verdict ≡ Passed → (unless v (concluded_by c target.unit)).unit ≡ target.unit
-    go Passed e = concluded_unit c target.unit e
-    go (Refused r) e = absurd (let z : ◌≡◌ {A = ℕ} 0 1 = cc in omega arith)
+    go : (v : Verdict) → IfOk (guarded v (concluded_by c target.unit)) (λ a. a.unit ≡ target.unit)
+    go (Ok _) = concluded_unit c target.unit
+    go (Err r) = tt
 
 -- ---- the store
 
@@ -60,6 +61,6 @@ index_keeps page names lent target key = go (index_verdict page names lent targe
 pub store_same : (z : Concluded) (page : List ℕ) → z.store ≡ page → store_after z page ≡ page
 store_same z page e = go z.conclusion
   where
-    go : (c : Conclusion) → left_by c z.store page ≡ page
-    go (Conclusion.Is o) = e
-    go (Conclusion.Refused r) = refl
+    go : (c : Result Outcome Refusal) → unless_refused c z.store page ≡ page
+    go (Ok o) = e
+    go (Err r) = refl

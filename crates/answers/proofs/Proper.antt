@@ -1,13 +1,13 @@
 -- The units of answers are in form, and their symbols in use, where the operands' units are so: of binary operators (`binary_proper`),
 -- of − and ! (`unary_proper`) and of indexing (`index_proper`). An operand's unit is so exactly where it is not refused (`operand_proper`,
 -- `proper_operand`). Assumes nothing.
+use Rattle.std.proofs.Common.{Result, Ok, Err, Option, IfOk, Some}
+use Rattle.refusals.specs.declared.Refusal.{Refusal}
 use mathlib.Core.Path.{◌≡◌, refl, sym, ap, ◌∙◌}
 use mathlib.Core.Bool.{Bool, true, false, ◌&&◌, cond}
 use mathlib.Core.List.{List}
 use Prim.Native.Nat.{ℕ}
 use lib.Dec.{eqb}
-use Rattle.refusals.specs.declared.Verdict.{Verdict}
-use Rattle.refusals.specs.declared.Verdict.TheVariants.{Passed, Refused}
 use Rattle.pages.proofs.Quant.{and_true}
 use Rattle.names.specs.Table.{names_max}
 use Rattle.kinds.specs.Kinds.{is_union}
@@ -16,26 +16,24 @@ use Rattle.matching.specs.Matching as matching
 use Rattle.units.specs.Unit.{places_max, formed, in_use}
 use Rattle.units.specs.Calls.{terms_of, present, product_answer, unitless}
 use Rattle.units.specs.declared.Unit.{Unit}
-use Rattle.units.specs.declared.MaybeUnit.{MaybeUnit}
 use Rattle.units.proofs.Form.{formed_count}
 use Rattle.units.proofs.Held.{places_of}
 use Rattle.units.proofs.Used.{present_all}
 use Rattle.units.proofs.Symbols.{answer_formed, answer_used}
 use Rattle.sums.specs.Calls.{or_empty}
-use Rattle.operators.specs.Operators.{minus, adopted, multiplied, divided, unit_rule}
+use Rattle.operators.specs.Operators.{minus, unit_rule}
+use Rattle.operators.specs.declared.UnitRule.TheVariants.{Adopted, Multiplied, Divided, Ignored, Compared}
 use Rattle.operators.specs.Outcome.{number_of, passes}
 use Rattle.operators.specs.declared.Outcome.{Outcome}
 use Rattle.members.specs.Members.{Concluded}
-use Rattle.members.specs.declared.Conclusion.{Conclusion}
 use Rattle.binary.specs.Binary.{check_binary}
-use Rattle.answers.specs.Units.{no_unit, clashes, passed, adopted_by, combined, binary_unit, negation_unit}
-use Rattle.answers.specs.Calls.{operand_used, operand_formed, answered, unless, with_unit, binary_checked, concluded_by, unary_unit, unary_concluded, unary_checked}
-use Rattle.answers.specs.declared.Answered.{Answered}
+use Rattle.answers.specs.Units.{no_unit, clashes, adopted_by, combined, binary_unit, negation_unit, unit_by, of_product}
+use Rattle.answers.specs.Calls.{operand_used, operand_formed, answered, with_unit, binary_checked, concluded_by, unary_unit, unary_concluded, unary_checked, beside}
 use Rattle.answers.specs.declared.CheckedExpr.{CheckedExpr}
-use Rattle.answers.specs.declared.MaybeResult.{MaybeResult}
+use Rattle.operators.specs.declared.UnitRule.{UnitRule}
 
 -- a unit in form, or none, whose symbols are in use of n numbers
-pub record Proper (n : ℕ) (m : MaybeUnit) : Type 0 where
+pub record Proper (n : ℕ) (m : Option Unit) : Type 0 where
   pub form : formed places_max names_max (terms_of (or_empty m)) ≡ true
   pub used : in_use n (terms_of (or_empty m)) ≡ true
 
@@ -44,11 +42,6 @@ module _ (n : ℕ) where
   pub none_proper : Proper n no_unit
   unfolding formed in_use
   none_proper = record { form = refl; used = refl }
-
-  -- an answer, where it is not refused
-  pub unless_proper : (v : Verdict) (a : Answered) → Proper n a.unit → Proper n (unless v a).unit
-  unless_proper Passed a p = p
-  unless_proper (Refused r) a p = none_proper
 
   -- ---- operands
 
@@ -70,7 +63,7 @@ module _ (n : ℕ) where
 
   -- ---- binary operators
 
-  module _ (left right : MaybeUnit) (l : Proper n left) (r : Proper n right) where
+  module _ (left right : Option Unit) (l : Proper n left) (r : Proper n right) where
     adopted_proper : Proper n (adopted_by left right)
     unfolding adopted_by
     adopted_proper = go (unitless left) (unitless right)
@@ -80,52 +73,50 @@ module _ (n : ℕ) where
         go true false = r
         go false b = l
 
-    combined_proper : (quotient : Bool) → Proper n (combined quotient left right).unit
+    combined_proper : (quotient : Bool) → IfOk (combined quotient left right) (λ m. Proper n m)
     unfolding combined
-    combined_proper quotient = go (eqb u.count 0)
+    combined_proper quotient =
+        go (product_answer quotient (or_empty left) (or_empty right)) (answer_formed quotient (or_empty left) (or_empty right))
+        (answer_used quotient (or_empty left) (or_empty right) n l.used r.used)
       where
-        u : Unit
-        u = (product_answer quotient (or_empty left) (or_empty right)).unit
-
-        go : (b : Bool) → Proper n (cond b no_unit (record { some = true; unit = u }))
-        go true = none_proper
-        go false = record {
-          form = answer_formed quotient (or_empty left) (or_empty right);
-          used = answer_used quotient (or_empty left) (or_empty right) n l.used r.used;
-        }
+        go : (p : Result Unit Refusal) → IfOk p (λ u. formed places_max names_max (terms_of u) ≡ true) → IfOk p (λ u. in_use n (terms_of u) ≡ true)
+            → IfOk (of_product p) (λ m. Proper n m)
+        go (Err q) f k = tt
+        go (Ok u) f k = some (eqb u.count 0)
+          where
+            some : (b : Bool) → Proper n (cond b no_unit (Some u))
+            some true = none_proper
+            some false = record { form = f; used = k }
 
     -- the unit of an operator's rule
-    pub rule_proper : (op : ℕ) → Proper n (binary_unit op left right).unit
+    pub rule_proper : (op : ℕ) → IfOk (binary_unit op left right) (λ m. Proper n m)
     unfolding binary_unit
-    rule_proper op = go (eqb (unit_rule op) adopted) (eqb (unit_rule op) multiplied) (eqb (unit_rule op) divided)
+    rule_proper op = go (unit_rule op)
       where
-        go : (a b c : Bool)
-            → Proper n (cond a (passed (adopted_by left right))
-            (cond b (combined false left right) (cond c (combined true left right) (passed no_unit)))).unit
-        go true b c = adopted_proper
-        go false true c = combined_proper false
-        go false false true = combined_proper true
-        go false false false = none_proper
+        go : (r : UnitRule) → IfOk (unit_by r left right) (λ m. Proper n m)
+        go Ignored = none_proper
+        go Adopted = adopted_proper
+        go Multiplied = combined_proper false
+        go Divided = combined_proper true
+        go Compared = none_proper
 
   -- of a binary check's answer, where both operands' units are in form with symbols in use
   pub binary_proper : (page : List ℕ) (root : ℕ → ℕ) (op : ℕ) (left right : CheckedExpr) → Proper n left.unit → Proper n right.unit
-      → Proper n (binary_checked page root op left right).unit
+      → IfOk (binary_checked page root op left right) (λ a. Proper n a.unit)
   unfolding binary_checked with_unit
-  binary_proper page root op left right l r = go (passes o)
+  binary_proper page root op left right l r = go (passes o) (binary_unit op left.unit right.unit) (rule_proper left.unit right.unit l r op)
     where
       o : Outcome
       o = check_binary page op (clashes root left.unit right.unit) left.checked right.checked
 
-      m : MaybeResult
-      m = binary_unit op left.unit right.unit
-
-      go : (b : Bool) → Proper n (cond b (unless m.verdict (answered o m.unit)) (answered o no_unit)).unit
-      go true = unless_proper m.verdict (answered o m.unit) (rule_proper left.unit right.unit l r op)
-      go false = none_proper
+      go : (b : Bool) (m : Result (Option Unit) Refusal) → IfOk m (λ u. Proper n u) → IfOk (cond b (beside o m) (Ok (answered o no_unit))) (λ a. Proper n a.unit)
+      go true (Ok u) p = p
+      go true (Err q) p = tt
+      go false m p = none_proper
 
   -- ---- operators with one operand, and indexing
 
-  module _ (unit : MaybeUnit) (p : Proper n unit) where
+  module _ (unit : Option Unit) (p : Proper n unit) where
     kept_proper : (store : List ℕ) (op : ℕ) (o : Outcome) → Proper n (unary_unit store op o unit)
     unfolding unary_unit negation_unit
     kept_proper store op o = go (eqb op minus && passes o) (is_union (kind_of store (number_of o.checked)))
@@ -136,14 +127,14 @@ module _ (n : ℕ) where
         go false b = none_proper
 
     -- of the answer of − or !
-    pub unary_proper : (z : Concluded) (op : ℕ) → Proper n (unary_checked z op unit).unit
+    pub unary_proper : (z : Concluded) (op : ℕ) → IfOk (unary_checked z op unit) (λ a. Proper n a.unit)
     unary_proper z op = go z.conclusion
       where
-        go : (c : Conclusion) → Proper n (unary_concluded c z.store op unit).unit
-        go (Conclusion.Is o) = kept_proper z.store op o
-        go (Conclusion.Refused r) = none_proper
+        go : (c : Result Outcome Refusal) → IfOk (unary_concluded c z.store op unit) (λ a. Proper n a.unit)
+        go (Ok o) = kept_proper z.store op o
+        go (Err r) = tt
 
     -- of an index
-    pub index_proper : (c : Conclusion) → Proper n (concluded_by c unit).unit
-    index_proper (Conclusion.Is o) = p
-    index_proper (Conclusion.Refused r) = none_proper
+    pub index_proper : (c : Result Outcome Refusal) → IfOk (concluded_by c unit) (λ a. Proper n a.unit)
+    index_proper (Ok o) = p
+    index_proper (Err r) = tt

@@ -2,6 +2,9 @@
 -- number, is answered without an error (`sum_errs`); where they are, a type that is answered has the left's unit (`sum_keeps`). The same
 -- by the roots of any groups: `checked_errs`, `checked_keeps`, and that without an error the units are convertible, `checked_agrees`.
 -- Assumes nothing.
+use Rattle.refusals.specs.declared.Refusal.{Refusal}
+use Rattle.sums.specs.Calls.{or_empty}
+use Rattle.std.proofs.Common.{Ok, Err, Result}
 use mathlib.Core.Path.{◌≡◌, refl, sym, ap, ◌∙◌}
 use mathlib.Core.Bool.{Bool, true, false, ◌||◌, not, cond}
 use mathlib.Core.List.{List, ◌∷◌}
@@ -9,10 +12,9 @@ use Prim.Native.Nat.{ℕ, ◌<◌, ◌≤◌}
 use native.Mathlib.Omega.{arith}
 use lib.Dec.{eqb, leb}
 use borrow.Author.Tests.{leb-true, le-leb, eqb-false}
-use Rattle.refusals.specs.Lowest.{◌when◌, lowest}
+use Rattle.refusals.specs.Lowest.{◌when◌, lowest, guarded}
 use Rattle.refusals.specs.declared.Refusal.TheVariants.{Undefined, Broken}
-use Rattle.refusals.specs.declared.Verdict.{Verdict}
-use Rattle.refusals.specs.declared.Verdict.TheVariants.{Passed, Refused}
+use Rattle.refusals.specs.Numbers.{Verdict}
 use Rattle.refusals.proofs.Lowest.{passed_parts}
 use Rattle.pages.specs.Bytes.{within}
 use Rattle.pages.proofs.Quant.{and_true}
@@ -32,15 +34,18 @@ use Rattle.units.specs.Calls.{terms_of, unitless}
 use Rattle.pairs.specs.Calls.{table_broken}
 use Rattle.sums.specs.Sums.{convertible}
 use Rattle.sums.specs.Calls.{roots_in}
-use Rattle.operators.specs.Operators.{is_operator, arithmetic, class_of, adopted, multiplied, divided, compared, ignored, unit_rule, no_family, looks, suits, fits}
-use Rattle.operators.specs.Outcome.{one_error, outcome, is_known, passes, misfit, plain_binary, no_member}
+use Rattle.operators.specs.Operators.{is_operator, class_of, unit_rule, no_family, looks, suits, fits}
+use Rattle.operators.specs.declared.Class.TheVariants.{Arithmetic}
+use Rattle.operators.specs.declared.UnitRule.TheVariants.{Adopted, Multiplied, Divided, Compared, Ignored}
+use Rattle.operators.specs.Outcome.{one_error, outcome, is_known, passes, misfit, plain_binary, count_of}
+use Rattle.operators.specs.declared.Reason.TheVariants.{NoMember}
 use Rattle.operators.specs.declared.Outcome.{Outcome}
 use Rattle.binary.specs.Binary.{family_in, either, binary_any, beside_function, check_binary}
 use Rattle.binary.proofs.Rule.{plain_says}
 use Rattle.binary.proofs.Operands.{beside_fails}
 use Rattle.binary.proofs.Binary.{known_eq, known_passes, any_passes}
 use Rattle.answers.specs.Units.{no_unit, clashes, adopted_by, binary_unit}
-use Rattle.answers.specs.Calls.{operand_conditions, answered, unless, with_unit, binary_verdict, binary_checked, binary_answer}
+use Rattle.answers.specs.Calls.{operand_conditions, answered, with_unit, binary_verdict, binary_checked, binary_answer}
 use Rattle.answers.specs.declared.Answered.{Answered}
 use Rattle.answers.specs.declared.CheckedExpr.{CheckedExpr}
 use Rattle.answers.proofs.Calls.{passed_used}
@@ -50,20 +55,20 @@ never e = let z : ◌≡◌ {A = ℕ} 0 1 = cc in omega arith
 
 -- ---- a check of a sum or difference
 
-module _ (op : ℕ) (sum : unit_rule op ≡ adopted) where
-  sum_class : class_of op ≡ arithmetic
+module _ (op : ℕ) (sum : unit_rule op ≡ Adopted) where
+  sum_class : class_of op ≡ Arithmetic
   unfolding class_of unit_rule
   sum_class =
       let p = and_true (leb 1 op) (leb op 2) (first (within 1 2 op) (eqb op 3) (eqb op 4) (within 5 10 op) sum) in
       let high : op ≤ 4 = omega (arith, leb-true op 2 p.1) in
       rw (p.0, le-leb op 4 high) refl
     where
-      first : (a b c d : Bool) → cond a adopted (cond b multiplied (cond c divided (cond d compared ignored))) ≡ adopted → a ≡ true
+      first : (a b c d : Bool) → cond a Adopted (cond b Multiplied (cond c Divided (cond d Compared Ignored))) ≡ Adopted → a ≡ true
       first true b c d e = refl
-      first false true c d e = absurd (omega arith)
-      first false false true d e = absurd (omega arith)
-      first false false false true e = absurd (omega arith)
-      first false false false false e = absurd (omega arith)
+      first false true c d e = absurd (let z : ◌≡◌ {A = ℕ} 0 1 = cc in omega arith)
+      first false false true d e = absurd (let z : ◌≡◌ {A = ℕ} 0 1 = cc in omega arith)
+      first false false false true e = absurd (let z : ◌≡◌ {A = ℕ} 0 1 = cc in omega arith)
+      first false false false false e = absurd (let z : ◌≡◌ {A = ℕ} 0 1 = cc in omega arith)
 
   clash_unfit : (f g : ℕ) → fits op true f g ≡ false
   unfolding fits looks
@@ -93,8 +98,8 @@ module _ (op : ℕ) (sum : unit_rule op ≡ adopted) where
     unfolding beside_function
     beside_known t o h = go (is_union (kind_of page t))
       where
-        go : (b : Bool) → is_known (cond b (outcome Unknown (one_error no_member)) o).checked ≡ true
-            → passes (cond b (outcome Unknown (one_error no_member)) o) ≡ true
+        go : (b : Bool) → is_known (cond b (outcome Unknown (one_error NoMember)) o).checked ≡ true
+            → passes (cond b (outcome Unknown (one_error NoMember)) o) ≡ true
         go true k = absurd (never k)
         go false k = h k
 
@@ -119,10 +124,11 @@ module _ (op : ℕ) (sum : unit_rule op ≡ adopted) where
 
 -- ---- the answer, by the roots of any groups
 
-module _ (page : List ℕ) (form : Formed page) (root : ℕ → ℕ) (op : ℕ) (left right : CheckedExpr) (sum : unit_rule op ≡ adopted)
+module _ (page : List ℕ) (form : Formed page) (root : ℕ → ℕ) (op : ℕ) (left right : CheckedExpr) (sum : unit_rule op ≡ Adopted)
     (l : unitless left.unit ≡ false) (r : unitless right.unit ≡ false) (u : in_use page left.checked ≡ true)
-    (v : in_use page right.checked ≡ true) (t : ℕ) (known : (binary_checked page root op left right).checked ≡ Known t) where
-  module _ (apart : convertible names_max root (terms_of left.unit.unit) (terms_of right.unit.unit) ≡ false) where
+    (v : in_use page right.checked ≡ true) (a : Answered)
+    (given : binary_checked page root op left right ≡ Ok a) (t : ℕ) (known : a.checked ≡ Known t) where
+  module _ (apart : convertible names_max root (terms_of (or_empty left.unit)) (terms_of (or_empty right.unit)) ≡ false) where
     clash : clashes root left.unit right.unit ≡ true
     unfolding clashes
     clash = rw (l, r, apart) refl
@@ -130,72 +136,77 @@ module _ (page : List ℕ) (form : Formed page) (root : ℕ → ℕ) (op : ℕ) 
     fails : passes (check_binary page op true left.checked right.checked) ≡ false
     fails = clash_fails op sum page form left.checked right.checked u v
 
-    is_outcome : binary_checked page root op left right ≡ answered (check_binary page op true left.checked right.checked) no_unit
+    is_outcome : a ≡ answered (check_binary page op true left.checked right.checked) no_unit
     unfolding binary_checked with_unit
-    is_outcome = rw (clash, fails) refl
+    is_outcome =
+        let z : ◌≡◌ {A = Result Answered Refusal} (Ok (answered (check_binary page op true left.checked right.checked) no_unit)) (Ok a) = rw (clash, fails) at given in
+        cc
 
-    pub checked_errs : 0 < (binary_checked page root op left right).errors.count
+    pub checked_errs : 0 < count_of a.errors
     unfolding passes
     checked_errs =
         let o = check_binary page op true left.checked right.checked in
-        let k : o.checked ≡ Known t = ap (λ (a : Answered). a.checked) (sym is_outcome) ∙ known in
-        let n : eqb o.errors.count 0 ≡ false = rw k at fails in
-        rw is_outcome (omega (arith, eqb-false o.errors.count 0 n))
+        let k : o.checked ≡ Known t = ap (λ (x : Answered). x.checked) (sym is_outcome) ∙ known in
+        let n : eqb (count_of o.errors) 0 ≡ false = rw k at fails in
+        rw is_outcome (omega (arith, eqb-false (count_of o.errors) 0 n))
 
-  module _ (together : convertible names_max root (terms_of left.unit.unit) (terms_of right.unit.unit) ≡ true) where
+  module _ (together : convertible names_max root (terms_of (or_empty left.unit)) (terms_of (or_empty right.unit)) ≡ true) where
     no_clash : clashes root left.unit right.unit ≡ false
     unfolding clashes
     no_clash = rw (l, r, together) refl
 
-    left_unit : binary_unit op left.unit right.unit ≡ record { verdict = Passed; unit = left.unit }
+    left_unit : binary_unit op left.unit right.unit ≡ Ok left.unit
     unfolding binary_unit adopted_by
     left_unit = rw (sum, l) refl
 
     -- whether or not the check passes, its type is answered
-    is_either : binary_checked page root op left right
-        ≡ cond (passes (check_binary page op false left.checked right.checked))
-        (answered (check_binary page op false left.checked right.checked) left.unit)
-        (answered (check_binary page op false left.checked right.checked) no_unit)
+    is_either : ◌≡◌ {A = Result Answered Refusal}
+        (cond (passes (check_binary page op false left.checked right.checked))
+        (Ok (answered (check_binary page op false left.checked right.checked) left.unit))
+        (Ok (answered (check_binary page op false left.checked right.checked) no_unit)))
+        (Ok a)
     unfolding binary_checked with_unit
-    is_either = rw (no_clash, left_unit) refl
+    is_either = rw (no_clash, left_unit) at given
 
-    pub checked_keeps : (binary_checked page root op left right).unit ≡ left.unit
+    pub checked_keeps : a.unit ≡ left.unit
     checked_keeps =
         let o = check_binary page op false left.checked right.checked in
-        let k : o.checked ≡ Known t = sym (either_way (passes o) o) ∙ ap (λ (a : Answered). a.checked) (sym is_either) ∙ known in
+        let k : o.checked ≡ Known t = either_way (passes o) o is_either ∙ known in
         let p = check_known op sum page form left.checked right.checked u v (rw k refl) in
-        rw (is_either, p) refl
+        let z : ◌≡◌ {A = Result Answered Refusal} (Ok (answered o left.unit)) (Ok a) = rw p at is_either in
+        let y : answered o left.unit ≡ a = cc in
+        ap (λ (x : Answered). x.unit) (sym y)
       where
-        either_way : (b : Bool) (o : Outcome) → (cond b (answered o left.unit) (answered o no_unit)).checked ≡ o.checked
-        either_way true o = refl
-        either_way false o = refl
+        either_way : (b : Bool) (o : Outcome) → ◌≡◌ {A = Result Answered Refusal} (cond b (Ok (answered o left.unit)) (Ok (answered o no_unit))) (Ok a) → o.checked ≡ a.checked
+        either_way true o e = let y : answered o left.unit ≡ a = cc in ap (λ (x : Answered). x.checked) y
+        either_way false o e = let y : answered o no_unit ≡ a = cc in ap (λ (x : Answered). x.checked) y
 
   -- without an error the units are convertible: the other way round of `checked_errs`
-  pub checked_agrees : (binary_checked page root op left right).errors.count ≡ 0 → convertible names_max root (terms_of left.unit.unit) (terms_of right.unit.unit) ≡ true
-  checked_agrees none = go (convertible names_max root (terms_of left.unit.unit) (terms_of right.unit.unit)) refl
+  pub checked_agrees : count_of a.errors ≡ 0 → convertible names_max root (terms_of (or_empty left.unit)) (terms_of (or_empty right.unit)) ≡ true
+  checked_agrees none = go (convertible names_max root (terms_of (or_empty left.unit)) (terms_of (or_empty right.unit))) refl
     where
-      go : (b : Bool) → convertible names_max root (terms_of left.unit.unit) (terms_of right.unit.unit) ≡ b → b ≡ true
+      go : (b : Bool) → convertible names_max root (terms_of (or_empty left.unit)) (terms_of (or_empty right.unit)) ≡ b → b ≡ true
       go true e = refl
       go false e = let some = checked_errs e in absurd (omega (arith, some, none))
 
 -- ---- and of the call
 
-module _ (page names : List ℕ) (lent : Bool) (pairs : List ℕ) (op : ℕ) (left right : CheckedExpr) (sum : unit_rule op ≡ adopted)
+module _ (page names : List ℕ) (lent : Bool) (pairs : List ℕ) (op : ℕ) (left right : CheckedExpr) (sum : unit_rule op ≡ Adopted)
     (l : unitless left.unit ≡ false) (r : unitless right.unit ≡ false)
-    (passed : (binary_answer page names lent pairs op left right).verdict ≡ Passed) where
-  not_refused : (v : Verdict) (a : Answered) → (unless v a).verdict ≡ Passed → v ≡ Passed
-  not_refused Passed a e = refl
-  not_refused (Refused q) a e = absurd (let z : ◌≡◌ {A = ℕ} 0 1 = cc in omega arith)
+    (a : Answered) (given : binary_answer page names lent pairs op left right ≡ Ok a) where
+  not_refused : (v : Verdict) (x : Result Answered Refusal) → guarded v x ≡ Ok a → (v ≡ Ok tt) × (x ≡ Ok a)
+  not_refused (Ok _) x e = (refl, e)
+  not_refused (Err q) x e = absurd (let z : ◌≡◌ {A = ℕ} 0 1 = cc in omega arith)
 
-  verdict : binary_verdict page names lent pairs op left right ≡ Passed
+  verdict : binary_verdict page names lent pairs op left right ≡ Ok tt
   unfolding binary_answer
-  verdict = not_refused _ (binary_checked page (roots_in pairs) op left right) passed
+  verdict = (not_refused _ (binary_checked page (roots_in pairs) op left right) given).0
 
-  is_checked : binary_answer page names lent pairs op left right ≡ binary_checked page (roots_in pairs) op left right
+  is_checked : binary_checked page (roots_in pairs) op left right ≡ Ok a
   unfolding binary_answer
-  is_checked = rw verdict refl
+  is_checked = (not_refused _ (binary_checked page (roots_in pairs) op left right) given).1
 
-  behind : (store_broken page names lent ≡ false) × (lowest (operand_conditions page (used_of names lent) left right) ≡ Passed)
+  behind : (store_broken page names lent ≡ false) × (lowest (operand_conditions page (used_of names lent) left right) ≡ Ok tt)
   behind =
       let broken = store_broken page names lent || table_broken pairs names lent in
       let p = passed_parts Undefined (not (is_operator op)) ((Broken when broken) ∷ operand_conditions page (used_of names lent) left right) verdict in
@@ -212,17 +223,9 @@ module _ (page names : List ℕ) (lent : Bool) (pairs : List ℕ) (op : ℕ) (le
   used : (in_use page left.checked ≡ true) × (in_use page right.checked ≡ true)
   used = passed_used page (used_of names lent) left right behind.1
 
-  module _ (t : ℕ) (known : (binary_answer page names lent pairs op left right).checked ≡ Known t) where
-    is_known_lem : (binary_checked page (roots_in pairs) op left right).checked ≡ Known t
-    is_known_lem = ap (λ (a : Answered). a.checked) (sym is_checked) ∙ known
+  module _ (t : ℕ) (known : a.checked ≡ Known t) where
+    pub sum_errs : convertible names_max (roots_in pairs) (terms_of (or_empty left.unit)) (terms_of (or_empty right.unit)) ≡ false → 0 < count_of a.errors
+    sum_errs apart = checked_errs page form (roots_in pairs) op left right sum l r used.0 used.1 a is_checked t known apart
 
-    pub sum_errs : convertible names_max (roots_in pairs) (terms_of left.unit.unit) (terms_of right.unit.unit) ≡ false
-        → 0 < (binary_answer page names lent pairs op left right).errors.count
-    sum_errs apart =
-        rw is_checked (checked_errs page form (roots_in pairs) op left right sum l r used.0 used.1 t is_known_lem apart)
-
-    pub sum_keeps : convertible names_max (roots_in pairs) (terms_of left.unit.unit) (terms_of right.unit.unit) ≡ true
-        → (binary_answer page names lent pairs op left right).unit ≡ left.unit
-    sum_keeps together =
-        ap (λ (a : Answered). a.unit) is_checked
-        ∙ checked_keeps page form (roots_in pairs) op left right sum l r used.0 used.1 t is_known_lem together
+    pub sum_keeps : convertible names_max (roots_in pairs) (terms_of (or_empty left.unit)) (terms_of (or_empty right.unit)) ≡ true → a.unit ≡ left.unit
+    sum_keeps together = checked_keeps page form (roots_in pairs) op left right sum l r used.0 used.1 a is_checked t known together

@@ -1,11 +1,11 @@
 -- What the calls for operators and indexing answer, and leave in the store's page (document 01, "Answers" and the table of refusals).
 -- Names are lent where `lent` is true.
-use Rattle.std.specs.Prelude.{Bool, ◌&&◌, ◌||◌, not, cond, List, [], ◌∷◌, ℕ, eqb}
-use Rattle.refusals.specs.Lowest.{Condition, ◌when◌, lowest, unless_refused}
+use Rattle.units.specs.declared.Unit.{Unit}
+use Rattle.std.specs.Prelude.{Bool, ◌&&◌, ◌||◌, not, cond, List, [], ◌∷◌, ℕ, eqb, Result, Ok, Err, Option}
+use Rattle.refusals.specs.Lowest.{Condition, ◌when◌, lowest, unless_refused, guarded}
 use Rattle.refusals.specs.declared.Refusal.TheVariants.{Undefined, Broken, Unused, BadUnit}
 use Rattle.refusals.specs.declared.Refusal.{Refusal}
-use Rattle.refusals.specs.declared.Verdict.{Verdict}
-use Rattle.refusals.specs.declared.Verdict.TheVariants.{Passed, Refused}
+use Rattle.refusals.specs.Numbers.{Verdict}
 use Rattle.names.specs.Table.{names_max}
 use Rattle.names.specs.Calls.{used_of}
 use Rattle.kinds.specs.Kinds.{is_union}
@@ -13,23 +13,19 @@ use Rattle.types.specs.Types.{kind_of}
 use Rattle.types.specs.Calls.{store_broken}
 use Rattle.matching.specs.Matching as matching
 use Rattle.matching.specs.declared.Checked.{Checked}
-use Rattle.matching.specs.declared.Checked.TheVariants.{Unknown}
 use Rattle.units.specs.Unit.{places_max, in_use, formed}
 use Rattle.units.specs.Calls.{terms_of, present}
-use Rattle.units.specs.declared.MaybeUnit.{MaybeUnit}
 use Rattle.pairs.specs.Calls.{table_broken}
 use Rattle.sums.specs.Calls.{roots_in, or_empty}
 use Rattle.operators.specs.Operators.{is_operator, minus}
-use Rattle.operators.specs.Outcome.{no_error, number_of, passes}
+use Rattle.operators.specs.Outcome.{number_of, passes}
 use Rattle.operators.specs.declared.Outcome.{Outcome}
 use Rattle.members.specs.Members.{Concluded}
-use Rattle.members.specs.declared.Conclusion.{Conclusion}
 use Rattle.binary.specs.Binary.{check_binary}
 use Rattle.unary.specs.Unary.{check_unary}
 use Rattle.indexing.specs.Indexing.{check_index}
 use Rattle.answers.specs.Units.{no_unit, clashes, binary_unit, negation_unit}
 use Rattle.answers.specs.declared.CheckedExpr.{CheckedExpr}
-use Rattle.answers.specs.declared.MaybeResult.{MaybeResult}
 use Rattle.answers.specs.declared.Answered.{Answered}
 
 -- ---- refusals of what a call is given
@@ -51,18 +47,9 @@ operand_conditions page n left right =
 
 -- ---- answers
 
--- nothing beside a refusal
-abbrev pub refused : Refusal → Answered
-refused r = record { verdict = Refused r; checked = Unknown; unit = no_unit; errors = no_error }
-
 -- "a checked type, a unit or none, and errors in order"
-abbrev pub answered : Outcome → MaybeUnit → Answered
-answered o u = record { verdict = Passed; checked = o.checked; unit = u; errors = o.errors }
-
--- an answer, unless the call is refused
-abbrev pub unless : Verdict → Answered → Answered
-unless Passed a = a
-unless (Refused r) a = refused r
+abbrev pub answered : Outcome → Option Unit → Answered
+answered o u = record { checked = o.checked; unit = u; errors = o.errors }
 
 -- ---- `check_binary_operator`
 
@@ -75,33 +62,33 @@ binary_verdict page names lent pairs op left right =
     ∷ operand_conditions page (used_of names lent) left right)
 
 -- a check that passes has the unit of its operator's rule, refused by 8 and 9; with an error there is none
-unfoldable pub with_unit : Outcome → MaybeResult → Answered
-with_unit o u = cond (passes o) (unless u.verdict (answered o u.unit)) (answered o no_unit)
+abbrev pub beside : Outcome → Result (Option Unit) Refusal → Result Answered Refusal
+beside o (Ok u) = Ok (answered o u)
+beside o (Err r) = Err r
+
+unfoldable pub with_unit : Outcome → Result (Option Unit) Refusal → Result Answered Refusal
+with_unit o u = cond (passes o) (beside o u) (Ok (answered o no_unit))
 
 -- the operands' units enter the check by one test, whether they clash by the roots of the groups
-unfoldable pub binary_checked : List ℕ → (ℕ → ℕ) → ℕ → CheckedExpr → CheckedExpr → Answered
+unfoldable pub binary_checked : List ℕ → (ℕ → ℕ) → ℕ → CheckedExpr → CheckedExpr → Result Answered Refusal
 binary_checked page root op left right =
     with_unit (check_binary page op (clashes root left.unit right.unit) left.checked right.checked)
     (binary_unit op left.unit right.unit)
 
-unfoldable pub binary_answer : List ℕ → List ℕ → Bool → List ℕ → ℕ → CheckedExpr → CheckedExpr → Answered
+unfoldable pub binary_answer : List ℕ → List ℕ → Bool → List ℕ → ℕ → CheckedExpr → CheckedExpr → Result Answered Refusal
 binary_answer page names lent pairs op left right =
-    unless (binary_verdict page names lent pairs op left right) (binary_checked page (roots_in pairs) op left right)
+    guarded (binary_verdict page names lent pairs op left right) (binary_checked page (roots_in pairs) op left right)
 
 -- ---- calls whose answer may enter a union into the store
 
 -- what a conclusion answers with a unit beside it: 6 and 10 for a union that cannot be entered
-abbrev pub concluded_by : Conclusion → MaybeUnit → Answered
-concluded_by (Conclusion.Is o) u = answered o u
-concluded_by (Conclusion.Refused r) u = refused r
+abbrev pub concluded_by : Result Outcome Refusal → Option Unit → Result Answered Refusal
+concluded_by (Ok o) u = Ok (answered o u)
+concluded_by (Err r) u = Err r
 
--- of two stores, the one that a conclusion leaves: with a refusal the old one
-abbrev pub left_by : Conclusion → List ℕ → List ℕ → List ℕ
-left_by (Conclusion.Is o) new old = new
-left_by (Conclusion.Refused r) new old = old
-
+-- the store that a conclusion leaves: with a refusal the old one
 abbrev pub store_after : Concluded → List ℕ → List ℕ
-store_after q page = left_by q.conclusion q.store page
+store_after q page = unless_refused q.conclusion q.store page
 
 -- ---- `check_unary_operator`
 
@@ -114,21 +101,21 @@ unary_verdict page names lent op x =
     ∷ operand_conditions page (used_of names lent) x x)
 
 -- − keeps its operand's unit where it passes, ! has none
-unfoldable pub unary_unit : List ℕ → ℕ → Outcome → MaybeUnit → MaybeUnit
+unfoldable pub unary_unit : List ℕ → ℕ → Outcome → Option Unit → Option Unit
 unary_unit store op o u =
     cond (eqb op minus && passes o) (negation_unit (is_union (kind_of store (number_of o.checked))) u) no_unit
 
 -- a conclusion, and its unit by the store that it leaves
-abbrev pub unary_concluded : Conclusion → List ℕ → ℕ → MaybeUnit → Answered
-unary_concluded (Conclusion.Is o) store op u = answered o (unary_unit store op o u)
-unary_concluded (Conclusion.Refused r) store op u = refused r
+abbrev pub unary_concluded : Result Outcome Refusal → List ℕ → ℕ → Option Unit → Result Answered Refusal
+unary_concluded (Ok o) store op u = Ok (answered o (unary_unit store op o u))
+unary_concluded (Err r) store op u = Err r
 
-abbrev pub unary_checked : Concluded → ℕ → MaybeUnit → Answered
+abbrev pub unary_checked : Concluded → ℕ → Option Unit → Result Answered Refusal
 unary_checked q op u = unary_concluded q.conclusion q.store op u
 
-unfoldable pub unary_answer : List ℕ → List ℕ → Bool → ℕ → CheckedExpr → Answered
+unfoldable pub unary_answer : List ℕ → List ℕ → Bool → ℕ → CheckedExpr → Result Answered Refusal
 unary_answer page names lent op x =
-    unless (unary_verdict page names lent op x) (unary_checked (check_unary page op x.checked) op x.unit)
+    guarded (unary_verdict page names lent op x) (unary_checked (check_unary page op x.checked) op x.unit)
 
 unfoldable pub unary_page : List ℕ → List ℕ → Bool → ℕ → CheckedExpr → List ℕ
 unary_page page names lent op x =
@@ -145,9 +132,9 @@ index_verdict page names lent target key =
     lowest ((Broken when store_broken page names lent) ∷ operand_conditions page (used_of names lent) target (keyed key))
 
 -- "An index keeps its target's unit"
-unfoldable pub index_answer : List ℕ → List ℕ → Bool → CheckedExpr → Checked → Answered
+unfoldable pub index_answer : List ℕ → List ℕ → Bool → CheckedExpr → Checked → Result Answered Refusal
 index_answer page names lent target key =
-    unless (index_verdict page names lent target key) (concluded_by (check_index page key target.checked).conclusion target.unit)
+    guarded (index_verdict page names lent target key) (concluded_by (check_index page key target.checked).conclusion target.unit)
 
 unfoldable pub index_page : List ℕ → List ℕ → Bool → CheckedExpr → Checked → List ℕ
 index_page page names lent target key =

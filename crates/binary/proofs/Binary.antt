@@ -1,5 +1,6 @@
 -- The check of a binary operator: its equation, and that whether it passes, and what it then answers, depends only on the families of the
 -- leaves that stand for the two types. Assumes nothing.
+use Rattle.std.proofs.Common.{Ok}
 use mathlib.Core.Path.{◌≡◌, refl, ap, ap₂, sym, ◌∙◌}
 use mathlib.Core.Bool.{Bool, true, false, ◌||◌, cond}
 use mathlib.Core.List.{List}
@@ -13,20 +14,19 @@ use Rattle.types.specs.Types.{types_in, kind_of}
 use Rattle.types.specs.Recur.{below, cov}
 use Rattle.types.proofs.Recur.{below_lt, cov_eq}
 use Rattle.matching.specs.declared.Checked.{Checked}
-use Rattle.matching.specs.declared.Checked.TheVariants.{Known, Unknown, Function}
+use Rattle.matching.specs.declared.Checked.TheVariants.{Known, Unknown}
 use Rattle.matching.specs.Matching.{in_use}
 use Rattle.matching.proofs.Matching.{known_in_use}
 use Rattle.operators.specs.Operators.{fits}
 use Rattle.operators.specs.Outcome.{no_error, outcome, is_known, passes, plain_binary}
 use Rattle.operators.specs.declared.Outcome.{Outcome}
 use Rattle.members.specs.Members.{size_of, member, Concluded, concluded}
-use Rattle.members.specs.declared.Conclusion.{Conclusion}
 use Rattle.members.specs.Trials.{fold_to, Tried, joined, settled}
 use Rattle.members.specs.Leaves.{leaf_of}
 use Rattle.members.proofs.Members.{member_lower, member_low, member_used}
 use Rattle.members.proofs.Leaves.{leaf_used, leaf_plain}
 use Rattle.binary.specs.Binary.{family_in, either, row_tried, rows_tried, outcome_of, any_rule, binary_rule}
-use Rattle.binary.specs.Binary.{binary_by, binary_known, binary_any, check_binary}
+use Rattle.binary.specs.Binary.{binary_by, binary_known, binary_any}
 use Rattle.binary.proofs.Rule.{never, Says, plain_says, says_passes, says_joined}
 use Rattle.binary.proofs.Trials.{any_says, one_at_most}
 use Rattle.binary.proofs.Families.{standing, shared, standing_plain}
@@ -167,7 +167,7 @@ module _ (page : List ℕ) (form : Formed page) (op : ℕ) (clash : Bool) where
     abbrev trials : Tried
     trials = rows_tried page (binary_known page op clash) l r (size_of page l)
 
-    alone : settled page trials ≡ concluded (Conclusion.Is (settle_tally (tally_of trials))) page
+    alone : settled page trials ≡ concluded (Ok (settle_tally (tally_of trials))) page
     alone = settled_alone page trials.results trials.failed one_result
 
     -- which is what src/ keeps
@@ -176,8 +176,8 @@ module _ (page : List ℕ) (form : Formed page) (op : ℕ) (clash : Bool) where
     any_tally = sym (ap (λ (z : Concluded). outcome_of z.conclusion) alone)
 
     -- and no union is made: the store stays as it is, and nothing is refused
-    pub any_settled : settled page trials ≡ concluded (Conclusion.Is (binary_any page op clash l r)) page
-    any_settled = alone ∙ ap (λ (o : Outcome). concluded (Conclusion.Is o) page) any_tally
+    pub any_settled : settled page trials ≡ concluded (Ok (binary_any page op clash l r)) page
+    any_settled = alone ∙ ap (λ (o : Outcome). concluded (Ok o) page) any_tally
 
     -- a check of members passes exactly where it answers a type
     pub any_passes : passes (binary_any page op clash l r) ≡ is_known (binary_any page op clash l r).checked
@@ -195,10 +195,3 @@ pub known_used : (page : List ℕ) (c : Checked) (t : ℕ) → c ≡ Known t →
 known_used page c t e h = known_in_use page t (rw e at h)
 
 -- which Function an operand is makes no difference
-
-pub function_alike : (page : List ℕ) (op : ℕ) (clash : Bool) (f : ℕ) (r : Checked)
-    → check_binary page op clash (Function 0) r ≡ check_binary page op clash (Function f) r
-unfolding check_binary
-function_alike page op clash f Unknown = refl
-function_alike page op clash f (Known r) = refl
-function_alike page op clash f (Function g) = refl

@@ -8,7 +8,8 @@ use Rattle.types.specs.Types.{kind_of}
 use Rattle.matching.specs.declared.Checked.{Checked}
 use Rattle.matching.specs.declared.Checked.TheVariants.{Known, Unknown, Function}
 use Rattle.operators.specs.Operators.{no_family, fits}
-use Rattle.operators.specs.Outcome.{one_error, outcome, passes, plain_binary, no_member}
+use Rattle.operators.specs.Outcome.{one_error, outcome, passes, plain_binary}
+use Rattle.operators.specs.declared.Reason.TheVariants.{NoMember}
 use Rattle.operators.specs.declared.Outcome.{Outcome}
 use Rattle.binary.specs.Binary.{family_in, beside_function, check_binary}
 use Rattle.binary.proofs.Rule.{never, plain_says, fits_same, fits_some}
@@ -35,7 +36,7 @@ pub beside_fails : (page : List ℕ) (t : ℕ) (o : Outcome) → passes o ≡ fa
 unfolding beside_function passes
 beside_fails page t o h = go (is_union (kind_of page t))
   where
-    go : (b : Bool) → passes (cond b (outcome Unknown (one_error no_member)) o) ≡ false
+    go : (b : Bool) → passes (cond b (outcome Unknown (one_error NoMember)) o) ≡ false
     go true = refl
     go false = h
 

@@ -7,10 +7,13 @@ use borrow.Author.Tests.{eqb-true}
 use lib.Dec.{eqb}
 use Rattle.pages.proofs.Quant.{and_true}
 use Rattle.matching.specs.declared.Checked.TheVariants.{Known}
-use Rattle.operators.specs.Operators.{not_binary, equality, logic, class_of, bool, no_family, takes, looks, gives, suits, fits}
-use Rattle.operators.specs.Outcome.{left_not_bool, right_not_bool, no_error, one_error, two_errors, outcome, passes, not_bools, misfit, plain_binary}
+use Rattle.operators.specs.Operators.{class_of, bool, no_family, takes, looks, gives, suits, fits, class_takes}
+use Rattle.operators.specs.declared.Class.TheVariants.{NotBinary, Equality, Logic, Arithmetic, Ordering}
+use Rattle.operators.specs.Outcome.{no_error, one_error, two_errors, outcome, passes, not_bools, misfit, plain_binary, class_misfit}
+use Rattle.operators.specs.declared.Reason.TheVariants.{LeftNotBool, RightNotBool}
 use Rattle.operators.specs.declared.Outcome.{Outcome}
 use Rattle.members.specs.Trials.{Tried, joined}
+use Rattle.operators.specs.declared.Class.{Class}
 
 pub never : true ≡ false → ⊥
 never e = let z : ◌≡◌ {A = ℕ} 0 1 = cc in omega arith
@@ -43,7 +46,7 @@ either_fails : (b : Bool) (o p : Outcome) → passes o ≡ false → passes p �
 either_fails true o p h k = h
 either_fails false o p h k = k
 
-bools_fail : (a b : Bool) → let errors = cond a (one_error right_not_bool) (cond b (one_error left_not_bool) (two_errors left_not_bool right_not_bool)) in
+bools_fail : (a b : Bool) → let errors = cond a (one_error RightNotBool) (cond b (one_error LeftNotBool) (two_errors LeftNotBool RightNotBool)) in
     passes (outcome (Known bool) errors) ≡ false
 unfolding passes
 bools_fail true b = refl
@@ -53,21 +56,26 @@ bools_fail false false = refl
 -- no family is taken by no operator
 takes_none : (op : ℕ) → takes op no_family ≡ false
 unfolding takes
-takes_none op = go (eqb (class_of op) logic) (eqb (class_of op) equality) (not (eqb (class_of op) not_binary))
+takes_none op = go (class_of op)
   where
-    go : (a b c : Bool) → cond a false (cond b false (c && false)) ≡ false
-    go true b c = refl
-    go false true c = refl
-    go false false true = refl
-    go false false false = refl
+    go : (c : Class) → class_takes c no_family ≡ false
+    go NotBinary = refl
+    go Arithmetic = refl
+    go Ordering = refl
+    go Equality = refl
+    go Logic = refl
 
 module _ (op : ℕ) (clash : Bool) (f g : ℕ) where
   misfit_fails : passes (misfit op f g) ≡ false
   unfolding misfit passes not_bools
-  misfit_fails =
-      either_fails (eqb (class_of op) not_binary) _ _ refl
-      (either_fails (eqb (class_of op) logic) _ _ (bools_fail (eqb f bool) (eqb g bool))
-      (either_fails (suits op f g) _ _ refl (either_fails (eqb (class_of op) equality) _ _ refl refl)))
+  misfit_fails = go (class_of op)
+    where
+      go : (c : Class) → passes (class_misfit c (suits op f g) (gives op f) (not_bools f g)) ≡ false
+      go NotBinary = refl
+      go Arithmetic = either_fails (suits op f g) _ _ refl refl
+      go Ordering = either_fails (suits op f g) _ _ refl refl
+      go Equality = either_fails (suits op f g) _ _ refl refl
+      go Logic = bools_fail (eqb f bool) (eqb g bool)
 
   pub plain_says : Says op clash f g (plain_binary op clash f g)
   unfolding plain_binary

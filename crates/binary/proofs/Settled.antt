@@ -18,9 +18,11 @@ use Rattle.matching.specs.Matching.{in_use}
 use Rattle.matching.specs.declared.Checked.{Checked}
 use Rattle.matching.specs.declared.Checked.TheVariants.{Known, Unknown, Function}
 use Rattle.matching.proofs.Matching.{known_in_use, in_use_known}
-use Rattle.operators.specs.Operators.{not_binary, equality, logic, nothing, operands, truth, result_rule, class_of}
+use Rattle.operators.specs.Operators.{result_rule, class_of, rule_gives}
+use Rattle.operators.specs.declared.Class.TheVariants.{NotBinary, Equality, Logic, Arithmetic, Ordering}
+use Rattle.operators.specs.declared.ResultRule.TheVariants.{Nothing, Operands, Truth}
 use Rattle.operators.specs.Operators.{int, uint, float, bool, no_family, family_of, is_number, takes, gives, suits, fits}
-use Rattle.operators.specs.Outcome.{no_error, outcome, number_of, passes, misfit, plain_binary}
+use Rattle.operators.specs.Outcome.{no_error, outcome, number_of, passes, misfit, plain_binary, class_misfit, not_bools, one_error}
 use Rattle.operators.specs.declared.Outcome.{Outcome}
 use Rattle.members.specs.Leaves.{leaf_of}
 use Rattle.members.proofs.Kept.{unknown_used}
@@ -28,6 +30,9 @@ use Rattle.binary.specs.Binary.{family_in, either, binary_known, binary_any, bes
 use Rattle.binary.proofs.Rule.{never, fits_takes}
 use Rattle.binary.proofs.Families.{standing}
 use Rattle.binary.proofs.Binary.{known_eq, known_says, known_passes, any_unknown}
+use Rattle.operators.specs.declared.Class.{Class}
+use Rattle.operators.specs.declared.ResultRule.{ResultRule}
+use Rattle.operators.specs.declared.Reason.TheVariants.{BadUnits}
 
 -- ---- families
 
@@ -80,26 +85,27 @@ five_low t h = go (ltb t 12) refl
 
 module _ (op : ℕ) where
   -- an operator that answers its operands' family takes only numbers
-  operands_numbers : (f : ℕ) → eqb (result_rule op) operands ≡ true → takes op f ≡ is_number f
+  operands_numbers : (f : ℕ) → result_rule op ≡ Operands → takes op f ≡ is_number f
   unfolding takes result_rule class_of
   operands_numbers f h = go (within 1 4 op) refl
     where
-      rest : (b : Bool) → eqb (cond b truth nothing) operands ≡ false
-      rest true = refl
-      rest false = refl
+      rest : (b : Bool) → cond b Truth Nothing ≡ Operands → ⊥
+      rest true e = let z : ◌≡◌ {A = ℕ} 0 1 = cc in omega arith
+      rest false e = let z : ◌≡◌ {A = ℕ} 0 1 = cc in omega arith
 
       go : (b : Bool) → within 1 4 op ≡ b → takes op f ≡ is_number f
       go true e = rw e refl
-      go false e = absurd (never (sym (rw e at h) ∙ rest (within 5 12 op)))
+      go false e = absurd (rest (within 5 12 op) (rw e at h))
 
   -- what it answers for a family that it takes
   gives_answer : (k : ℕ) → takes op (family_of k) ≡ true → is_answer (gives op (family_of k)) ≡ true
   unfolding gives
-  gives_answer k h = go (eqb (result_rule op) operands) refl
+  gives_answer k h = go (result_rule op) refl
     where
-      go : (b : Bool) → eqb (result_rule op) operands ≡ b → is_answer (cond b (family_of k) bool) ≡ true
-      go true e = rw (sym (operands_numbers (family_of k) e) ∙ h) at (number_answer k)
-      go false e = refl
+      go : (r : ResultRule) → result_rule op ≡ r → is_answer (rule_gives r (family_of k)) ≡ true
+      go Nothing e = refl
+      go Operands e = rw (sym (operands_numbers (family_of k) e) ∙ h) at (number_answer k)
+      go Truth e = refl
 
 module _ (page : List ℕ) (form : Formed page) (op : ℕ) (clash : Bool) (l r : ℕ) (u : l < types_in page) (v : r < types_in page)
     (h : passes (binary_known page op clash l r) ≡ true) where
@@ -132,17 +138,25 @@ small false o p h k = k
 pub plain_small : (op : ℕ) (clash : Bool) (k g : ℕ) → number_of (plain_binary op clash (family_of k) g).checked < 256
 unfolding plain_binary misfit gives
 plain_small op clash k g =
-    small (fits op clash (family_of k) g) _ _ given
-    (small (eqb (class_of op) not_binary) _ _ (omega arith)
-    (small (eqb (class_of op) logic) _ _ (omega arith)
-    (small (suits op (family_of k) g) _ _ given (small (eqb (class_of op) equality) _ _ (omega arith) (omega arith)))))
+    small (fits op clash (family_of k) g) _ _ given (misfits (class_of op))
   where
-    given : cond (eqb (result_rule op) operands) (family_of k) bool < 256
-    given = go (eqb (result_rule op) operands)
+    given : rule_gives (result_rule op) (family_of k) < 256
+    given = go (result_rule op)
       where
-        go : (b : Bool) → cond b (family_of k) bool < 256
-        go true = ltb-true (family_of k) 256 (family_small k)
-        go false = omega arith
+        go : (r : ResultRule) → rule_gives r (family_of k) < 256
+        go Nothing = omega arith
+        go Operands = ltb-true (family_of k) 256 (family_small k)
+        go Truth = omega arith
+
+    suit : Bool
+    suit = suits op (family_of k) g
+
+    misfits : (c : Class) → number_of (class_misfit c suit (rule_gives (result_rule op) (family_of k)) (not_bools (family_of k) g)).checked < 256
+    misfits NotBinary = omega arith
+    misfits Arithmetic = small suit _ _ given (omega arith)
+    misfits Ordering = small suit _ _ given (omega arith)
+    misfits Equality = small suit _ _ given (omega arith)
+    misfits Logic = omega arith
 
 -- the number that a check of members answers
 module _ (page : List ℕ) (form : Formed page) (op : ℕ) (clash : Bool) (l r : ℕ) (u : l < types_in page) (v : r < types_in page)
@@ -173,13 +187,21 @@ plain_used : (page : List ℕ) (op : ℕ) (clash : Bool) (k g : ℕ) → Used pa
 unfolding plain_binary misfit suits
 plain_used page op clash k g =
     choice page (fits op clash (family_of k) g) _ _ (λ e. given (fits_takes op clash (family_of k) g e))
-    (choice page (eqb (class_of op) not_binary) _ _ (λ e. unknown_used page)
-    (choice page (eqb (class_of op) logic) _ _ (λ e. in_use_known page bool (omega arith))
-    (choice page (suits op (family_of k) g) _ _ (λ e. given (and_true (eqb (family_of k) g) (takes op (family_of k)) e).1)
-    (choice page (eqb (class_of op) equality) _ _ (λ e. in_use_known page bool (omega arith)) (unknown_used page)))))
+    (misfits (class_of op))
   where
     given : takes op (family_of k) ≡ true → in_use page (Known (gives op (family_of k))) ≡ true
     given h = in_use_known page (gives op (family_of k)) (omega (arith, five_low (gives op (family_of k)) (gives_answer op k h)))
+
+    -- where they suit, what it gives; else o
+    suited : (o : Outcome) → Used page o → Used page (cond (suits op (family_of k) g) (outcome (Known (gives op (family_of k))) (one_error BadUnits)) o)
+    suited o = choice page (suits op (family_of k) g) _ o (λ e. given (and_true (eqb (family_of k) g) (takes op (family_of k)) e).1)
+
+    misfits : (c : Class) → Used page (class_misfit c (suits op (family_of k) g) (gives op (family_of k)) (not_bools (family_of k) g))
+    misfits NotBinary = unknown_used page
+    misfits Arithmetic = suited _ (unknown_used page)
+    misfits Ordering = suited _ (unknown_used page)
+    misfits Equality = suited _ (in_use_known page bool (omega arith))
+    misfits Logic = in_use_known page bool (omega arith)
 
 module _ (page : List ℕ) (form : Formed page) (op : ℕ) (clash : Bool) where
   known_used : (l r : ℕ) → l < types_in page → r < types_in page → Used page (binary_known page op clash l r)

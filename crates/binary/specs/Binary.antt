@@ -1,16 +1,17 @@
 -- The check of a binary operator on two types (document 01, "Answers"; `check_binary_operator` and `check_binary_any` of the source's
 -- binary.rs). The operands' units enter as one test: they clash, or they do not.
-use Rattle.std.specs.Prelude.{Bool, ◌||◌, cond, List, [], ℕ, ◌+◌}
+use Rattle.refusals.specs.declared.Refusal.{Refusal}
+use Rattle.std.specs.Prelude.{Bool, ◌||◌, cond, List, [], ℕ, ◌+◌, Result, Ok, Err}
 use Rattle.kinds.specs.Kinds.{is_union}
 use Rattle.types.specs.Types.{kind_of}
 use Rattle.types.specs.Recur.{cov}
 use Rattle.matching.specs.declared.Checked.{Checked}
 use Rattle.matching.specs.declared.Checked.TheVariants.{Known, Unknown, Function}
 use Rattle.operators.specs.Operators.{no_family, family_of}
-use Rattle.operators.specs.Outcome.{no_error, one_error, outcome, plain_binary, no_member}
+use Rattle.operators.specs.Outcome.{no_error, one_error, outcome, plain_binary}
+use Rattle.operators.specs.declared.Reason.TheVariants.{NoMember}
 use Rattle.operators.specs.declared.Outcome.{Outcome}
 use Rattle.members.specs.Members.{size_of, member}
-use Rattle.members.specs.declared.Conclusion.{Conclusion}
 use Rattle.members.specs.Trials.{fold_to, no_failure, Tried, tried, joined, settled}
 
 -- the family of type t
@@ -33,9 +34,9 @@ unfoldable pub rows_tried : List ℕ → (ℕ → ℕ → Outcome) → ℕ → �
 rows_tried page rule l r m = fold_to m (λ i q. row_tried page rule l r i (size_of page r) q) (tried [] no_failure)
 
 -- the outcome of a check; one that is refused has none
-unfoldable pub outcome_of : Conclusion → Outcome
-outcome_of (Conclusion.Is o) = o
-outcome_of (Conclusion.Refused r) = outcome Unknown no_error
+unfoldable pub outcome_of : Result Outcome Refusal → Outcome
+outcome_of (Ok o) = o
+outcome_of (Err r) = outcome Unknown no_error
 
 -- what the trials come to. Of several results the Rust makes a union, which would enter the store; in a binary check there is at most
 -- one where no pair fails, and with a failure none is looked at, so that the store stays as it is and nothing is refused
@@ -66,7 +67,7 @@ binary_any page op clash l r = any_rule page (binary_known page op clash) l r
 
 -- a Function beside type t
 unfoldable pub beside_function : List ℕ → ℕ → Outcome → Outcome
-beside_function page t plain = cond (is_union (kind_of page t)) (outcome Unknown (one_error no_member)) plain
+beside_function page t plain = cond (is_union (kind_of page t)) (outcome Unknown (one_error NoMember)) plain
 
 unfoldable pub check_binary : List ℕ → ℕ → Bool → Checked → Checked → Outcome
 check_binary page op clash Unknown r = outcome Unknown no_error

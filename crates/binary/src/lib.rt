@@ -15,14 +15,14 @@ ghost use Rattle.binary.specs.Tally.{tally_of, settle_tally};
 
 use kinds::Kind;
 use matching::Checked;
-use members::{flatten, leaf_at, member_at, no_members};
-use operators::{NO_FAMILY, NO_MEMBER, Outcome};
-use types::kind_of;
+use members::{MEMBERS, flatten, leaf_at, member_at};
+use operators::{Errors, NO_FAMILY, Outcome, Reason};
+use types::Store;
 
-// The trials of pairs: one more than the first result (0 before there is one), how many pairs fail, and the first of them.
+// The trials of pairs: the first result, how many pairs fail, and the first of them.
 #[derive(Clone, Copy)]
 struct Tally {
-    seen: usize,
+    first: Option<usize>,
     failing: usize,
     left: usize,
     right: usize,
@@ -33,7 +33,7 @@ fn no_trial() -> Tally
     ensures { result ≡ tally_of (tried [] no_failure) }
 {
     Tally {
-        seen: 0,
+        first: None,
         failing: 0,
         left: 0,
         right: 0,
@@ -42,31 +42,27 @@ fn no_trial() -> Tally
 
 // One more trial, of the members x and y.
 fn join(tally: Tally, o: Outcome, x: usize, y: usize) -> Tally
-    requires { (tally.failing < members_max * members_max) × (number_of o.checked < types_max) }
+    requires { tally.failing < members_max * members_max }
     ensures { ((q : Tried) → tally ≡ tally_of q → result ≡ tally_of (joined x y o q)) × (result.failing ≤ tally.failing + 1) }
 {
     if !operators::does_pass(o) {
         if tally.failing == 0 {
             return Tally {
-                seen: tally.seen,
+                first: tally.first,
                 failing: 1,
                 left: x,
                 right: y,
             };
         }
         return Tally {
-            seen: tally.seen,
+            first: tally.first,
             failing: tally.failing + 1,
             left: tally.left,
             right: tally.right,
         };
     }
-    if tally.seen != 0 {
-        return tally;
-    }
-    let checked = o.checked;
     Tally {
-        seen: operators::number_of(checked) + 1,
+        first: tally.first.or(Some(operators::number_of(o.checked))),
         failing: tally.failing,
         left: tally.left,
         right: tally.right,
@@ -74,175 +70,159 @@ fn join(tally: Tally, o: Outcome, x: usize, y: usize) -> Tally
 }
 
 // What the trials come to.
+#[tactic(auto, unfolding(crate::specs::Tally::settle_tally))]
 fn settle(tally: Tally) -> Outcome
     ensures { result ≡ settle_tally tally }
 {
     if tally.failing != 0 {
         return operators::unknown(operators::some_fail(tally.failing, tally.left, tally.right));
     }
-    if tally.seen == 0 {
-        return operators::unknown(operators::one_error(NO_MEMBER));
+    match tally.first {
+        Some(t) => operators::known(t),
+        None => operators::unknown(Errors::One(Reason::NoMember)),
     }
-    operators::known(tally.seen - 1)
 }
 
 // The family of a type.
-fn family_in(page: &[u8], offsets: &[usize], t: usize) -> Kind
-    requires held { Held page.now offsets.now }
-    requires t_bound { t < types_in page.now }
-    ensures { result ≡ family_in page.now t }
+fn family_in(store: Store, t: usize) -> Kind
+    requires { t < types_in store.page.now }
+    ensures { result ≡ family_in store.entry.page.now t }
 {
-    operators::family_of(kind_of(page, offsets, t))
+    operators::family_of(store.kind_of(t))
 }
 
 // Whether one of two types is a union.
-fn is_either(page: &[u8], offsets: &[usize], l: usize, r: usize) -> bool
-    requires held { Held page.now offsets.now }
-    requires l_bound { (l < types_in page.now) × (r < types_in page.now) }
-    ensures { result ≡ either page.now l r }
+fn is_either(store: Store, l: usize, r: usize) -> bool
+    requires { (l < types_in store.page.now) × (r < types_in store.page.now) }
+    ensures { result ≡ either store.entry.page.now l r }
 {
-    kinds::is_union(kind_of(page, offsets, l)) | kinds::is_union(kind_of(page, offsets, r))
+    kinds::is_union(store.kind_of(l)) || kinds::is_union(store.kind_of(r))
 }
 
 // The check of an operator on two Known types. It answers a fixed type, whose number fits a byte.
 #[cycle(check_binary_any_check_binary_operator)]
 pub fn check_binary_operator(
-    page: &[u8],
-    offsets: &[usize],
+    store: Store,
     leaves: &[u16],
     op: usize,
     clash: bool,
     l: usize,
     r: usize,
 ) -> Outcome
-    requires held { Held page.now offsets.now }
-    requires leaves { Leaves false page.now leaves.now (types_in page.now) }
-    requires op_value { (is_operator op ≡ true) × (l < types_in page.now) × (r < types_in page.now) }
-    ensures { (result ≡ binary_known page.now op clash l r) × (number_of result.checked < 256) }
+    requires leaves { Leaves false store.page.now leaves.now (types_in store.page.now) }
+    requires op_value { (is_operator op ≡ true) × (l < types_in store.page.now) × (r < types_in store.page.now) }
+    ensures { (result ≡ binary_known store.entry.page.now op clash l r) × (number_of result.checked < 256) }
 {
-    if is_either(page, offsets, l, r) {
-        return check_binary_any(page, offsets, leaves, op, clash, l, r);
+    if is_either(store, l, r) {
+        return check_binary_any(store, leaves, op, clash, l, r);
     }
-    operators::plain_binary(
-        op,
-        clash,
-        family_in(page, offsets, l),
-        family_in(page, offsets, r),
-    )
+    operators::plain_binary(op, clash, family_in(store, l), family_in(store, r))
 }
 
 // Every pair of members is tried in turn, a member that is a union as the leaf that stands for it.
 #[cycle(check_binary_any_check_binary_operator)]
 pub fn check_binary_any(
-    page: &[u8],
-    offsets: &[usize],
+    store: Store,
     leaves: &[u16],
     op: usize,
     clash: bool,
     l: usize,
     r: usize,
 ) -> Outcome
-    requires held { Held page.now offsets.now }
-    requires leaves { Leaves false page.now leaves.now (types_in page.now) }
-    requires op_value { (is_operator op ≡ true) × (l < types_in page.now) × (r < types_in page.now) }
-    requires r_value { either page.now l r ≡ true }
-    ensures { (result ≡ binary_any page.now op clash l r) × (number_of result.checked < 256) }
+    requires leaves { Leaves false store.page.now leaves.now (types_in store.page.now) }
+    requires op_value { (is_operator op ≡ true) × (l < types_in store.page.now) × (r < types_in store.page.now) }
+    requires r_value { either store.page.now l r ≡ true }
+    ensures { (result ≡ binary_any store.entry.page.now op clash l r) × (number_of result.checked < 256) }
 {
-    let mut lefts = no_members();
-    let mut rights = no_members();
-    let m = flatten(page, offsets, l, &mut lefts);
-    let n = flatten(page, offsets, r, &mut rights);
+    let mut lefts = [0; MEMBERS];
+    let mut rights = [0; MEMBERS];
+    let m = flatten(store, l, &mut lefts);
+    let n = flatten(store, r, &mut rights);
     let mut tally = no_trial();
-    let mut i: usize = 0;
-    while i < m {
+    for i in 0..m {
         let x = member_at(&lefts, i);
         let p = leaf_at(leaves, x);
-        let mut j: usize = 0;
-        while j < n {
+        for j in 0..n {
             let y = member_at(&rights, j);
             let q = leaf_at(leaves, y);
-            let o = check_binary_operator(page, offsets, leaves, op, clash, p, q);
+            let o = check_binary_operator(store, leaves, op, clash, p, q);
             tally = join(tally, o, x, y);
-            j += 1;
         }
-        i += 1;
     }
     settle(tally)
 }
 
 // A Function beside a type: a union's members have no partner.
-fn beside_function(page: &[u8], offsets: &[usize], t: usize, plain: Outcome) -> Outcome
-    requires held { Held page.now offsets.now }
-    requires t_bound { t < types_in page.now }
-    ensures { result ≡ beside_function page.now t plain }
+#[tactic(auto, unfolding(crate::specs::Binary::beside_function))]
+fn beside_function(store: Store, t: usize, plain: Outcome) -> Outcome
+    requires { t < types_in store.page.now }
+    ensures { result ≡ beside_function store.entry.page.now t plain }
 {
-    if kinds::is_union(kind_of(page, offsets, t)) {
-        return operators::unknown(operators::one_error(NO_MEMBER));
+    if kinds::is_union(store.kind_of(t)) {
+        return operators::unknown(Errors::One(Reason::NoMember));
     }
     plain
 }
 
 // The check on a Known type and another operand.
+#[tactic(auto, unfolding(crate::specs::Binary::check_binary))]
 fn check_known(
-    page: &[u8],
-    offsets: &[usize],
+    store: Store,
     leaves: &[u16],
     op: usize,
     clash: bool,
     l: usize,
     right: Checked,
 ) -> Outcome
-    requires held { Held page.now offsets.now }
-    requires leaves { Leaves false page.now leaves.now (types_in page.now) }
-    requires op_value { (is_operator op ≡ true) × (l < types_in page.now) × (in_use page.now right ≡ true) }
-    ensures { result ≡ check_binary page.now op clash (Checked.Known l) right }
+    requires leaves { Leaves false store.page.now leaves.now (types_in store.page.now) }
+    requires op_value { (is_operator op ≡ true) × (l < types_in store.page.now) × (in_use store.page.now right ≡ true) }
+    ensures { result ≡ check_binary store.entry.page.now op clash (Checked.Known l) right }
 {
     match right {
-        Checked::Unknown => operators::unknown(operators::no_error()),
-        Checked::Known(r) => check_binary_operator(page, offsets, leaves, op, clash, l, r),
+        Checked::Unknown => operators::unknown(Errors::None),
+        Checked::Known(r) => check_binary_operator(store, leaves, op, clash, l, r),
         Checked::Function(_) => {
-            let f = family_in(page, offsets, l);
+            let f = family_in(store, l);
             let plain = operators::plain_binary(op, clash, f, NO_FAMILY);
-            beside_function(page, offsets, l, plain)
+            beside_function(store, l, plain)
         }
     }
 }
 
 // The check on a Function and another operand.
-fn check_function(page: &[u8], offsets: &[usize], op: usize, clash: bool, right: Checked) -> Outcome
-    requires held { Held page.now offsets.now }
-    requires op_value { (is_operator op ≡ true) × (in_use page.now right ≡ true) }
-    ensures { result ≡ check_binary page.now op clash (Checked.Function 0) right }
+#[tactic(auto, unfolding(crate::specs::Binary::check_binary))]
+fn check_function(store: Store, op: usize, clash: bool, right: Checked) -> Outcome
+    requires { (is_operator op ≡ true) × (in_use store.page.now right ≡ true) }
+    ensures { result ≡ check_binary store.entry.page.now op clash (Checked.Function 0) right }
 {
     match right {
-        Checked::Unknown => operators::unknown(operators::no_error()),
+        Checked::Unknown => operators::unknown(Errors::None),
         Checked::Known(r) => {
-            let g = family_in(page, offsets, r);
+            let g = family_in(store, r);
             let plain = operators::plain_binary(op, clash, NO_FAMILY, g);
-            beside_function(page, offsets, r, plain)
+            beside_function(store, r, plain)
         }
         Checked::Function(_) => operators::plain_binary(op, clash, NO_FAMILY, NO_FAMILY),
     }
 }
 
 // The check on checked types, for crates above (`answers::check_binary_operator` is the entry call).
+#[tactic(auto, unfolding(crate::specs::Binary::check_binary))]
 pub fn check_binary(
-    page: &[u8],
-    offsets: &[usize],
+    store: Store,
     leaves: &[u16],
     op: usize,
     clash: bool,
     left: Checked,
     right: Checked,
 ) -> Outcome
-    requires held { Held page.now offsets.now }
-    requires leaves { Leaves false page.now leaves.now (types_in page.now) }
-    requires op_value { (is_operator op ≡ true) × (in_use page.now left ≡ true) × (in_use page.now right ≡ true) }
-    ensures { result ≡ check_binary page.now op clash left right }
+    requires leaves { Leaves false store.page.now leaves.now (types_in store.page.now) }
+    requires op_value { (is_operator op ≡ true) × (in_use store.page.now left ≡ true) × (in_use store.page.now right ≡ true) }
+    ensures { result ≡ check_binary store.entry.page.now op clash left right }
 {
     match left {
-        Checked::Unknown => operators::unknown(operators::no_error()),
-        Checked::Known(l) => check_known(page, offsets, leaves, op, clash, l, right),
-        Checked::Function(_) => check_function(page, offsets, op, clash, right),
+        Checked::Unknown => operators::unknown(Errors::None),
+        Checked::Known(l) => check_known(store, leaves, op, clash, l, right),
+        Checked::Function(_) => check_function(store, op, clash, right),
     }
 }

@@ -2,7 +2,7 @@
 use mathlib.Core.Path.{◌≡◌}
 use mathlib.Core.Bool.{Bool, true, false}
 use Prim.Native.Nat.{ℕ, ◌<◌, ◌≤◌}
-use lib.Dec.{ltb, leb}
+use lib.Dec.{leb}
 use lib.ListN.{get_or}
 use borrow.Author.Tests.{le-leb, lt-leb, leb-true, ltb-true}
 use Rattle.pages.specs.Quant.{all_to}
@@ -10,20 +10,6 @@ use Rattle.pages.proofs.Quant.{and_true, all_at}
 use Rattle.names.specs.Calls.{is_used}
 use Rattle.bindings.specs.Bindings.{bindings_max, place_in, good_binding, formed, Usable}
 use Rattle.bindings.specs.declared.Bindings.{Bindings}
-
-module _ (n t : ℕ) (b : Bindings) (i : ℕ) where
-  pub good_twice : place_in b i (get_or b.names i 0) < i → false ≡ good_binding n t b i
-  unfolding good_binding
-  good_twice h = rw (lt-leb i (place_in b i (get_or b.names i 0)) h)
-
-  module _ (h : i ≤ place_in b i (get_or b.names i 0)) where
-    pub good_unnamed : is_used n (get_or b.names i 0) ≡ false → false ≡ good_binding n t b i
-    unfolding good_binding
-    good_unnamed l = rw (le-leb i (place_in b i (get_or b.names i 0)) h, l)
-
-    pub good_rest : is_used n (get_or b.names i 0) ≡ true → ltb (get_or b.types i 0) t ≡ good_binding n t b i
-    unfolding good_binding
-    good_rest l = rw (le-leb i (place_in b i (get_or b.names i 0)) h, l)
 
 module _ (n t : ℕ) (b : Bindings) where
   pub formed_many : bindings_max < b.count → false ≡ formed n t b

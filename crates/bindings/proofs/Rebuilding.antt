@@ -1,25 +1,25 @@
 -- `substitute` and `rebuild`: one law for each return, and the children one after another. Assumes nothing.
+use Rattle.std.proofs.Common.{Result, Ok, Err}
+use Rattle.std.specs.Prelude.{Option, Some, None}
 use mathlib.Core.Path.{◌≡◌, refl, sym, ◌∙◌, ap, ap₂}
-use mathlib.Core.Bool.{Bool, true, false, cond}
+use mathlib.Core.Bool.{true, false, cond}
 use mathlib.Core.Logic.{⊎_elim}
 use mathlib.Core.List.{List, [], ◌∷◌, ◌++◌}
-use Prim.Native.Nat.{ℕ, zero, suc, ◌+◌, ◌-◌, ◌<◌, ◌≤◌}
+use Prim.Native.Nat.{ℕ, zero, suc, ◌+◌, ◌<◌, ◌≤◌}
 use native.Mathlib.Numerals.{add-one}
 use native.Mathlib.Nat.{le_refl, le_of_suc-le-suc, eq-or-lt_of_le}
 use native.Mathlib.Omega.{arith}
-use lib.Dec.{eqb}
 use lib.ListN.{length, get_or, take, set, length-set, replicate, length-replicate}
-use lib.Seq.{take-suc, take-set-le, get_or-set_same, get_or-set_other, length-take-le}
-use borrow.Author.Tests.{eq-eqb, ne_eqb, eqb-true, eqb-false}
+use lib.Seq.{take-suc, take-set-le, get_or-set_same, length-take-le}
+use borrow.Author.Tests.{eq-eqb, ne_eqb}
 use Rattle.refusals.specs.declared.Refusal.{Refusal}
-use Rattle.pages.proofs.Bytes.{made_at}
 use Rattle.kinds.specs.Kinds.{children_max, generic}
 use Rattle.types.specs.Store.{types_max, Formed}
-use Rattle.types.specs.Types.{types_in, kind_of, arity, child_of, name_of, Held, Measured}
+use Rattle.types.specs.Types.{types_in, kind_of, arity, child_of, name_of, Measured}
 use Rattle.types.specs.Making.{entry_of, Ready, enter_answer, enter_page, Grows}
-use Rattle.types.specs.declared.Made.{Made}
 use Rattle.types.proofs.Types.{types_few, few_children, arity_within, child_lower}
 use Rattle.types.proofs.Grown.{arity_grown, child_grown, grows_refl, grows_trans}
+use Rattle.types.proofs.Filled.{found_none, found_more}
 use Rattle.types.proofs.Again.{enter_grows}
 use Rattle.bindings.specs.Bindings.{is_bound, bound_to}
 use Rattle.bindings.specs.declared.Bindings.{Bindings}
@@ -28,72 +28,63 @@ use Rattle.bindings.proofs.Substitution.{under, substitute_eq, under_is, entered
 
 -- ---- what is remembered
 
-pub remembered_none : (b : Bindings) (page : List ℕ) → Remembered b page (replicate types_max 0)
-remembered_none b page = record { size = length-replicate {A = ℕ} types_max 0; right = λ t r e q g f. absurd (omega (arith, e, made_at types_max t)) }
+pub remembered_none : (b : Bindings) (page : List ℕ) → Remembered b page (replicate types_max None)
+remembered_none b page = record { size = length-replicate {A = Option ℕ} types_max None; right = λ t r e q g f. absurd (found_none types_max t e) }
 
-pub remembered_grown : (b : Bindings) (p q done : List ℕ) → Formed p → Grows p q → Remembered b p done → Remembered b q done
+pub remembered_grown : (b : Bindings) (p q : List ℕ) (done : List (Option ℕ)) → Formed p → Grows p q → Remembered b p done → Remembered b q done
 remembered_grown b p q done f g m = record { size = m.size; right = λ t r e s h fs. m.right t r e s (grows_trans p q s f g h) fs }
 
 -- what a working type came to, and what is promised of it
-abbrev pub Done : Bindings → ℕ → List ℕ → List ℕ → List ℕ → List ℕ → List ℕ → Made → Type 0
+abbrev pub Done : Bindings → ℕ → List ℕ → List ℕ → List ℕ → List ℕ → List (Option ℕ) → Result ℕ Refusal → Type 0
 Done b t page after os ds done r =
     ((r ≡ (substitute b t page).made) × (after ≡ (substitute b t page).store)) × (Measured after os ds × Remembered b after done)
 
-module _ (b : Bindings) (page os ds done : List ℕ) (t : ℕ) (w : Working b page os ds done t) where
+module _ (b : Bindings) (page os ds : List ℕ) (done : List (Option ℕ)) (t : ℕ) (w : Working b page os ds done t) where
   form : Formed page
   form = w.measured.held.sound
 
   pub low : t < types_max
   low = omega (arith, w.used, types_few page form)
 
-  is_outcome : (r : Made) → substitute b t page ≡ outcome r page → Done b t page page os ds done r
+  is_outcome : (r : Result ℕ Refusal) → substitute b t page ≡ outcome r page → Done b t page page os ds done r
   is_outcome r e = ((sym (ap (λ (o : Outcome). o.made) e), sym (ap (λ (o : Outcome). o.store) e)), (w.measured, w.remembered))
 
   module _ (k : ℕ) (is : k ≡ kind_of page t) where
-    pub done_generic : (name r : ℕ) → k ≡ generic → name ≡ name_of page t → r ≡ cond (is_bound b name) (bound_to b name) t → Done b t page page os ds done (Made.At r)
+    pub done_generic : (name r : ℕ) → k ≡ generic → name ≡ name_of page t → r ≡ cond (is_bound b name) (bound_to b name) t → Done b t page page os ds done (Ok r)
     unfolding substitute_rule
     done_generic name r g n e =
-        is_outcome (Made.At r) (substitute_eq b t page ∙ rw (← is, eq-eqb k generic g, ← n) (ap (λ (x : ℕ). outcome (Made.At x) page) (sym e)))
+        is_outcome (Ok r) (substitute_eq b t page ∙ rw (← is, eq-eqb k generic g, ← n) (ap (λ (x : ℕ). outcome (Ok x) page) (sym e)))
 
     module _ (g : k ≡ generic → ⊥) where
-      pub done_closed : is_entered k ≡ false → Done b t page page os ds done (Made.At t)
+      pub done_closed : is_entered k ≡ false → Done b t page page os ds done (Ok t)
       unfolding substitute_rule
-      done_closed e = is_outcome (Made.At t) (substitute_eq b t page ∙ rw (← is, ne_eqb k generic g, e) refl)
+      done_closed e = is_outcome (Ok t) (substitute_eq b t page ∙ rw (← is, ne_eqb k generic g, e) refl)
 
   -- met before
-  pub done_before : (n : ℕ) → n ≡ get_or done t 0 → (n ≡ 0 → ⊥) → Done b t page page os ds done (Made.At (n - 1))
-  done_before n e h =
-      let s : get_or done t 0 ≡ suc (n - 1) = sym e ∙ positive n h in
-      is_outcome (Made.At (n - 1)) (w.remembered.right t (n - 1) s page (grows_refl page) form)
-    where
-      positive : (n : ℕ) → (n ≡ 0 → ⊥) → n ≡ suc (n - 1)
-      positive zero h = absurd (h refl)
-      positive (suc n) h = omega arith
+  pub done_before : (r : ℕ) → get_or done t None ≡ Some r → Done b t page page os ds done (Ok r)
+  done_before r e = is_outcome (Ok r) (w.remembered.right t r e page (grows_refl page) form)
 
-  pub done_low : (after os' ds' done' : List ℕ) (m : Made) → Done b t page after os' ds' done' m → (r : ℕ) → m ≡ Made.At r → r < types_max
+  pub done_low : (after os' ds' : List ℕ) (done' : List (Option ℕ)) (m : Result ℕ Refusal) → Done b t page after os' ds' done' m → (r : ℕ) → m ≡ Ok r → r < types_max
   done_low after os' ds' done' m z r e =
       let s = substitute_sound b t page form w.used w.usable in
       omega (arith, s.used r (sym z.0.0 ∙ e), types_few (substitute b t page).store s.form)
 
   -- what it came to, remembered
-  pub done_noted : (r : ℕ) (after os' ds' done' : List ℕ) → Done b t page after os' ds' done' (Made.At r) → Done b t page after os' ds' (set done' t (r + 1)) (Made.At r)
-  done_noted r after os' ds' done' z = rw (add-one r) (
+  pub done_noted : (r : ℕ) (after os' ds' : List ℕ) (done' : List (Option ℕ)) → Done b t page after os' ds' done' (Ok r)
+      → Done b t page after os' ds' (set done' t (Some r)) (Ok r)
+  done_noted r after os' ds' done' z = (
     z.0,
     (
       z.1.0,
       record {
-        size = length-set done' t (suc r) ∙ z.1.1.size;
-        right = λ u x e q g f. go u x e q g f (eqb u t) refl;
+        size = length-set done' t (Some r) ∙ z.1.1.size;
+        right = λ u x e q g f.
+            ⊎_elim (λ h. rw (h.0, h.1) (substitute_again b t page form w.used w.usable r (sym z.0.0) q (rw (← z.0.1) g) f))
+            (λ h. z.1.1.right u x h q g f)
+            (found_more done' t u r x (omega (arith, low, z.1.1.size)) e);
       },
     ),
   )
-    where
-      go : (u x : ℕ) → get_or (set done' t (suc r)) u 0 ≡ suc x → (q : List ℕ) → Grows after q → Formed q → (d : Bool) → eqb u t ≡ d → substitute b u q ≡ outcome (Made.At x) q
-      go u x e q g f true d =
-          let h = eqb-true u t d in
-          let v : x ≡ r = omega (arith, sym (get_or-set_same done' t (suc r) 0 (omega (arith, low, z.1.1.size))) ∙ ap (λ (y : ℕ). get_or (set done' t (suc r)) y 0) (sym h) ∙ e) in
-          rw (h, v) (substitute_again b t page form w.used w.usable r (sym z.0.0) q (rw (← z.0.1) g) f)
-      go u x e q g f false d = z.1.1.right u x (sym (get_or-set_other done' t u (suc r) 0 (eqb-false u t d)) ∙ e) q g f
 
 -- ---- the children, one after another
 
@@ -105,14 +96,14 @@ kids_stay rule page t i (suc n) q s l e =
     ⊎_elim (λ (x : i ≡ suc n). rw x at e) (λ (x : i < suc n). rw (kids_stay rule page t i n q s (le_of_suc-le-suc x) e) refl) (eq-or-lt_of_le l)
 
 -- where the walk over the children of t stands: the first i are made, their numbers in kids, and the store is p
-pub record Kidding (b : Bindings) (page : List ℕ) (t n i : ℕ) (kids p os ds done : List ℕ) : Type 0 where
+pub record Kidding (b : Bindings) (page : List ℕ) (t n i : ℕ) (kids p os ds : List ℕ) (done : List (Option ℕ)) : Type 0 where
   pub within_n : i ≤ n
   pub places : length kids ≡ children_max
   pub reached : kids_to (under b t) page t i ≡ so_far (take i kids) p
   pub measured : Measured p os ds
   pub remembered : Remembered b p done
 
-module _ (b : Bindings) (page os₀ ds₀ done₀ : List ℕ) (t : ℕ) (w : Working b page os₀ ds₀ done₀ t) (n : ℕ) (all : n ≡ arity page t) where
+module _ (b : Bindings) (page os₀ ds₀ : List ℕ) (done₀ : List (Option ℕ)) (t : ℕ) (w : Working b page os₀ ds₀ done₀ t) (n : ℕ) (all : n ≡ arity page t) where
   base : Formed page
   base = w.measured.held.sound
 
@@ -123,7 +114,7 @@ module _ (b : Bindings) (page os₀ ds₀ done₀ : List ℕ) (t : ℕ) (w : Wor
   few : n ≤ children_max
   few = rw all (few_children page base t w.used)
 
-  module _ (i : ℕ) (kids p os ds done : List ℕ) (k : Kidding b page t n i kids p os ds done) where
+  module _ (i : ℕ) (kids p os ds : List ℕ) (done : List (Option ℕ)) (k : Kidding b page t n i kids p os ds done) where
     sound : KidsSound page i (so_far (take i kids) p)
     sound = kids_of b page base t w.used w.usable i (omega (arith, all, k.within_n)) (take i kids) p k.reached
 
@@ -141,8 +132,8 @@ module _ (b : Bindings) (page os₀ ds₀ done₀ : List ℕ) (t : ℕ) (w : Wor
       here = rw (← all) l
 
       -- what reading the child asks for
-      pub child_asks : Held p os × ((t < types_in p) × (i < arity p t))
-      child_asks = (k.measured.held, (used, rw (arity_grown page p base sound.0 t w.used) here))
+      pub child_asks : (t < types_in p) × (i < arity p t)
+      child_asks = (used, rw (arity_grown page p base sound.0 t w.used) here)
 
       module _ (c : ℕ) (is : c ≡ child_of p t i) where
         child_is : c ≡ child_of page t i
@@ -160,18 +151,18 @@ module _ (b : Bindings) (page os₀ ds₀ done₀ : List ℕ) (t : ℕ) (w : Wor
           remembered = k.remembered;
         }
 
-        module _ (m : Made) (q os' ds' done' : List ℕ) (z : Done b c p q os' ds' done' m) where
+        module _ (m : Result ℕ Refusal) (q os' ds' : List ℕ) (done' : List (Option ℕ)) (z : Done b c p q os' ds' done' m) where
           next : kids_to (under b t) page t (suc i) ≡ one_more (take i kids) m q
           unfolding kids_to kid_next
           next = rw (k.reached, ← child_is, under_is b t c p child_low, ← z.0.0, ← z.0.1) refl
 
-          pub child_number : (r : ℕ) → m ≡ Made.At r → r < types_max
+          pub child_number : (r : ℕ) → m ≡ Ok r → r < types_max
           child_number r e =
               let s = substitute_sound b c p child_works.measured.held.sound child_works.used child_works.usable in
               let u = s.used r (sym z.0.0 ∙ e) in
               omega (arith, u, types_few (substitute b c p).store s.form)
 
-          pub kids_next : (r : ℕ) → m ≡ Made.At r → Kidding b page t n (i + 1) (set kids i r) q os' ds' done'
+          pub kids_next : (r : ℕ) → m ≡ Ok r → Kidding b page t n (i + 1) (set kids i r) q os' ds' done'
           unfolding one_more
           kids_next r e = record {
             within_n = omega arith;
@@ -186,7 +177,7 @@ module _ (b : Bindings) (page os₀ ds₀ done₀ : List ℕ) (t : ℕ) (w : Wor
           }
 
           -- a refusal is that of the whole
-          pub kids_stop : is_entered (kind_of page t) ≡ true → (x : Refusal) → m ≡ Made.Refused x → Done b t page q os' ds' done' m
+          pub kids_stop : is_entered (kind_of page t) ≡ true → (x : Refusal) → m ≡ Err x → Done b t page q os' ds' done' m
           unfolding substitute_rule rebuilt one_more
           kids_stop e x h =
               let s : kids_to (under b t) page t (arity page t) ≡ stopped x q =
@@ -217,7 +208,7 @@ module _ (b : Bindings) (page os₀ ds₀ done₀ : List ℕ) (t : ℕ) (w : Wor
             enterable = rw of (enterable p (take n kids) k.measured.held.sound (kind_of page t) e (omega (arith, count, all, v.0)) (omega (arith, count, all, v.1)) end_sound.3);
           }
 
-      pub parent_done : (r : Made) (q os' ds' : List ℕ) → r ≡ enter_answer p (entry_of kind (take n kids) 0) → q ≡ enter_page p (entry_of kind (take n kids) 0) → Measured q os' ds'
+      pub parent_done : (r : Result ℕ Refusal) (q os' ds' : List ℕ) → r ≡ enter_answer p (entry_of kind (take n kids) 0) → q ≡ enter_page p (entry_of kind (take n kids) 0) → Measured q os' ds'
           → Done b t page q os' ds' done r
       unfolding substitute_rule rebuilt parent_ready
       parent_done r q os' ds' h g m =

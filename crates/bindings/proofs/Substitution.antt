@@ -1,5 +1,6 @@
 -- `substitute`: it leaves a store in form that has grown (`substitute_sound`), and a type substituted once is found again in every
 -- store that grows out of the one it left (`substitute_again`). Assumes nothing.
+use Rattle.std.proofs.Common.{Result, Ok, Err}
 use mathlib.Core.Path.{◌≡◌, refl, ◌∙◌, ap, ap₂}
 use mathlib.Core.Bool.{Bool, true, false, cond}
 use mathlib.Core.List.{List, [], ◌∷◌, ◌++◌}
@@ -17,7 +18,6 @@ use Rattle.types.specs.Types.{types_in, kind_of, arity, child_of, name_of}
 use Rattle.types.specs.Recur.{below}
 use Rattle.types.specs.Making.{entry_of, Enterable, enter_page, Grows}
 use Rattle.types.specs.Calls.{all_below}
-use Rattle.types.specs.declared.Made.{Made}
 use Rattle.types.proofs.Recur.{below_lt, cov_eq}
 use Rattle.types.proofs.Types.{child_lower, arity_within}
 use Rattle.types.proofs.Grown.{kind_grown, arity_grown, child_grown, name_grown, grows_refl, grows_trans}
@@ -32,15 +32,15 @@ use Rattle.bindings.specs.Generics.{is_entered, Outcome, outcome, Kids, so_far, 
 module _ (b : Bindings) where
   -- the outcomes for types below t
   unfoldable pub under : ℕ → ℕ → List ℕ → Outcome
-  under t = below (λ (page : List ℕ). outcome (Made.At 0) page) t (substitute b)
+  under t = below (λ (page : List ℕ). outcome (Ok 0) page) t (substitute b)
 
   pub substitute_eq : (t : ℕ) (page : List ℕ) → substitute b t page ≡ substitute_rule b t (under t) page
   unfolding substitute under
-  substitute_eq t page = ap (λ (f : List ℕ → Outcome). f page) (cov_eq (λ (x : List ℕ). outcome (Made.At 0) x) (λ s rule. substitute_rule b s rule) t)
+  substitute_eq t page = ap (λ (f : List ℕ → Outcome). f page) (cov_eq (λ (x : List ℕ). outcome (Ok 0) x) (λ s rule. substitute_rule b s rule) t)
 
   pub under_is : (t c : ℕ) (page : List ℕ) → c < t → under t c page ≡ substitute b c page
   unfolding under
-  under_is t c page l = ap (λ (f : List ℕ → Outcome). f page) (below_lt (λ (x : List ℕ). outcome (Made.At 0) x) t (substitute b) c l)
+  under_is t c page l = ap (λ (f : List ℕ → Outcome). f page) (below_lt (λ (x : List ℕ). outcome (Ok 0) x) t (substitute b) c l)
 
 -- ---- numbers below a bound
 
@@ -56,7 +56,7 @@ below_last t [] r e l = rw (lt-ltb r t l) refl
 below_last t (k ∷ ks) r e l = let z = and_true (ltb k t) (all_below t ks) e in rw z.0 (below_last t ks r z.1 l)
 
 -- what was refused has no number
-refused_not : (q : Refusal) (r : ℕ) → Made.Refused q ≡ Made.At r → ⊥
+refused_not : (q : Refusal) (r : ℕ) → ◌≡◌ {A = Result ℕ Refusal} (Err q) (Ok r) → ⊥
 refused_not q r e = let z : ◌≡◌ {A = ℕ} 0 1 = cc in omega arith
 
 -- ---- a kind that is entered
@@ -91,7 +91,7 @@ enterable s ks f k h a b u = record {
 pub record Sound (page : List ℕ) (o : Outcome) : Type 0 where
   pub grown : Grows page o.store
   pub form : Formed o.store
-  pub used : (r : ℕ) → o.made ≡ Made.At r → r < types_in o.store
+  pub used : (r : ℕ) → o.made ≡ Ok r → r < types_in o.store
 
 -- likewise after i children
 abbrev pub KidsSound : List ℕ → ℕ → Kids → Type 0
@@ -107,14 +107,14 @@ kid_sound : (page : List ℕ) (i : ℕ) (ks s : List ℕ) → Formed page → Ki
 unfolding one_more
 kid_sound page i ks s f h o z = go o.made refl
   where
-    go : (m : Made) → o.made ≡ m → KidsSound page (suc i) (one_more ks m o.store)
-    go (Made.At r) e = (
+    go : (m : Result ℕ Refusal) → o.made ≡ m → KidsSound page (suc i) (one_more ks m o.store)
+    go (Ok r) e = (
       grows_trans page s o.store f h.0 z.grown,
       z.form,
       length-append ks (r ∷ []) ∙ omega (arith, h.2),
       below_last (types_in o.store) ks r (below_more (types_in s) (types_in o.store) ks (more_types s o.store z.grown) h.3) (z.used r e),
     )
-    go (Made.Refused q) e = (grows_trans page s o.store f h.0 z.grown, z.form)
+    go (Err q) e = (grows_trans page s o.store f h.0 z.grown, z.form)
 
 module _ (rule : ℕ → List ℕ → Outcome) (page : List ℕ) (f : Formed page) (t : ℕ) (u : t < types_in page)
     (ih : (c : ℕ) → c < t → (s : List ℕ) → Formed s → Grows page s → Sound s (rule c s)) where
@@ -152,7 +152,7 @@ bound_used : (b : Bindings) (t name : ℕ) → Usable b t → is_bound b name �
 unfolding is_bound bound_to
 bound_used b t name z h = z.used (place_in b b.count name) (ltb-true (place_in b b.count name) b.count h)
 
-itself : (page : List ℕ) (x : ℕ) → Formed page → x < types_in page → Sound page (outcome (Made.At x) page)
+itself : (page : List ℕ) (x : ℕ) → Formed page → x < types_in page → Sound page (outcome (Ok x) page)
 itself page x f l = record { grown = grows_refl page; form = f; used = λ r e. rw (← at_inj x r e) l }
 
 module _ (b : Bindings) where
@@ -167,8 +167,8 @@ module _ (b : Bindings) where
 
       go : (x y : Bool) → is_entered (kind_of page t) ≡ y
           → ((c : ℕ) → c < t → (s : List ℕ) → Formed s → c < types_in s → Usable b (types_in s) → Sound s (substitute b c s))
-          → Sound page (cond x (outcome (Made.At (cond (is_bound b (name_of page t)) (bound_to b (name_of page t)) t)) page)
-          (cond y (rebuilt (kind_of page t) (kids_to (under b t) page t (arity page t))) (outcome (Made.At t) page)))
+          → Sound page (cond x (outcome (Ok (cond (is_bound b (name_of page t)) (bound_to b (name_of page t)) t)) page)
+          (cond y (rebuilt (kind_of page t) (kids_to (under b t) page t (arity page t))) (outcome (Ok t) page)))
       go true y e ih = itself page _ f (which (is_bound b (name_of page t)) refl)
       go false true e ih =
           let low : (c : ℕ) → c < t → (s : List ℕ) → Formed s → Grows page s → Sound s (under b t c s) =
@@ -193,10 +193,10 @@ stopped_not : (q : Refusal) (s ks u : List ℕ) → stopped q s ≡ so_far ks u 
 stopped_not q s ks u e = let z : ◌≡◌ {A = ℕ} 0 1 = cc in omega arith
 
 -- one more child that was made: what it was, and the store that it left
-one_made : (ks : List ℕ) (m : Made) (s ks' s' : List ℕ) → one_more ks m s ≡ so_far ks' s' → (r : ℕ) × (m ≡ Made.At r) × (ks ++ (r ∷ []) ≡ ks') × (s ≡ s')
+one_made : (ks : List ℕ) (m : Result ℕ Refusal) (s ks' s' : List ℕ) → one_more ks m s ≡ so_far ks' s' → (r : ℕ) × (m ≡ Ok r) × (ks ++ (r ∷ []) ≡ ks') × (s ≡ s')
 unfolding one_more list_in store_in
-one_made ks (Made.At r) s ks' s' e = (r, refl, ap list_in e, ap store_in e)
-one_made ks (Made.Refused q) s ks' s' e = absurd (stopped_not q s ks' s' e)
+one_made ks (Ok r) s ks' s' e = (r, refl, ap list_in e, ap store_in e)
+one_made ks (Err q) s ks' s' e = absurd (stopped_not q s ks' s' e)
 
 module _ (b : Bindings) (page : List ℕ) (f : Formed page) (t : ℕ) (u : t < types_in page) (z : Usable b (types_in page)) where
   -- the outcomes for lower types are sound
@@ -208,8 +208,8 @@ module _ (b : Bindings) (page : List ℕ) (f : Formed page) (t : ℕ) (u : t < t
   pub kids_of : (i : ℕ) → i ≤ arity page t → (ks s : List ℕ) → kids_to (under b t) page t i ≡ so_far ks s → KidsSound page i (so_far ks s)
   kids_of i l ks s e = rw e at (kids_sound (under b t) page f t u low i l)
 
-  module _ (ih : (c : ℕ) → c < t → (s : List ℕ) → Formed s → Grows page s → (r : ℕ) → (under b t c s).made ≡ Made.At r
-      → (q : List ℕ) → Grows (under b t c s).store q → Formed q → under b t c q ≡ outcome (Made.At r) q) where
+  module _ (ih : (c : ℕ) → c < t → (s : List ℕ) → Formed s → Grows page s → (r : ℕ) → (under b t c s).made ≡ Ok r
+      → (q : List ℕ) → Grows (under b t c s).store q → Formed q → under b t c q ≡ outcome (Ok r) q) where
     kids_again : (i : ℕ) → i ≤ arity page t → (ks s : List ℕ) → kids_to (under b t) page t i ≡ so_far ks s
         → (q : List ℕ) → Grows s q → Formed q → kids_to (under b t) q t i ≡ so_far ks q
     unfolding kids_to kid_next list_in one_more
@@ -234,8 +234,8 @@ module _ (b : Bindings) (page : List ℕ) (f : Formed page) (t : ℕ) (u : t < t
 
     -- the parent too
     rebuilt_again : is_entered (kind_of page t) ≡ true → (k : Kids) → kids_to (under b t) page t (arity page t) ≡ k → (r : ℕ)
-        → (rebuilt (kind_of page t) k).made ≡ Made.At r → (q : List ℕ) → Grows page q → Grows (rebuilt (kind_of page t) k).store q → Formed q
-        → rebuilt (kind_of page t) (kids_to (under b t) q t (arity page t)) ≡ outcome (Made.At r) q
+        → (rebuilt (kind_of page t) k).made ≡ Ok r → (q : List ℕ) → Grows page q → Grows (rebuilt (kind_of page t) k).store q → Formed q
+        → rebuilt (kind_of page t) (kids_to (under b t) q t (arity page t)) ≡ outcome (Ok r) q
     unfolding rebuilt
     rebuilt_again e (stopped x s) p r h q gp g fq = absurd (refused_not x r h)
     rebuilt_again e (so_far ks s) p r h q gp g fq =
@@ -251,14 +251,14 @@ pub generic_named : (k : ℕ) → eqb k generic ≡ true → is_named k ≡ true
 generic_named k e = rw (eqb-true k generic e) refl
 
 module _ (b : Bindings) where
-  again_below : (m t : ℕ) → t < m → (page : List ℕ) → Formed page → t < types_in page → Usable b (types_in page) → (r : ℕ) → (substitute b t page).made ≡ Made.At r
-      → (q : List ℕ) → Grows (substitute b t page).store q → Formed q → substitute b t q ≡ outcome (Made.At r) q
+  again_below : (m t : ℕ) → t < m → (page : List ℕ) → Formed page → t < types_in page → Usable b (types_in page) → (r : ℕ) → (substitute b t page).made ≡ Ok r
+      → (q : List ℕ) → Grows (substitute b t page).store q → Formed q → substitute b t q ≡ outcome (Ok r) q
   unfolding substitute_rule
   again_below zero t l page f u z r h q g fq = absurd (not-suc-le-zero l)
   again_below (suc m) t l page f u z r h q g fq =
       let gp = grows_trans page (substitute b t page).store q f (substitute_sound b t page f u z).grown g in
-      let ih : (c : ℕ) → c < t → (s : List ℕ) → Formed s → Grows page s → (r' : ℕ) → (under b t c s).made ≡ Made.At r'
-      → (q' : List ℕ) → Grows (under b t c s).store q' → Formed q' → under b t c q' ≡ outcome (Made.At r') q' =
+      let ih : (c : ℕ) → c < t → (s : List ℕ) → Formed s → Grows page s → (r' : ℕ) → (under b t c s).made ≡ Ok r'
+      → (q' : List ℕ) → Grows (under b t c s).store q' → Formed q' → under b t c q' ≡ outcome (Ok r') q' =
       λ c k s fs gs r' h' q' g' fq'.
       under_is b t c q' k
       ∙ again_below m c (omega arith) s fs (omega (arith, u, k, gs.more)) (usable_more b (types_in page) (types_in s) (more_types page s gs) z) r'
@@ -267,19 +267,19 @@ module _ (b : Bindings) where
       ∙ rw (kind_grown page q f gp t u, arity_grown page q f gp t u)
       (go gp ih (eqb (kind_of page t) generic) (is_entered (kind_of page t)) refl refl (rw (substitute_eq b t page) at h) (rw (substitute_eq b t page) at g))
     where
-      go : Grows page q → ((c : ℕ) → c < t → (s : List ℕ) → Formed s → Grows page s → (r' : ℕ) → (under b t c s).made ≡ Made.At r'
-          → (q' : List ℕ) → Grows (under b t c s).store q' → Formed q' → under b t c q' ≡ outcome (Made.At r') q')
+      go : Grows page q → ((c : ℕ) → c < t → (s : List ℕ) → Formed s → Grows page s → (r' : ℕ) → (under b t c s).made ≡ Ok r'
+          → (q' : List ℕ) → Grows (under b t c s).store q' → Formed q' → under b t c q' ≡ outcome (Ok r') q')
           → (x y : Bool) → eqb (kind_of page t) generic ≡ x → is_entered (kind_of page t) ≡ y
-          → (cond x (outcome (Made.At (cond (is_bound b (name_of page t)) (bound_to b (name_of page t)) t)) page)
-          (cond y (rebuilt (kind_of page t) (kids_to (under b t) page t (arity page t))) (outcome (Made.At t) page))).made ≡ Made.At r
-          → Grows (cond x (outcome (Made.At (cond (is_bound b (name_of page t)) (bound_to b (name_of page t)) t)) page)
-          (cond y (rebuilt (kind_of page t) (kids_to (under b t) page t (arity page t))) (outcome (Made.At t) page))).store q
-          → cond x (outcome (Made.At (cond (is_bound b (name_of q t)) (bound_to b (name_of q t)) t)) q)
-          (cond y (rebuilt (kind_of page t) (kids_to (under b t) q t (arity page t))) (outcome (Made.At t) q)) ≡ outcome (Made.At r) q
-      go gp ih true y e d h g = rw (name_grown page q f gp t u (generic_named (kind_of page t) e)) (ap (λ (x : Made). outcome x q) h)
+          → (cond x (outcome (Ok (cond (is_bound b (name_of page t)) (bound_to b (name_of page t)) t)) page)
+          (cond y (rebuilt (kind_of page t) (kids_to (under b t) page t (arity page t))) (outcome (Ok t) page))).made ≡ Ok r
+          → Grows (cond x (outcome (Ok (cond (is_bound b (name_of page t)) (bound_to b (name_of page t)) t)) page)
+          (cond y (rebuilt (kind_of page t) (kids_to (under b t) page t (arity page t))) (outcome (Ok t) page))).store q
+          → cond x (outcome (Ok (cond (is_bound b (name_of q t)) (bound_to b (name_of q t)) t)) q)
+          (cond y (rebuilt (kind_of page t) (kids_to (under b t) q t (arity page t))) (outcome (Ok t) q)) ≡ outcome (Ok r) q
+      go gp ih true y e d h g = rw (name_grown page q f gp t u (generic_named (kind_of page t) e)) (ap (λ (x : Result ℕ Refusal). outcome x q) h)
       go gp ih false true e d h g = rebuilt_again b page f t u z ih d (kids_to (under b t) page t (arity page t)) refl r h q gp g fq
-      go gp ih false false e d h g = ap (λ (x : Made). outcome x q) h
+      go gp ih false false e d h g = ap (λ (x : Result ℕ Refusal). outcome x q) h
 
-  pub substitute_again : (t : ℕ) (page : List ℕ) → Formed page → t < types_in page → Usable b (types_in page) → (r : ℕ) → (substitute b t page).made ≡ Made.At r
-      → (q : List ℕ) → Grows (substitute b t page).store q → Formed q → substitute b t q ≡ outcome (Made.At r) q
+  pub substitute_again : (t : ℕ) (page : List ℕ) → Formed page → t < types_in page → Usable b (types_in page) → (r : ℕ) → (substitute b t page).made ≡ Ok r
+      → (q : List ℕ) → Grows (substitute b t page).store q → Formed q → substitute b t q ≡ outcome (Ok r) q
   substitute_again t page = again_below (suc t) t (omega arith) page

@@ -1,4 +1,7 @@
 -- An answer as bytes: how they are made, and that its unit takes no more places than a unit has. Assumes nothing.
+use Rattle.units.specs.declared.Unit.{Unit}
+use Rattle.std.proofs.Common.{Result, Ok, Err, Option, IfOk, Some}
+use Rattle.refusals.specs.declared.Refusal.{Refusal}
 use mathlib.Core.Path.{◌≡◌, refl, ap, ◌∙◌}
 use mathlib.Core.Bool.{Bool, true, false, ◌&&◌, ◌||◌, not, cond}
 use mathlib.Core.List.{List, ◌∷◌, ◌++◌}
@@ -6,10 +9,9 @@ use Prim.Native.Nat.{ℕ, ◌+◌, ◌≤◌}
 use native.Mathlib.Omega.{arith}
 use lib.Dec.{eqb}
 use lib.ListN.{length, replicate, length-append}
-use Rattle.refusals.specs.Lowest.{◌when◌}
+use Rattle.refusals.specs.Lowest.{◌when◌, guarded}
 use Rattle.refusals.specs.declared.Refusal.TheVariants.{Undefined, Broken}
-use Rattle.refusals.specs.declared.Verdict.{Verdict}
-use Rattle.refusals.specs.declared.Verdict.TheVariants.{Passed, Refused}
+use Rattle.refusals.specs.Numbers.{Verdict}
 use Rattle.refusals.proofs.Lowest.{passed_parts}
 use Rattle.pages.specs.Bytes.{put}
 use Rattle.pages.proofs.Put.{put_append, put_whole}
@@ -21,25 +23,24 @@ use Rattle.types.specs.Calls.{store_broken}
 use Rattle.matching.specs.declared.Checked.{Checked}
 use Rattle.units.specs.Unit.{places_max}
 use Rattle.units.specs.Calls.{terms_of, product_answer, unitless}
-use Rattle.units.specs.declared.MaybeUnit.{MaybeUnit}
 use Rattle.units.proofs.Form.{formed_length, length_terms}
 use Rattle.units.proofs.Calls.{result_few}
 use Rattle.values.specs.Value.{unit_max}
 use Rattle.pairs.specs.Calls.{table_broken}
 use Rattle.sums.specs.Calls.{or_empty}
-use Rattle.operators.specs.Operators.{is_operator, minus, adopted, multiplied, divided, unit_rule}
+use Rattle.operators.specs.Operators.{is_operator, minus, unit_rule}
+use Rattle.operators.specs.declared.UnitRule.TheVariants.{Adopted, Multiplied, Divided, Ignored, Compared}
 use Rattle.operators.specs.Outcome.{number_of, passes}
 use Rattle.operators.specs.declared.Outcome.{Outcome}
-use Rattle.members.specs.declared.Conclusion.{Conclusion}
 use Rattle.unary.specs.Unary.{check_unary}
 use Rattle.indexing.specs.Indexing.{check_index}
-use Rattle.answers.specs.Units.{no_unit, adopted_by, combined, binary_unit, negation_unit}
-use Rattle.answers.specs.Calls.{operand_formed, operand_conditions, binary_verdict, with_unit, binary_checked, binary_answer, unless, concluded_by, unary_verdict, unary_unit, unary_concluded, unary_checked, unary_answer, keyed, index_verdict, index_answer}
+use Rattle.answers.specs.Units.{no_unit, adopted_by, combined, binary_unit, negation_unit, unit_by, of_product}
+use Rattle.answers.specs.Calls.{operand_formed, operand_conditions, binary_verdict, with_unit, binary_checked, binary_answer, concluded_by, unary_verdict, unary_unit, unary_concluded, unary_checked, unary_answer, keyed, index_verdict, index_answer, beside, answered}
 use Rattle.answers.specs.declared.CheckedExpr.{CheckedExpr}
-use Rattle.answers.specs.declared.MaybeResult.{MaybeResult}
 use Rattle.answers.specs.declared.Answered.{Answered}
 use Rattle.answers.proofs.Calls.{passed_formed}
 use Rattle.calls.specs.Answers.{error_bytes, answer_bytes}
+use Rattle.operators.specs.declared.UnitRule.{UnitRule}
 
 -- errors and a unit in their places
 pub answer_made : (e u : List ℕ) → length e ≡ error_bytes → length u ≡ unit_max → put (put (replicate answer_bytes 0) 0 e) error_bytes u ≡ e ++ u
@@ -51,7 +52,7 @@ answer_made e u h k =
     ∙ put_whole (replicate answer_bytes 0) (e ++ u) n
 
 -- a unit, or none, that takes few enough places
-abbrev pub Few : MaybeUnit → Type 0
+abbrev pub Few : Option Unit → Type 0
 Few m = (or_empty m).count ≤ places_max
 
 few_none : Few no_unit
@@ -63,53 +64,60 @@ formed_few x h =
     rw (length_terms u.count 0 u.symbols u.exponents) at (formed_length places_max names_max (terms_of u) h)
 
 -- one of two units
-few_either : (b : Bool) (l r : MaybeUnit) → Few l → Few r → Few (cond b l r)
+few_either : (b : Bool) (l r : Option Unit) → Few l → Few r → Few (cond b l r)
 few_either true l r p q = p
 few_either false l r p q = q
 
 -- ---- units of binary operators
 
-few_adopted : (l r : MaybeUnit) → Few l → Few r → Few (adopted_by l r)
+few_adopted : (l r : Option Unit) → Few l → Few r → Few (adopted_by l r)
 unfolding adopted_by
 few_adopted l r p q =
     few_either (unitless l) (cond (unitless r) no_unit r) l (few_either (unitless r) no_unit r few_none q) p
 
-few_combined : (d : Bool) (l r : MaybeUnit) → Few (combined d l r).unit
+few_combined : (d : Bool) (l r : Option Unit) → IfOk (combined d l r) Few
 unfolding combined
-few_combined d l r =
-    let u = (product_answer d (or_empty l) (or_empty r)).unit in
-    few_either (eqb u.count 0) no_unit (record { some = true; unit = u }) few_none (result_few d (or_empty l) (or_empty r))
+few_combined d l r = go (product_answer d (or_empty l) (or_empty r)) (result_few d (or_empty l) (or_empty r))
+  where
+    go : (p : Result Unit Refusal) → IfOk p (λ u. u.count ≤ places_max) → IfOk (of_product p) Few
+    go (Ok u) h = few_either (eqb u.count 0) no_unit (Some u) few_none h
+    go (Err q) h = tt
 
-few_result : (b : Bool) (l r : MaybeResult) → Few l.unit → Few r.unit → Few (cond b l r).unit
-few_result true l r p q = p
-few_result false l r p q = q
-
-few_binary : (op : ℕ) (l r : MaybeUnit) → Few l → Few r → Few (binary_unit op l r).unit
+few_binary : (op : ℕ) (l r : Option Unit) → Few l → Few r → IfOk (binary_unit op l r) Few
 unfolding binary_unit
-few_binary op l r p q =
-    few_result (eqb (unit_rule op) adopted) _ _ (few_adopted l r p q)
-    (few_result (eqb (unit_rule op) multiplied) _ _ (few_combined false l r)
-    (few_result (eqb (unit_rule op) divided) _ _ (few_combined true l r) few_none))
+few_binary op l r p q = go (unit_rule op)
+  where
+    go : (rule : UnitRule) → IfOk (unit_by rule l r) Few
+    go Ignored = few_none
+    go Adopted = few_adopted l r p q
+    go Multiplied = few_combined false l r
+    go Divided = few_combined true l r
+    go Compared = few_none
 
-few_answered : (b : Bool) (l r : Answered) → Few l.unit → Few r.unit → Few (cond b l r).unit
-few_answered true l r p q = p
-few_answered false l r p q = q
+-- an answer whose unit does
+abbrev pub FewOk : Result Answered Refusal → Type 0
+FewOk a = IfOk a (λ x. Few x.unit)
 
-few_unless : (v : Verdict) (a : Answered) → (v ≡ Passed → Few a.unit) → Few (unless v a).unit
-few_unless Passed a h = h refl
-few_unless (Refused r) a h = few_none
+few_guarded : (v : Verdict) (a : Result Answered Refusal) → (v ≡ Ok tt → FewOk a) → FewOk (guarded v a)
+few_guarded (Ok _) a h = h refl
+few_guarded (Err r) a h = tt
 
-few_with : (o : Outcome) (u : MaybeResult) → Few u.unit → Few (with_unit o u).unit
+few_with : (o : Outcome) (u : Result (Option Unit) Refusal) → IfOk u Few → FewOk (with_unit o u)
 unfolding with_unit
-few_with o u h = few_answered (passes o) _ _ (few_unless u.verdict _ (λ _. h)) few_none
+few_with o u h = go (passes o) u h
+  where
+    go : (b : Bool) (m : Result (Option Unit) Refusal) → IfOk m Few → FewOk (cond b (beside o m) (Ok (answered o no_unit)))
+    go true (Ok m) k = k
+    go true (Err r) k = tt
+    go false m k = few_none
 
 -- ---- what the calls answer
 
 pub binary_few : (page names : List ℕ) (lent : Bool) (pairs : List ℕ) (op : ℕ) (left right : CheckedExpr)
-    → Few (binary_answer page names lent pairs op left right).unit
+    → FewOk (binary_answer page names lent pairs op left right)
 unfolding binary_answer binary_checked
 binary_few page names lent pairs op left right =
-    few_unless (binary_verdict page names lent pairs op left right) _
+    few_guarded (binary_verdict page names lent pairs op left right) _
     (λ v.
     let rest = operand_conditions page (used_of names lent) left right in
     let broken = store_broken page names lent || table_broken pairs names lent in
@@ -118,37 +126,37 @@ binary_few page names lent pairs op left right =
     let f = passed_formed page (used_of names lent) left right b.1 in
     few_with _ (binary_unit op left.unit right.unit) (few_binary op left.unit right.unit (formed_few left f.0) (formed_few right f.1)))
 
-few_negated : (store : List ℕ) (op : ℕ) (o : Outcome) (u : MaybeUnit) → Few u → Few (unary_unit store op o u)
+few_negated : (store : List ℕ) (op : ℕ) (o : Outcome) (u : Option Unit) → Few u → Few (unary_unit store op o u)
 unfolding unary_unit negation_unit
 few_negated store op o u h =
     let union = is_union (kind_of store (number_of o.checked)) in
     few_either (eqb op minus && passes o) (cond union no_unit u) no_unit (few_either union no_unit u few_none h) few_none
 
-few_unary : (r : Conclusion) (store : List ℕ) (op : ℕ) (u : MaybeUnit) → Few u → Few (unary_concluded r store op u).unit
-few_unary (Conclusion.Is o) store op u h = few_negated store op o u h
-few_unary (Conclusion.Refused r) store op u h = few_none
+few_unary : (r : Result Outcome Refusal) (store : List ℕ) (op : ℕ) (u : Option Unit) → Few u → FewOk (unary_concluded r store op u)
+few_unary (Ok o) store op u h = few_negated store op o u h
+few_unary (Err r) store op u h = tt
 
-pub unary_few : (page names : List ℕ) (lent : Bool) (op : ℕ) (x : CheckedExpr) → Few (unary_answer page names lent op x).unit
+pub unary_few : (page names : List ℕ) (lent : Bool) (op : ℕ) (x : CheckedExpr) → FewOk (unary_answer page names lent op x)
 unfolding unary_answer
 unary_few page names lent op x =
     let q = check_unary page op x.checked in
     let rest = operand_conditions page (used_of names lent) x x in
-    few_unless (unary_verdict page names lent op x) (unary_checked q op x.unit)
+    few_guarded (unary_verdict page names lent op x) (unary_checked q op x.unit)
     (λ v.
     let a = passed_parts Undefined (not (is_operator op)) ((Broken when store_broken page names lent) ∷ rest) v in
     let b = passed_parts Broken (store_broken page names lent) rest a.1 in
     few_unary q.conclusion q.store op x.unit (formed_few x (passed_formed page (used_of names lent) x x b.1).0))
 
-few_index : (r : Conclusion) (u : MaybeUnit) → Few u → Few (concluded_by r u).unit
-few_index (Conclusion.Is o) u h = h
-few_index (Conclusion.Refused r) u h = few_none
+few_index : (r : Result Outcome Refusal) (u : Option Unit) → Few u → FewOk (concluded_by r u)
+few_index (Ok o) u h = h
+few_index (Err r) u h = tt
 
-pub index_few : (page names : List ℕ) (lent : Bool) (target : CheckedExpr) (key : Checked) → Few (index_answer page names lent target key).unit
+pub index_few : (page names : List ℕ) (lent : Bool) (target : CheckedExpr) (key : Checked) → FewOk (index_answer page names lent target key)
 unfolding index_answer
 index_few page names lent target key =
     let r = (check_index page key target.checked).conclusion in
     let rest = operand_conditions page (used_of names lent) target (keyed key) in
-    few_unless (index_verdict page names lent target key) (concluded_by r target.unit)
+    few_guarded (index_verdict page names lent target key) (concluded_by r target.unit)
     (λ v.
     let b = passed_parts Broken (store_broken page names lent) rest v in
     few_index r target.unit (formed_few target (passed_formed page (used_of names lent) target (keyed key) b.1).0))

@@ -1,4 +1,6 @@
 -- Bindings as bytes, read and written. Assumes nothing.
+use Rattle.std.proofs.Common.{true, false, Result, Ok, Err}
+use Rattle.refusals.specs.declared.Refusal.{Refusal}
 use mathlib.Core.Path.{◌≡◌, refl, sym, ◌∙◌, ap}
 use mathlib.Core.Bool.{Bool, ◌&&◌, ◌||◌, not}
 use mathlib.Core.List.{List, [], ◌∷◌, ◌++◌}
@@ -11,10 +13,7 @@ use lib.Seq.{length-take-le}
 use borrow.Author.Tests.{ltb-true, not-false}
 use Rattle.refusals.specs.Lowest.{◌when◌}
 use Rattle.refusals.specs.declared.Refusal.TheVariants.{Broken, Unused}
-use Rattle.refusals.specs.declared.Verdict.{Verdict}
-use Rattle.refusals.specs.declared.Verdict.TheVariants.{Passed, Refused}
-use Rattle.refusals.specs.declared.Answer.{Answer}
-use Rattle.refusals.specs.declared.Answer.TheVariants as answer
+use Rattle.refusals.specs.Numbers.{Verdict}
 use Rattle.refusals.proofs.Lowest.{passed_parts}
 use Rattle.pages.specs.Bytes.{words, low_bytes, put}
 use Rattle.pages.proofs.Quant.{and_true}
@@ -64,10 +63,10 @@ bindings_made b n t =
 
 -- ---- the count after unifying fits in a byte
 
-kept_few : (r : Answer) (new old : Bindings) → new.count < 256 → old.count < 256 → (kept_by r new old).bindings.count < 256
-kept_few answer.Yes new old h k = h
-kept_few answer.No new old h k = h
-kept_few (answer.Refused r) new old h k = k
+kept_few : (r : Result Bool Refusal) (new old : Bindings) → new.count < 256 → old.count < 256 → (kept_by r new old).bindings.count < 256
+kept_few (Ok true) new old h k = h
+kept_few (Ok false) new old h k = h
+kept_few (Err r) new old h k = k
 
 arg_few : (page names : List ℕ) (lent : Bool) (b : Bindings) (e : ℕ) (c : Checked) → b.count < 256
     → length b.names ≡ bindings_max → length b.types ≡ bindings_max
@@ -79,7 +78,7 @@ arg_few page names lent b e c few n t = go (bindings_verdict page names lent b u
     used = ltb e (types_in page) && in_use page c
 
     go : (v : Verdict) → bindings_verdict page names lent b used ≡ v → (unified_or v (unify_arg page e c b) b).bindings.count < 256
-    go Passed h =
+    go (Ok _) h =
         let form = formed (used_of names lent) (types_in page) b in
         let a = passed_parts Broken (store_broken page names lent || not form) ((Unused when not used) ∷ []) h in
         let z = (or-eq-false-eq-eq-false-and-eq-false (store_broken page names lent) (not form)).0 a.0 in
@@ -88,7 +87,7 @@ arg_few page names lent b e c few n t = go (bindings_verdict page names lent b u
         let g : Given b (types_in page) = record { usable = usable (used_of names lent) (types_in page) b (not-false form z.1); names = n; types = t } in
         let grown = unify_arg_grown page f e (ltb-true e (types_in page) w.0) b g c w.1 in
         kept_few (unify_arg page e c b).answer (unify_arg page e c b).bindings b (omega (arith, grown.given.usable.few)) few
-    go (Refused r) h = few
+    go (Err r) h = few
 
 module _ (page names : List ℕ) (lent : Bool) (b : Bindings) (few : b.count < 256) (n : length b.names ≡ bindings_max) (t : length b.types ≡ bindings_max)
     (e : ℕ) (u : Unified) where

@@ -1,19 +1,20 @@
 -- Units that are read from bytes: where the bytes can be read, the calls on values judge them alike; where they cannot, which refusal it
 -- is. Assumes nothing.
+use Rattle.refusals.specs.declared.Refusal.{Refusal}
+use Rattle.units.specs.declared.Unit.{Unit}
+use Rattle.std.proofs.Common.{Err, Some, None, Ok, Result, Option}
 use mathlib.Core.Path.{◌≡◌, refl, sym, ◌∙◌, ap}
-use mathlib.Core.Bool.{Bool, true, false, ◌&&◌, ◌||◌, not}
+use mathlib.Core.Bool.{Bool, true, false, ◌&&◌, ◌||◌, not, cond}
 use mathlib.Core.List.{List, [], ◌∷◌}
 use Prim.Native.Nat.{ℕ, zero, suc, ◌+◌, ◌≤◌}
 use native.Mathlib.Omega.{arith}
 use lib.Dec.{eqb, leb}
 use lib.ListN.{length, get_or}
-use borrow.Author.Tests.{leb-true, ne_eqb}
-use Rattle.refusals.specs.Numbers.{is_refused}
-use Rattle.refusals.specs.Lowest.{Condition, ◌when◌, lowest, unless_refused}
+use borrow.Author.Tests.{leb-true, ne_eqb, not-false}
+use Rattle.refusals.specs.Lowest.{Condition, ◌when◌, lowest, unless_refused, guarded}
 use Rattle.refusals.specs.declared.Refusal.TheVariants.{Undefined, Broken, Unused, BadUnit}
-use Rattle.refusals.specs.declared.Verdict.{Verdict}
-use Rattle.refusals.specs.declared.Verdict.TheVariants.{Refused}
-use Rattle.refusals.proofs.Lowest.{first_holds}
+use Rattle.refusals.specs.Numbers.{Verdict}
+use Rattle.refusals.proofs.Lowest.{first_holds, answer_of_ok, answer_of_err, passed_parts}
 use Rattle.pages.specs.Bytes.{count_of}
 use Rattle.pages.proofs.Quant.{and_true}
 use Rattle.pages.proofs.Bytes.{and_false}
@@ -22,22 +23,21 @@ use Rattle.names.specs.Table as names
 use Rattle.names.specs.Calls.{used_of}
 use Rattle.types.specs.Calls.{store_broken}
 use Rattle.units.specs.Unit.{places_max, Term, formed, in_use}
-use Rattle.units.specs.Calls.{terms_of, present, unit_of}
+use Rattle.units.specs.Calls.{terms_of, present, unit_of, unitless_answer}
 use Rattle.units.proofs.Order.{or_both}
 use Rattle.units.proofs.Held.{terms_unit}
 use Rattle.units.proofs.Used.{present_all}
 use Rattle.pairs.specs.Calls.{table_broken}
 use Rattle.sums.specs.Calls.{roots_in, or_empty, units_verdict, sums_answer, convert_answer}
 use Rattle.text.specs.Calls.{text_verdict, text_answer}
-use Rattle.values.specs.Value.{none_count, term_bytes, terms_at, is_none, is_some, readable, value_verdict, unit_in, symbols_used}
+use Rattle.values.specs.Value.{none_count, term_bytes, terms_at, is_none, is_some, readable, value_verdict, unit_in, symbols_used, value_in}
 use Rattle.values.proofs.Used.{used_some, used_none}
 use Rattle.operators.specs.Operators.{is_operator}
-use Rattle.answers.specs.Units.{no_unit}
 use Rattle.unary.specs.Unary.{check_unary}
 use Rattle.indexing.specs.Indexing.{check_index}
-use Rattle.answers.specs.Calls.{operand_conditions, unless, concluded_by, store_after, binary_checked, binary_answer, unary_checked, unary_answer, unary_page, keyed, index_answer, index_page}
+use Rattle.answers.specs.Calls.{operand_conditions, concluded_by, store_after, binary_checked, binary_answer, unary_checked, unary_answer, unary_page, keyed, index_answer, index_page}
 use Rattle.calls.specs.Types.{checked_of}
-use Rattle.calls.specs.Codes.{unit_formed_in, maybe_formed_in, text_verdict_in, text_in, units_verdict_in, group_sums_in, convertible_in}
+use Rattle.calls.specs.Codes.{unit_formed_in, maybe_formed_in, text_verdict_in, text_in, units_verdict_in, group_sums_in, convertible_in, units_in, unitless_in}
 use Rattle.calls.specs.Answers.{operand_of, operand_used_in, operands_in, operands_verdict_in, binary_verdict_in, binary_in, unary_verdict_in, unary_in, unary_page_in, index_in, index_page_in}
 
 -- ---- choices
@@ -52,13 +52,10 @@ or_none_lem false = refl
 
 -- ---- bytes that can be read
 
-pub readable_is : (bytes : List ℕ) → not (is_refused (value_verdict bytes)) ≡ readable bytes
-unfolding value_verdict
-readable_is bytes = go (readable bytes)
-  where
-    go : (b : Bool) → not (is_refused (lowest ((BadUnit when not b) ∷ []))) ≡ b
-    go true = refl
-    go false = refl
+module _ (bytes : List ℕ) where
+  pub value_ok : readable bytes ≡ true → value_in bytes ≡ Ok (unit_in bytes)
+  unfolding value_verdict
+  value_ok h = rw h refl
 
 -- the places of a unit that was read are the terms in the bytes
 module _ (bytes : List ℕ) (s : is_some bytes ≡ true) where
@@ -81,30 +78,31 @@ module _ (bytes : List ℕ) (s : is_some bytes ≡ true) where
       length_at zero at = refl
       length_at (suc k) at = ap suc (length_at k (at + term_bytes))
 
-  unit_is : (unit_in bytes).unit ≡ unit_of read
+  unit_is : unit_in bytes ≡ Some (unit_of read)
   unfolding unit_in read
-  unit_is = rw s
+  unit_is = rw s refl
 
-  some_terms : terms_of (unit_in bytes).unit ≡ read
-  some_terms = ap terms_of unit_is ∙ terms_unit read read_length
-
-  pub some_used : (n : ℕ) → symbols_used n bytes ≡ in_use n (present (unit_in bytes).unit)
+  pub some_used : (n : ℕ) → symbols_used n bytes ≡ in_use n (present (or_empty (unit_in bytes)))
   some_used n =
-      used_some n bytes s ∙ unfold read in (sym (ap (λ u. in_use n (present u)) unit_is ∙ ap (in_use n) (present_all (unit_of read) read_length ∙ terms_unit read read_length)))
+      used_some n bytes s ∙ unfold read in (sym (ap (λ m. in_use n (present (or_empty m))) unit_is ∙ ap (in_use n) (present_all (unit_of read) read_length ∙ terms_unit read read_length)))
 
-  pub some_formed : unit_formed_in bytes ≡ formed places_max names_max (terms_of (unit_in bytes).unit)
+  pub some_formed : unit_formed_in bytes ≡ formed places_max names_max (terms_of (or_empty (unit_in bytes)))
   unfolding unit_formed_in
-  some_formed = rw s
+  some_formed = rw unit_is refl
 
 -- a unit, or none
 module _ (bytes : List ℕ) where
-  no_unit_lem : is_some bytes ≡ false → unit_in bytes ≡ no_unit
+  no_unit_lem : is_some bytes ≡ false → unit_in bytes ≡ None
   unfolding unit_in
   no_unit_lem s = rw s
 
-  or_is : is_some bytes ≡ true → or_empty (unit_in bytes) ≡ (unit_in bytes).unit
+  some_if : (u : Unit) → unit_in bytes ≡ Some u → is_some bytes ≡ true
   unfolding unit_in
-  or_is s = rw s
+  some_if u e = go (is_some bytes) refl e
+    where
+      go : (b : Bool) → is_some bytes ≡ b → cond b (Some (unit_of (terms_at bytes (get_or bytes 0 0) 1))) None ≡ Some u → is_some bytes ≡ true
+      go true s k = s
+      go false s k = absurd (let z : ◌≡◌ {A = ℕ} 0 1 = cc in omega arith)
 
   module _ (h : readable bytes ≡ true) where
     pub used_in : (n : ℕ) → symbols_used n bytes ≡ in_use n (present (or_empty (unit_in bytes)))
@@ -112,7 +110,7 @@ module _ (bytes : List ℕ) where
     used_in n = go (is_some bytes) refl
       where
         go : (b : Bool) → is_some bytes ≡ b → symbols_used n bytes ≡ in_use n (present (or_empty (unit_in bytes)))
-        go true s = some_used bytes s n ∙ ap (λ u. in_use n (present u)) (sym (or_is s))
+        go true s = some_used bytes s n
         go false s = used_none n bytes (sym (or_none_lem (is_none bytes)) ∙ rw s at h) ∙ ap (λ u. in_use n (present (or_empty u))) (sym (no_unit_lem s))
 
     pub formed_in : maybe_formed_in bytes ≡ formed places_max names_max (terms_of (or_empty (unit_in bytes)))
@@ -120,13 +118,13 @@ module _ (bytes : List ℕ) where
     formed_in = go (is_some bytes) refl
       where
         go : (b : Bool) → is_some bytes ≡ b → (is_none bytes || unit_formed_in bytes) ≡ formed places_max names_max (terms_of (or_empty (unit_in bytes)))
-        go true s = rw (not_none bytes s) (some_formed bytes s ∙ ap (λ u. formed places_max names_max (terms_of u)) (sym (or_is s)))
+        go true s = rw (not_none bytes s) (some_formed bytes s)
         go false s = rw (no_unit_lem s, sym (or_none_lem (is_none bytes)) ∙ rw s at h)
 
   -- ---- bytes that cannot
 
   unread_formed : readable bytes ≡ false → maybe_formed_in bytes ≡ false
-  unfolding readable maybe_formed_in unit_formed_in
+  unfolding readable maybe_formed_in unit_formed_in unit_in
   unread_formed h = let a = or_both (is_none bytes) (is_some bytes) h in rw (a.0, a.1)
 
 pub unread_both : (l r : List ℕ) → (readable l && readable r) ≡ false → (maybe_formed_in l && maybe_formed_in r) ≡ false
@@ -140,25 +138,53 @@ unread_both l r h = go (readable l) refl
 pub read_both : (l r : List ℕ) → (readable l && readable r) ≡ true → (readable l ≡ true) × (readable r ≡ true)
 read_both l r h = and_true (readable l) (readable r) h
 
+-- ---- what reading answers
+
+module _ (bytes : List ℕ) where
+  pub value_some : (m : Option Unit) → value_in bytes ≡ Ok m → (readable bytes ≡ true) × (m ≡ unit_in bytes)
+  unfolding value_verdict
+  value_some m e =
+      let z = answer_of_ok (value_verdict bytes) (unit_in bytes) m (sym e) in
+      (not-false (readable bytes) (passed_parts BadUnit (not (readable bytes)) [] z.0).0, z.1)
+
+  pub value_none : (r : Refusal) → value_in bytes ≡ Err r → (readable bytes ≡ false) × (unit_in bytes ≡ None)
+  unfolding readable
+  value_none r e = go (readable bytes) refl
+    where
+      go : (b : Bool) → readable bytes ≡ b → (readable bytes ≡ false) × (unit_in bytes ≡ None)
+      go true h = absurd (let k : ◌≡◌ {A = Result (Option Unit) Refusal} (Ok (unit_in bytes)) (Err r) = sym (value_ok bytes h) ∙ e in let z : ◌≡◌ {A = ℕ} 0 1 = cc in omega arith)
+      go false h = (h, no_unit_lem bytes (or_both (is_none bytes) (is_some bytes) h).1)
+
+  -- unitless or not
+  pub dimensionless_read : (m : Option Unit) → value_in bytes ≡ Ok m → unitless_answer m ≡ unitless_in bytes
+  unfolding unitless_in
+  dimensionless_read m e =
+      let z = answer_of_ok (value_verdict bytes) (unit_in bytes) m (sym e) in
+      rw (z.0, z.1) refl
+
+  pub dimensionless_unread : (r : Refusal) → value_in bytes ≡ Err r → ◌≡◌ {A = Result Bool Refusal} (Err r) (unitless_in bytes)
+  unfolding unitless_in
+  dimensionless_unread r e = let z = answer_of_err (value_verdict bytes) (unit_in bytes) r (sym e) in rw z refl
+
 -- ---- the text of a unit
 
 module _ (page bytes : List ℕ) where
-  pub text_some : (unit_in bytes).some ≡ true → text_answer page (unit_in bytes).unit ≡ text_in page bytes
+  pub text_some : (u : Unit) → unit_in bytes ≡ Some u → text_answer page u ≡ text_in page bytes
   unfolding text_answer text_verdict text_verdict_in
-  text_some h = let s : is_some bytes ≡ true = unfold unit_in in h in rw (some_used bytes s (count_of page), some_formed bytes s)
+  text_some u h = let s = some_if bytes u h in rw (some_used bytes s (count_of page), some_formed bytes s, h) refl
 
-  pub text_broken : names.formed page ≡ false → Refused Broken ≡ text_verdict_in page bytes
+  pub text_broken : names.formed page ≡ false → Err Broken ≡ text_verdict_in page bytes
   unfolding text_verdict_in
   text_broken f = sym (rw f (first_holds Broken ((Unused when not (symbols_used (count_of page) bytes)) ∷ (BadUnit when not (unit_formed_in bytes)) ∷ []) refl))
 
   module _ (f : names.formed page ≡ true) (n : ℕ) (is : n ≡ count_of page) where
-    pub text_unused : symbols_used n bytes ≡ false → Refused Unused ≡ text_verdict_in page bytes
+    pub text_unused : symbols_used n bytes ≡ false → Err Unused ≡ text_verdict_in page bytes
     unfolding text_verdict_in
     text_unused u = sym (rw (f, ← is, u) (first_holds Unused ((BadUnit when not (unit_formed_in bytes)) ∷ []) refl))
 
-    pub text_bad : symbols_used n bytes ≡ true → (unit_in bytes).some ≡ false → Refused BadUnit ≡ text_verdict_in page bytes
+    pub text_bad : symbols_used n bytes ≡ true → unit_in bytes ≡ None → Err BadUnit ≡ text_verdict_in page bytes
     unfolding text_verdict_in unit_formed_in
-    text_bad u h = let s : is_some bytes ≡ false = unfold unit_in in h in rw (f, ← is, u, s)
+    text_bad u h = rw (f, ← is, u, h) refl
 
 -- ---- units over the pairs of a page
 
@@ -191,23 +217,23 @@ module _ (page names : List ℕ) (lent : Bool) where
       rw (used_in b k n, formed_in b k, and_end (in_use n (present (or_empty (unit_in b)))), and_end (formed places_max names_max (terms_of (or_empty (unit_in b)))), and_self (in_use n (present (or_empty (unit_in b)))), and_self (formed places_max names_max (terms_of (or_empty (unit_in b)))))
 
   module _ (l r : List ℕ) where
-    pub units_broken : table_broken page names lent ≡ true → Refused Broken ≡ units_verdict_in page names lent l r
+    pub units_broken : table_broken page names lent ≡ true → Err Broken ≡ units_verdict_in page names lent l r
     unfolding units_verdict_in
     units_broken t =
         sym (rw t (first_holds Broken ((Unused when not (symbols_used (used_of names lent) l && symbols_used (used_of names lent) r)) ∷ (BadUnit when not (maybe_formed_in l && maybe_formed_in r)) ∷ []) refl))
 
     module _ (t : table_broken page names lent ≡ false) (n : ℕ) (is : n ≡ used_of names lent) where
-      unused : (symbols_used n l && symbols_used n r) ≡ false → Refused Unused ≡ units_verdict_in page names lent l r
+      unused : (symbols_used n l && symbols_used n r) ≡ false → Err Unused ≡ units_verdict_in page names lent l r
       unfolding units_verdict_in
       unused u = sym (rw (t, ← is, u) (first_holds Unused ((BadUnit when not (maybe_formed_in l && maybe_formed_in r)) ∷ []) refl))
 
-      pub left_unused : symbols_used n l ≡ false → Refused Unused ≡ units_verdict_in page names lent l r
+      pub left_unused : symbols_used n l ≡ false → Err Unused ≡ units_verdict_in page names lent l r
       left_unused u = unused (rw u)
 
-      pub right_unused : symbols_used n r ≡ false → Refused Unused ≡ units_verdict_in page names lent l r
+      pub right_unused : symbols_used n r ≡ false → Err Unused ≡ units_verdict_in page names lent l r
       right_unused u = unused (rw u (and_false (symbols_used n l)))
 
-      pub units_bad : symbols_used n l ≡ true → symbols_used n r ≡ true → (readable l && readable r) ≡ false → Refused BadUnit ≡ units_verdict_in page names lent l r
+      pub units_bad : symbols_used n l ≡ true → symbols_used n r ≡ true → (readable l && readable r) ≡ false → Err BadUnit ≡ units_verdict_in page names lent l r
       unfolding units_verdict_in
       units_bad a b h = rw (t, ← is, a, b, unread_both l r h)
 
@@ -227,38 +253,38 @@ module _ (page names : List ℕ) (lent : Bool) (left : ℕ) (unit : List ℕ) (r
         → binary_answer page names lent pairs op (operand_of left unit) (operand_of right other) ≡ binary_in page names lent pairs op left unit right other
     unfolding binary_answer binary_verdict_in
     binary_alike pairs op =
-        ap (λ (cs : List Condition). unless (lowest ((Undefined when not (is_operator op)) ∷ (Broken when (store_broken page names lent || table_broken pairs names lent)) ∷ cs))
+        ap (λ (cs : List Condition). guarded (lowest ((Undefined when not (is_operator op)) ∷ (Broken when (store_broken page names lent || table_broken pairs names lent)) ∷ cs))
         (binary_checked page (roots_in pairs) op (operand_of left unit) (operand_of right other))) (operands_alike (used_of names lent))
 
   module _ (h : (readable unit && readable other) ≡ false) where
-    pub operands_broken : store_broken page names lent ≡ true → Refused Broken ≡ operands_verdict_in page names lent left unit right other
+    pub operands_broken : store_broken page names lent ≡ true → Err Broken ≡ operands_verdict_in page names lent left unit right other
     unfolding operands_verdict_in
     operands_broken t = sym (rw t (first_holds Broken (conditions (used_of names lent)) refl))
 
     module _ (t : store_broken page names lent ≡ false) (n : ℕ) (is : n ≡ used_of names lent) where
-      unused_operand : (operand_used_in page n left unit && operand_used_in page n right other) ≡ false → Refused Unused ≡ operands_verdict_in page names lent left unit right other
+      unused_operand : (operand_used_in page n left unit && operand_used_in page n right other) ≡ false → Err Unused ≡ operands_verdict_in page names lent left unit right other
       unfolding operands_verdict_in
       unused_operand u = sym (rw (t, ← is, u) (first_holds Unused ((BadUnit when not (maybe_formed_in unit && maybe_formed_in other)) ∷ []) refl))
 
-      pub left_operand : operand_used_in page n left unit ≡ false → Refused Unused ≡ operands_verdict_in page names lent left unit right other
+      pub left_operand : operand_used_in page n left unit ≡ false → Err Unused ≡ operands_verdict_in page names lent left unit right other
       left_operand u = unused_operand (rw u)
 
-      pub right_operand : operand_used_in page n right other ≡ false → Refused Unused ≡ operands_verdict_in page names lent left unit right other
+      pub right_operand : operand_used_in page n right other ≡ false → Err Unused ≡ operands_verdict_in page names lent left unit right other
       right_operand u = unused_operand (rw u (and_false (operand_used_in page n left unit)))
 
-      pub operands_bad : operand_used_in page n left unit ≡ true → operand_used_in page n right other ≡ true → Refused BadUnit ≡ operands_verdict_in page names lent left unit right other
+      pub operands_bad : operand_used_in page n left unit ≡ true → operand_used_in page n right other ≡ true → Err BadUnit ≡ operands_verdict_in page names lent left unit right other
       unfolding operands_verdict_in
       operands_bad a b = rw (t, ← is, a, b, unread_both unit other h)
 
   -- 1 and the pairs come before what is asked of the operands
   module _ (pairs : List ℕ) (op : ℕ) where
-    pub binary_undefined : is_operator op ≡ false → Refused Undefined ≡ binary_verdict_in page names lent pairs op left unit right other
+    pub binary_undefined : is_operator op ≡ false → Err Undefined ≡ binary_verdict_in page names lent pairs op left unit right other
     unfolding binary_verdict_in
     binary_undefined o =
         sym (rw o (first_holds Undefined ((Broken when (store_broken page names lent || table_broken pairs names lent)) ∷ conditions (used_of names lent)) refl))
 
     module _ (o : is_operator op ≡ true) where
-      pub binary_broken : table_broken pairs names lent ≡ true → Refused Broken ≡ binary_verdict_in page names lent pairs op left unit right other
+      pub binary_broken : table_broken pairs names lent ≡ true → Err Broken ≡ binary_verdict_in page names lent pairs op left unit right other
       unfolding binary_verdict_in
       binary_broken t = sym (rw (o, t, or_end (store_broken page names lent)) (first_holds Broken (conditions (used_of names lent)) refl))
 
@@ -275,11 +301,11 @@ module _ (page names : List ℕ) (lent : Bool) (op operand : ℕ) (unit : List �
       let e = operands_alike page names lent operand unit operand unit h (used_of names lent) in
       let verdict : List Condition → Verdict = λ cs. lowest ((Undefined when not (is_operator op)) ∷ (Broken when store_broken page names lent) ∷ cs) in
       let q = check_unary page op (checked_of operand) in (
-        ap (λ (cs : List Condition). unless (verdict cs) (unary_checked q op (unit_in unit))) e,
+        ap (λ (cs : List Condition). guarded (verdict cs) (unary_checked q op (unit_in unit))) e,
         ap (λ (cs : List Condition). unless_refused (verdict cs) (store_after q page) page) e,
       )
 
-  pub unary_undefined : is_operator op ≡ false → Refused Undefined ≡ unary_verdict_in page names lent op operand unit
+  pub unary_undefined : is_operator op ≡ false → Err Undefined ≡ unary_verdict_in page names lent op operand unit
   unfolding unary_verdict_in
   unary_undefined o =
       sym (rw o (first_holds Undefined ((Broken when store_broken page names lent) ∷ operands_in page (used_of names lent) operand unit operand unit) refl))
@@ -300,6 +326,28 @@ index_alike page names lent target unit key h =
     ∙ operands_alike page names lent target unit key (none_count ∷ []) h (used_of names lent) in
     let verdict : List Condition → Verdict = λ cs. lowest ((Broken when store_broken page names lent) ∷ cs) in
     let q = check_index page (checked_of key) (checked_of target) in (
-      ap (λ (cs : List Condition). unless (verdict cs) (concluded_by q.conclusion (unit_in unit))) e,
+      ap (λ (cs : List Condition). guarded (verdict cs) (concluded_by q.conclusion (unit_in unit))) e,
       ap (λ (cs : List Condition). unless_refused (verdict cs) (store_after q page) page) e,
     )
+
+-- ---- two units
+
+module _ (l r : List ℕ) where
+  -- what was read, where both can be
+  pub units_read : (p : Option Unit × Option Unit) → units_in l r ≡ Some p → ((readable l && readable r) ≡ true) × (p ≡ (unit_in l, unit_in r))
+  units_read p = go (readable l && readable r) refl
+    where
+      go : (b : Bool) → (readable l && readable r) ≡ b → cond {A = Option (Option Unit × Option Unit)} b (Some (unit_in l, unit_in r)) None ≡ Some p
+          → ((readable l && readable r) ≡ true) × (p ≡ (unit_in l, unit_in r))
+      go true h e = (h, cc)
+      go false h e = absurd (let z : ◌≡◌ {A = ℕ} 0 1 = cc in omega arith)
+
+  -- nothing where one cannot
+  pub left_unread : (x : Refusal) → value_in l ≡ Err x → None ≡ units_in l r
+  left_unread x e = let v = value_none l x e in rw v.0 refl
+
+  pub right_unread : (m : Option Unit) (x : Refusal) → value_in l ≡ Ok m → value_in r ≡ Err x → None ≡ units_in l r
+  right_unread m x d e = let u = value_some l m d in let v = value_none r x e in rw (u.0, v.0) refl
+
+  pub both_read : (m n : Option Unit) → value_in l ≡ Ok m → value_in r ≡ Ok n → Some (m, n) ≡ units_in l r
+  both_read m n d e = let u = value_some l m d in let v = value_some r n e in rw (u.0, v.0, u.1, v.1) refl

@@ -1,11 +1,10 @@
 -- Group sums take no more places than a unit has, so that they can be written as a unit's bytes. Assumes nothing.
+use Rattle.std.proofs.Common.{Ok, Err, IfOk}
 use mathlib.Core.Path.{◌≡◌, refl, sym}
 use mathlib.Core.Bool.{Bool}
 use mathlib.Core.List.{List, [], ◌∷◌}
 use Prim.Native.Nat.{ℕ, ◌≤◌}
-use native.Mathlib.Omega.{arith}
-use Rattle.refusals.specs.declared.Verdict.{Verdict}
-use Rattle.refusals.specs.declared.Verdict.TheVariants.{Passed, Refused}
+use Rattle.refusals.specs.Numbers.{Verdict}
 use Rattle.names.specs.Table.{names_max}
 use Rattle.units.specs.Unit.{places_max}
 use Rattle.units.specs.Calls.{terms_of}
@@ -14,11 +13,11 @@ use Rattle.sums.specs.Calls.{units_verdict, roots_in, sums_answer}
 use Rattle.sums.proofs.Bound.{sums_bound}
 use Rattle.sums.proofs.Calls.{passed_left, sums_refused, sums_given}
 
-pub sums_few : (page names : List ℕ) (lent : Bool) (u : Unit) → (sums_answer page names lent u).sums.count ≤ places_max
+pub sums_few : (page names : List ℕ) (lent : Bool) (u : Unit) → IfOk (sums_answer page names lent u) (λ w. w.count ≤ places_max)
 sums_few page names lent u = go (units_verdict page names lent (u ∷ u ∷ [])) refl
   where
-    go : (v : Verdict) → v ≡ units_verdict page names lent (u ∷ u ∷ []) → (sums_answer page names lent u).sums.count ≤ places_max
-    go Passed is =
-        let e = sums_given page names lent u Passed is refl (roots_in page) (λ s. refl) in
+    go : (v : Verdict) → v ≡ units_verdict page names lent (u ∷ u ∷ []) → IfOk (sums_answer page names lent u) (λ w. w.count ≤ places_max)
+    go (Ok _) is =
+        let e = sums_given page names lent u is (roots_in page) (λ s. refl) in
         rw (← e) (sums_bound places_max names_max (roots_in page) (terms_of u) (passed_left page names lent u u (sym is))).1
-    go (Refused r) is = let e = sums_refused page names lent u (Refused r) is refl in rw (← e) (omega arith)
+    go (Err r) is = let e = sums_refused page names lent u r is in rw (← e) tt

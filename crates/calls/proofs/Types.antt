@@ -1,5 +1,6 @@
 -- A type that is read, as bytes: how they are made, and that depth and children find their places; a checked type that is answered.
 -- Assumes nothing.
+use Rattle.std.proofs.Common.{Ok, Err, IfOk}
 use mathlib.Core.Path.{◌≡◌, refl, ◌∙◌, ap}
 use mathlib.Core.Bool.{Bool, not}
 use mathlib.Core.List.{List, [], ◌∷◌}
@@ -9,23 +10,21 @@ use native.Mathlib.Omega.{arith}
 use lib.Dec.{ltb}
 use lib.ListN.{length, replicate}
 use borrow.Author.Tests.{ltb-true, not-false}
-use Rattle.refusals.specs.Lowest.{◌when◌}
+use Rattle.refusals.specs.Lowest.{◌when◌, answer_of}
 use Rattle.refusals.specs.declared.Refusal.TheVariants.{Broken, Unused}
-use Rattle.refusals.specs.declared.Verdict.{Verdict}
-use Rattle.refusals.specs.declared.Verdict.TheVariants.{Passed, Refused}
+use Rattle.refusals.specs.Numbers.{Verdict}
 use Rattle.refusals.proofs.Lowest.{passed_parts}
-use Rattle.pages.specs.Bytes.{count_of, put}
+use Rattle.pages.specs.Bytes.{put}
 use Rattle.pages.specs.Pad.{pad}
 use Rattle.pages.proofs.Pad.{length_pad}
 use Rattle.pages.proofs.Put.{put_append, put_whole}
 use Rattle.names.specs.Calls.{used_of}
 use Rattle.kinds.specs.Kinds.{children_max}
-use Rattle.types.specs.Store.{types_max, depths, Formed}
+use Rattle.types.specs.Store.{types_max, Formed}
 use Rattle.types.specs.Types.{types_in}
 use Rattle.types.specs.Making.{entry_max}
-use Rattle.types.specs.Calls.{store_broken, type_at, read_verdict, shown, read_answer}
-use Rattle.types.proofs.Store.{depth_fixed}
-use Rattle.types.proofs.Types.{arity_fixed, few_children}
+use Rattle.types.specs.Calls.{store_broken, type_at, read_verdict, read_answer}
+use Rattle.types.proofs.Types.{few_children}
 use Rattle.types.proofs.Depth.{type_flat}
 use Rattle.types.proofs.Calls.{unbroken_both}
 use Rattle.matching.specs.declared.Checked.{Checked}
@@ -41,20 +40,19 @@ type_made d e body is =
     ∙ put_whole (replicate type_bytes 0) (d ∷ body) (omega (arith, n))
     ∙ ap (λ (l : List ℕ). d ∷ l) is
 
--- what is read, Null beside a refusal too, finds its places
-pub read_small : (page names : List ℕ) (lent : Bool) (t : ℕ)
-    → ((read_answer page names lent t).shape.depth < 256) × ((read_answer page names lent t).shape.count ≤ children_max)
+-- what is read finds its places
+pub read_small : (page names : List ℕ) (lent : Bool) (t : ℕ) → IfOk (read_answer page names lent t) (λ s. (s.depth < 256) × (s.count ≤ children_max))
 unfolding read_answer read_verdict type_at
 read_small page names lent t = go (read_verdict page names lent t) refl
   where
-    go : (v : Verdict) → read_verdict page names lent t ≡ v → ((shown v page t).shape.depth < 256) × ((shown v page t).shape.count ≤ children_max)
-    go Passed e =
+    go : (v : Verdict) → read_verdict page names lent t ≡ v → IfOk (answer_of v (type_at page t)) (λ s. (s.depth < 256) × (s.count ≤ children_max))
+    go (Ok _) e =
         let a = passed_parts Broken (store_broken page names lent) ((Unused when not (ltb t (types_in page))) ∷ []) e in
         let b = passed_parts Unused (not (ltb t (types_in page))) [] a.1 in
         let f : Formed page = record { names = used_of names lent; form = (unbroken_both page names lent a.0).1 } in
         let u = ltb-true t (types_in page) (not-false (ltb t (types_in page)) b.0) in
         (omega (arith, type_flat page f t u), few_children page f t u)
-    go (Refused r) e = (omega (arith, depth_fixed (depths page (count_of page)) 0 (omega arith)), omega (arith, arity_fixed page 0 (omega arith)))
+    go (Err r) e = tt
 
 -- ---- a checked type that is answered
 

@@ -1,14 +1,15 @@
 -- The answers of operators and indexing as numbers and bytes, for callers in other languages.
-use Rattle.std.specs.Prelude.{Bool, ◌&&◌, ◌||◌, not, cond, List, [], ◌∷◌, ◌++◌, ℕ, ◌+◌}
-use Rattle.refusals.specs.Lowest.{Condition, ◌when◌, lowest, unless_refused}
+use Rattle.refusals.specs.declared.Refusal.{Refusal}
+use Rattle.units.specs.declared.Unit.{Unit}
+use Rattle.std.specs.Prelude.{Bool, ◌&&◌, ◌||◌, not, List, [], ◌∷◌, ◌++◌, ℕ, ◌+◌, Option, Some, None, Result}
+use Rattle.refusals.specs.Lowest.{Condition, ◌when◌, lowest, unless_refused, guarded}
 use Rattle.refusals.specs.declared.Refusal.TheVariants.{Undefined, Broken, Unused, BadUnit}
-use Rattle.refusals.specs.declared.Verdict.{Verdict}
+use Rattle.refusals.specs.Numbers.{Verdict}
 use Rattle.pages.specs.Bytes.{count_bytes, big_endian}
 use Rattle.pages.specs.Pad.{pad}
 use Rattle.names.specs.Calls.{used_of}
 use Rattle.types.specs.Calls.{store_broken}
 use Rattle.matching.specs.Matching.{in_use}
-use Rattle.units.specs.declared.MaybeUnit.{MaybeUnit}
 use Rattle.pairs.specs.Calls.{table_broken}
 use Rattle.sums.specs.Calls.{roots_in}
 use Rattle.values.specs.Value.{none_count, unit_max, unit_in, symbols_used}
@@ -16,11 +17,12 @@ use Rattle.operators.specs.Operators.{is_operator}
 use Rattle.operators.specs.declared.Errors.{Errors}
 use Rattle.unary.specs.Unary.{check_unary}
 use Rattle.indexing.specs.Indexing.{check_index}
-use Rattle.answers.specs.Calls.{unless, binary_checked, unary_checked, concluded_by, store_after}
+use Rattle.answers.specs.Calls.{binary_checked, unary_checked, concluded_by, store_after}
 use Rattle.answers.specs.declared.CheckedExpr.{CheckedExpr}
 use Rattle.answers.specs.declared.Answered.{Answered}
-use Rattle.calls.specs.Codes.{packed, bytes_of_unit, maybe_formed_in}
+use Rattle.calls.specs.Codes.{code_by, out_after, bytes_of_unit, maybe_formed_in}
 use Rattle.calls.specs.Types.{checked_of, number_in}
+use Rattle.operators.specs.Outcome.{count_of, first_of, second_of, failing_of, left_of, right_of}
 
 -- an operand: a checked type in one number, and bytes that say a unit or none
 abbrev pub operand_of : ℕ → List ℕ → CheckedExpr
@@ -28,8 +30,8 @@ operand_of c unit = record { checked = checked_of c; unit = unit_in unit }
 
 -- ---- an answer in one number: its checked type's
 
-unfoldable pub answered_code : Answered → ℕ
-answered_code a = packed a.verdict (unless_refused a.verdict (number_in a.checked) 0)
+abbrev pub answered_code : Result Answered Refusal → ℕ
+answered_code = code_by (λ a. number_in a.checked)
 
 -- ---- what stands beside it in bytes: errors, and a unit or none
 
@@ -44,14 +46,15 @@ failing_bytes = 4
 -- the bytes of errors, of each number its lowest
 unfoldable pub bytes_of_errors : Errors → List ℕ
 bytes_of_errors e =
-    big_endian 1 e.count
-    ++ (big_endian 1 e.first
-    ++ (big_endian 1 e.second
-    ++ (big_endian failing_bytes e.failing ++ (big_endian count_bytes e.left ++ big_endian count_bytes e.right))))
+    big_endian 1 (count_of e)
+    ++ (big_endian 1 (first_of e)
+    ++ (big_endian 1 (second_of e)
+    ++ (big_endian failing_bytes (failing_of e) ++ (big_endian count_bytes (left_of e) ++ big_endian count_bytes (right_of e)))))
 
 -- a unit's bytes or, for no unit, 255; and zeros after them
-unfoldable pub bytes_of_maybe : MaybeUnit → List ℕ
-bytes_of_maybe m = cond m.some (bytes_of_unit m.unit) (pad unit_max 0 (none_count ∷ []))
+unfoldable pub bytes_of_maybe : Option Unit → List ℕ
+bytes_of_maybe (Some u) = bytes_of_unit u
+bytes_of_maybe None = pad unit_max 0 (none_count ∷ [])
 
 -- how many bytes all takes
 abbrev pub answer_bytes : ℕ
@@ -61,8 +64,8 @@ abbrev pub bytes_of_answer : Answered → List ℕ
 bytes_of_answer a = bytes_of_errors a.errors ++ bytes_of_maybe a.unit
 
 -- the array lent for them, afterwards: as it was where the call is refused
-unfoldable pub out_after_answer : Answered → List ℕ → List ℕ
-out_after_answer a out = unless_refused a.verdict (bytes_of_answer a) out
+abbrev pub out_after_answer : Result Answered Refusal → List ℕ → List ℕ
+out_after_answer = out_after bytes_of_answer
 
 -- ---- refusals of what a call is given
 
@@ -92,9 +95,9 @@ binary_verdict_in page names lent pairs op left unit right other =
     ∷ (Broken when (store_broken page names lent || table_broken pairs names lent))
     ∷ operands_in page (used_of names lent) left unit right other)
 
-abbrev pub binary_in : List ℕ → List ℕ → Bool → List ℕ → ℕ → ℕ → List ℕ → ℕ → List ℕ → Answered
+abbrev pub binary_in : List ℕ → List ℕ → Bool → List ℕ → ℕ → ℕ → List ℕ → ℕ → List ℕ → Result Answered Refusal
 binary_in page names lent pairs op left unit right other =
-    unless (binary_verdict_in page names lent pairs op left unit right other)
+    guarded (binary_verdict_in page names lent pairs op left unit right other)
     (binary_checked page (roots_in pairs) op (operand_of left unit) (operand_of right other))
 
 -- ---- an operator on one, and the store afterwards
@@ -107,9 +110,9 @@ unary_verdict_in page names lent op operand unit =
     ∷ (Broken when store_broken page names lent)
     ∷ operands_in page (used_of names lent) operand unit operand unit)
 
-abbrev pub unary_in : List ℕ → List ℕ → Bool → ℕ → ℕ → List ℕ → Answered
+abbrev pub unary_in : List ℕ → List ℕ → Bool → ℕ → ℕ → List ℕ → Result Answered Refusal
 unary_in page names lent op operand unit =
-    unless (unary_verdict_in page names lent op operand unit) (unary_checked (check_unary page op (checked_of operand)) op (unit_in unit))
+    guarded (unary_verdict_in page names lent op operand unit) (unary_checked (check_unary page op (checked_of operand)) op (unit_in unit))
 
 abbrev pub unary_page_in : List ℕ → List ℕ → Bool → ℕ → ℕ → List ℕ → List ℕ
 unary_page_in page names lent op operand unit =
@@ -121,9 +124,9 @@ unary_page_in page names lent op operand unit =
 abbrev pub index_verdict_in : List ℕ → List ℕ → Bool → ℕ → List ℕ → ℕ → Verdict
 index_verdict_in page names lent target unit key = operands_verdict_in page names lent target unit key (none_count ∷ [])
 
-abbrev pub index_in : List ℕ → List ℕ → Bool → ℕ → List ℕ → ℕ → Answered
+abbrev pub index_in : List ℕ → List ℕ → Bool → ℕ → List ℕ → ℕ → Result Answered Refusal
 index_in page names lent target unit key =
-    unless (index_verdict_in page names lent target unit key) (concluded_by (check_index page (checked_of key) (checked_of target)).conclusion (unit_in unit))
+    guarded (index_verdict_in page names lent target unit key) (concluded_by (check_index page (checked_of key) (checked_of target)).conclusion (unit_in unit))
 
 abbrev pub index_page_in : List ℕ → List ℕ → Bool → ℕ → List ℕ → ℕ → List ℕ
 index_page_in page names lent target unit key =

@@ -1,72 +1,80 @@
 -- The answers of the entry calls as numbers, for callers in other languages: the refusal's number (0 for none) in the upper
 -- half, the value's sixteen bits in the lower.
-use Rattle.std.specs.Prelude.{Bool, ◌&&◌, ◌||◌, not, cond, List, [], ◌∷◌, ℕ, ◌+◌, ◌*◌, ◌%◌, pos}
-use Rattle.refusals.specs.Numbers.{code_of}
-use Rattle.refusals.specs.Lowest.{◌when◌, lowest, answered}
+use Rattle.std.specs.Prelude.{Bool, false, ◌&&◌, ◌||◌, not, cond, List, [], ◌∷◌, ℕ, ◌+◌, ◌*◌, ◌%◌, ℤ, pos, Option, Some, None, Result, Ok, Err}
+use Rattle.refusals.specs.Numbers.{code_of, Verdict}
+use Rattle.refusals.specs.Lowest.{◌when◌, lowest, answer_of, guarded}
+use Rattle.refusals.specs.declared.Refusal.{Refusal}
 use Rattle.refusals.specs.declared.Refusal.TheVariants.{Broken, Unused, BadUnit}
-use Rattle.refusals.specs.declared.Verdict.{Verdict}
-use Rattle.refusals.specs.declared.Verdict.TheVariants.{Passed, Refused}
-use Rattle.refusals.specs.declared.Answer.{Answer}
-use Rattle.refusals.specs.declared.Answer.TheVariants as answer
 use Rattle.pages.specs.Bytes.{count_of, big_endian, long_bytes}
-use Rattle.pages.specs.Pad.{pad}
+use Rattle.pages.specs.Pad.{pad, padded}
+use Rattle.pages.specs.declared.Padded.{Padded}
 use Rattle.names.specs.Table.{names_max}
 use Rattle.names.specs.Table as names
 use Rattle.names.specs.Calls.{used_of}
-use Rattle.names.specs.declared.Added.{Added}
-use Rattle.names.specs.declared.Added.TheVariants as added
-use Rattle.names.specs.declared.Found.{Found}
-use Rattle.names.specs.declared.Found.TheVariants as found
 use Rattle.units.specs.Unit.{places_max, Term, formed}
 use Rattle.units.specs.Calls.{terms_of, product_answer, unitless_answer}
 use Rattle.units.specs.declared.Unit.{Unit}
-use Rattle.units.specs.declared.Power.{Power}
-use Rattle.units.specs.declared.Power.TheVariants as power
-use Rattle.units.specs.declared.UnitResult.{UnitResult}
-use Rattle.pairs.specs.declared.Root.{Root}
-use Rattle.pairs.specs.declared.Root.TheVariants as root
 use Rattle.pairs.specs.declared.Factor.{Factor}
-use Rattle.pairs.specs.declared.Factor.TheVariants as factor
 use Rattle.pairs.specs.Calls.{table_broken}
-use Rattle.sums.specs.Sums.{group_sums, convertible, sums_in}
-use Rattle.sums.specs.Calls.{roots_in, summed, or_empty}
+use Rattle.sums.specs.Sums.{group_sums, convertible, sums_in, sums_of}
+use Rattle.sums.specs.Calls.{roots_in, or_empty}
 use Rattle.sums.specs.declared.Sums.{Sums}
-use Rattle.sums.specs.declared.SumsResult.{SumsResult}
 use Rattle.text.specs.Text.{unit_text}
-use Rattle.text.specs.Calls.{told}
-use Rattle.text.specs.declared.Text.{Text}
-use Rattle.values.specs.Value.{is_none, is_some, readable, raw_of, unit_max, unit_bytes, value_verdict, unit_in, symbols_used}
-use Rattle.calls.specs.declared.Units.{Units}
+use Rattle.text.specs.Calls.{text_max}
+use Rattle.values.specs.Value.{is_none, readable, raw_of, unit_max, unit_bytes, value_verdict, unit_in, symbols_used}
 
 -- a verdict and a value as one number
 abbrev pub packed : Verdict → ℕ → ℕ
 packed v n = code_of v * 65536 + n % 65536
 
--- what adding a name answers
-abbrev pub added_code : Added → ℕ
-added_code (added.At n) = packed Passed n
-added_code (added.Refused r) = packed (Refused r) 0
+-- an answer as one number, by the number of its value: 0 beside a refusal
+abbrev pub code_by : {A : Type 0} → (A → ℕ) → Result A Refusal → ℕ
+code_by number (Ok a) = packed (Ok tt) (number a)
+code_by number (Err r) = packed (Err r) 0
+
+-- the array lent for an answer's bytes, afterwards: the bytes of its value, or as it was where the call is refused
+abbrev pub out_after : {A : Type 0} → (A → List ℕ) → Result A Refusal → List ℕ → List ℕ
+out_after bytes (Ok a) out = bytes a
+out_after bytes (Err r) out = out
+
+-- what a call answers whose value is a number: adding a name, asking for a root, making a type
+abbrev pub number_code : Result ℕ Refusal → ℕ
+number_code = code_by (λ n. n)
 
 -- 65,535, which is never in use: a name or a factor that a table does not have, and a checked type that is Unknown
 abbrev pub absent : ℕ
 absent = 65535
 
+-- the number of what is found, or that
+abbrev pub found_number : Option ℕ → ℕ
+found_number (Some n) = n
+found_number None = absent
+
 -- what looking for a name answers
-abbrev pub found_code : Found → ℕ
-found_code (found.At n) = packed Passed n
-found_code found.Absent = packed Passed absent
-found_code (found.Refused r) = packed (Refused r) 0
+abbrev pub found_code : Result (Option ℕ) Refusal → ℕ
+found_code = code_by found_number
+
+-- a name or a text: how many bytes it has, and its bytes
+-- a call whose value says nothing more than its bytes
+abbrev pub nothing_code : {A : Type 0} → Result A Refusal → ℕ
+nothing_code = code_by (λ a. 0)
+
+abbrev pub size_code : {n : ℕ} → Result (Padded n) Refusal → ℕ
+size_code = code_by (λ b. b.size)
+
+abbrev pub out_after_bytes : {n : ℕ} → Result (Padded n) Refusal → List ℕ → List ℕ
+out_after_bytes = out_after (λ b. b.bytes)
 
 -- an exponent as its sixteen bits
-abbrev pub power_code : Power → ℕ
-power_code (power.Of e) = packed Passed (raw_of e)
-power_code (power.Refused r) = packed (Refused r) 0
+abbrev pub power_code : Result ℤ Refusal → ℕ
+power_code = code_by raw_of
 
 -- what a plain question answers: 1 for yes
-abbrev pub answer_code : Answer → ℕ
-answer_code answer.Yes = packed Passed 1
-answer_code answer.No = packed Passed 0
-answer_code (answer.Refused r) = packed (Refused r) 0
+abbrev pub yes_number : Bool → ℕ
+yes_number holds = cond holds 1 0
+
+abbrev pub answer_code : Result Bool Refusal → ℕ
+answer_code = code_by yes_number
 
 -- ---- units in bytes
 
@@ -74,27 +82,31 @@ answer_code (answer.Refused r) = packed (Refused r) 0
 abbrev pub broken_unit : Unit
 broken_unit = record { count = places_max + 1; symbols = pad places_max 0 []; exponents = pad places_max (pos 0) [] }
 
+abbrev pub or_broken : Option Unit → Unit
+or_broken (Some u) = u
+or_broken None = broken_unit
+
 -- where no symbol is looked up: the unit that the bytes say; where they say "no unit", or nothing that can be read, one that breaks
 -- its form
 unfoldable pub unit_or_broken : List ℕ → Unit
-unit_or_broken bytes = cond (unit_in bytes).some (unit_in bytes).unit broken_unit
-
--- an answer, unless the bytes are refused
-abbrev pub answered_or : Verdict → Answer → Answer
-answered_or Passed a = a
-answered_or (Refused r) a = Answer.Refused r
+unit_or_broken bytes = or_broken (unit_in bytes)
 
 -- unitless or not, of bytes that say a unit or none
-unfoldable pub unitless_in : List ℕ → Answer
-unitless_in bytes = answered_or (value_verdict bytes) (unitless_answer (unit_in bytes))
+unfoldable pub unitless_in : List ℕ → Result Bool Refusal
+unitless_in bytes = guarded (value_verdict bytes) (unitless_answer (unit_in bytes))
 
 -- the product or quotient of the units that two slices say
-abbrev pub product_in : Bool → List ℕ → List ℕ → UnitResult
+abbrev pub product_in : Bool → List ℕ → List ℕ → Result Unit Refusal
 product_in quotient a b = product_answer quotient (unit_or_broken a) (unit_or_broken b)
 
--- where symbols are looked up: do the bytes say a unit in form
+-- where symbols are looked up: is there a unit in form
+abbrev pub unit_formed : Option Unit → Bool
+unit_formed None = false
+unit_formed (Some u) = formed places_max names_max (terms_of u)
+
+-- do the bytes say one
 unfoldable pub unit_formed_in : List ℕ → Bool
-unit_formed_in bytes = is_some bytes && formed places_max names_max (terms_of (unit_in bytes).unit)
+unit_formed_in bytes = unit_formed (unit_in bytes)
 
 -- or that there is none
 unfoldable pub maybe_formed_in : List ℕ → Bool
@@ -109,9 +121,13 @@ text_verdict_in page bytes =
     ∷ (BadUnit when not (unit_formed_in bytes))
     ∷ [])
 
+-- the terms of the unit that the bytes say, "no unit counting as empty"
+abbrev pub terms_in : List ℕ → List Term
+terms_in bytes = terms_of (or_empty (unit_in bytes))
+
 -- the text of the unit that a slice says
-abbrev pub text_in : List ℕ → List ℕ → Text
-text_in page bytes = told (text_verdict_in page bytes) (unit_text page (terms_of (unit_in bytes).unit))
+abbrev pub text_in : List ℕ → List ℕ → Result (Padded text_max) Refusal
+text_in page bytes = answer_of (text_verdict_in page bytes) (padded text_max (unit_text page (terms_in bytes)))
 
 -- a unit's bytes, and zeros after them
 abbrev pub bytes_of_unit : Unit → List ℕ
@@ -119,22 +135,20 @@ bytes_of_unit u = pad unit_max 0 (unit_bytes (terms_of u))
 
 -- ---- pairs and group sums
 
--- what asking for a symbol's root answers
-abbrev pub root_code : Root → ℕ
-root_code (root.At s) = packed Passed s
-root_code (root.Refused r) = packed (Refused r) 0
+-- the base of a symbol's first factor, if a pair has the symbol
+abbrev pub base_number : Option Factor → ℕ
+base_number (Some f) = f.base
+base_number None = absent
 
--- what asking for a symbol's first factor answers: its base, if a pair has the symbol
-abbrev pub factor_code : Factor → ℕ
-factor_code (factor.Of f b) = packed Passed b
-factor_code factor.Absent = packed Passed absent
-factor_code (factor.Refused r) = packed (Refused r) 0
+-- what asking for it answers
+abbrev pub factor_code : Result (Option Factor) Refusal → ℕ
+factor_code = code_by base_number
 
 -- the array lent for a factor's bytes, afterwards: the factor's bytes, or as it was where none is found or the call is refused
-abbrev pub out_after_factor : Factor → List ℕ → List ℕ
-out_after_factor (factor.Of f b) out = big_endian long_bytes f
-out_after_factor factor.Absent out = out
-out_after_factor (factor.Refused r) out = out
+abbrev pub out_after_factor : Result (Option Factor) Refusal → List ℕ → List ℕ
+out_after_factor (Ok (Some f)) out = big_endian long_bytes f.factor
+out_after_factor (Ok None) out = out
+out_after_factor (Err r) out = out
 
 -- why two units, or none, are refused: 2 the names or the pairs, 3 a symbol that stands in the bytes and is not in use, 5 a unit
 unfoldable pub units_verdict_in : List ℕ → List ℕ → Bool → List ℕ → List ℕ → Verdict
@@ -145,25 +159,22 @@ units_verdict_in page names lent left right =
     ∷ (BadUnit when not (maybe_formed_in left && maybe_formed_in right))
     ∷ [])
 
--- the terms of the unit that the bytes say, "no unit counting as empty"
-abbrev pub terms_in : List ℕ → List Term
-terms_in bytes = terms_of (or_empty (unit_in bytes))
-
 -- the group sums, over the pairs of a page, of the unit that a slice says, which is judged as if it were given twice
-abbrev pub group_sums_in : List ℕ → List ℕ → Bool → List ℕ → SumsResult
-group_sums_in page names lent bytes = summed (units_verdict_in page names lent bytes bytes) (group_sums names_max (roots_in page) (terms_in bytes))
+abbrev pub group_sums_in : List ℕ → List ℕ → Bool → List ℕ → Result Sums Refusal
+group_sums_in page names lent bytes =
+    answer_of (units_verdict_in page names lent bytes bytes) (sums_of (group_sums names_max (roots_in page) (terms_in bytes)))
 
 -- group sums in the form of a unit's bytes, and zeros after them
 abbrev pub bytes_of_sums : Sums → List ℕ
 bytes_of_sums w = pad unit_max 0 (unit_bytes (sums_in w))
 
 -- convertible or not, of bytes that each say a unit or none
-abbrev pub convertible_in : List ℕ → List ℕ → Bool → List ℕ → List ℕ → Answer
+abbrev pub convertible_in : List ℕ → List ℕ → Bool → List ℕ → List ℕ → Result Bool Refusal
 convertible_in page names lent left right =
-    answered (units_verdict_in page names lent left right) (convertible names_max (roots_in page) (terms_in left) (terms_in right))
+    answer_of (units_verdict_in page names lent left right) (convertible names_max (roots_in page) (terms_in left) (terms_in right))
 
 -- ---- two units read from bytes
 
--- as src/ has them
-abbrev pub units_in : List ℕ → List ℕ → Units
-units_in left right = record { readable = readable left && readable right; left = unit_in left; right = unit_in right }
+-- the units that two slices say, or none of them, where both can be read
+abbrev pub units_in : List ℕ → List ℕ → Option (Option Unit × Option Unit)
+units_in left right = cond (readable left && readable right) (Some (unit_in left, unit_in right)) None

@@ -1,15 +1,11 @@
 -- The answers of the entry calls on types as numbers, and what they are lent, for callers in other languages.
-use Rattle.std.specs.Prelude.{Bool, cond, List, ◌∷◌, ◌++◌, ℕ, ◌+◌, ◌-◌, ◌*◌, ◌%◌, ltb, get_or, take, drop}
+use Rattle.refusals.specs.declared.Refusal.{Refusal}
+use Rattle.std.specs.Prelude.{Bool, cond, List, ◌∷◌, ◌++◌, ℕ, ◌+◌, ◌-◌, ◌*◌, ◌%◌, ltb, get_or, take, drop, Result}
 use Rattle.refusals.specs.Lowest.{unless_refused}
-use Rattle.refusals.specs.declared.Verdict.TheVariants.{Passed, Refused}
-use Rattle.refusals.specs.declared.Answer.{Answer}
-use Rattle.refusals.specs.declared.Answer.TheVariants as answer
 use Rattle.pages.specs.Bytes.{words, words_at, low_bytes}
 use Rattle.pages.specs.Pad.{pad}
 use Rattle.types.specs.Store.{child_bytes}
 use Rattle.types.specs.Making.{entry_of, entry_max}
-use Rattle.types.specs.declared.Made.{Made}
-use Rattle.types.specs.declared.Made.TheVariants as made
 use Rattle.types.specs.declared.Shape.{Shape}
 use Rattle.matching.specs.declared.Checked.{Checked}
 use Rattle.matching.specs.declared.Checked.TheVariants.{Known, Unknown, Function}
@@ -17,13 +13,7 @@ use Rattle.bindings.specs.Bindings.{bindings_max}
 use Rattle.bindings.specs.declared.Bindings.{Bindings}
 use Rattle.unification.specs.declared.Unified.{Unified}
 use Rattle.checked.specs.Calls.{unify_answer, unify_arg_answer}
-use Rattle.checked.specs.declared.Const.{Const}
-use Rattle.calls.specs.Codes.{packed, absent}
-
--- what making a type answers
-abbrev pub made_code : Made → ℕ
-made_code (made.At t) = packed Passed t
-made_code (made.Refused r) = packed (Refused r) 0
+use Rattle.calls.specs.Codes.{code_by, absent}
 
 -- ---- a type that is read
 
@@ -60,8 +50,8 @@ number_in (Function t) = answered_functions + t % answered_functions
 number_in Unknown = absent
 
 -- what making a checked type const answers
-unfoldable pub const_code : Const → ℕ
-const_code c = packed c.verdict (unless_refused c.verdict (number_in c.checked) 0)
+abbrev pub const_code : Result Checked Refusal → ℕ
+const_code = code_by number_in
 
 -- ---- bindings, in 97 bytes: the count, the 32 places of the names, those of the types as two bytes each
 
@@ -80,10 +70,8 @@ unfoldable pub bytes_of_bindings : Bindings → List ℕ
 bytes_of_bindings b = b.count ∷ (low_bytes b.names ++ words b.types)
 
 -- the bytes lent for bindings, afterwards: those of the bindings beside a yes or a no, as they were where the call is refused
-abbrev pub bindings_after : Answer → Bindings → List ℕ → List ℕ
-bindings_after answer.Yes b old = bytes_of_bindings b
-bindings_after answer.No b old = bytes_of_bindings b
-bindings_after (answer.Refused r) b old = old
+abbrev pub bindings_after : Result Bool Refusal → Bindings → List ℕ → List ℕ
+bindings_after answer b old = unless_refused answer (bytes_of_bindings b) old
 
 -- an actual type against an expected one, beside the bindings that the bytes say
 abbrev pub unify_in : List ℕ → List ℕ → Bool → List ℕ → ℕ → ℕ → Unified

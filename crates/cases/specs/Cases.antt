@@ -1,8 +1,6 @@
 -- The cases that document 01 marks *, as rows of one list. Each module adds its kinds of row and its rows.
-use Rattle.std.specs.Prelude.{◌≡◌, Bool, true, false, List, [], ◌∷◌, ℕ, pos, negsuc, length, replicate}
-use Rattle.refusals.specs.declared.Verdict.TheVariants.{Passed}
-use Rattle.refusals.specs.declared.Answer.{Answer}
-use Rattle.refusals.specs.declared.Answer.TheVariants.{Yes, No}
+use Rattle.refusals.specs.declared.Refusal.{Refusal}
+use Rattle.std.specs.Prelude.{◌≡◌, Bool, true, false, List, [], ◌∷◌, ℕ, pos, negsuc, length, replicate, Result, Ok, Some}
 use Rattle.pages.specs.Pad.{pad}
 use Rattle.names.specs.Table.{names_max}
 use Rattle.matching.specs.Matching.{matches}
@@ -18,7 +16,8 @@ use Rattle.pairs.specs.Page.{size_of}
 use Rattle.pairs.specs.Calls.{empty_page}
 use Rattle.sums.specs.Sums.{convertible}
 use Rattle.operators.specs.Operators.{minus}
-use Rattle.operators.specs.Outcome.{no_error, one_error, two_errors, outcome, bad_units, left_not_bool, right_not_bool, no_member}
+use Rattle.operators.specs.Outcome.{no_error, one_error, two_errors, outcome}
+use Rattle.operators.specs.declared.Reason.TheVariants.{BadUnits, LeftNotBool, RightNotBool, NoMember}
 use Rattle.operators.specs.declared.Outcome.{Outcome}
 use Rattle.answers.specs.Units.{no_unit}
 use Rattle.answers.specs.Calls.{answered, binary_answer, unary_answer, unary_page}
@@ -108,7 +107,7 @@ bound names types = record { count = length names; names = pad bindings_max 0 na
 
 -- a type with a symbol as its unit
 abbrev in_unit : ℕ → ℕ → CheckedExpr
-in_unit t s = record { checked = Known t; unit = record { some = true; unit = unit_of (term s (pos 1) ∷ []) } }
+in_unit t s = record { checked = Known t; unit = Some (unit_of (term s (pos 1) ∷ [])) }
 
 -- a type without a unit
 abbrev plain : ℕ → CheckedExpr
@@ -130,7 +129,7 @@ pub data Case : Type 0 where
   -- the first type, actual, matches the second, expected, or, with false, does not
   against : Bool → ℕ → ℕ → Case
   -- the first type, expected, unified with the second, actual, comes to this answer and, of no bindings, to these
-  unifies : Answer → ℕ → ℕ → Bindings → Case
+  unifies : Result Bool Refusal → ℕ → ℕ → Bindings → Case
   -- the operator with this code, without names lent and by no pair, answers this type and these errors for two operands, and no unit
   binary : ℕ → CheckedExpr → CheckedExpr → Outcome → Case
   -- and for one operand, entering nothing
@@ -139,13 +138,13 @@ pub data Case : Type 0 where
 -- what a row says
 abbrev pub Holds : Case → Type 0
 Holds (product quotient xs ys zs) =
-    (product_verdict places_max names_max quotient xs ys ≡ Passed) × (product_of names_max quotient xs ys ≡ zs)
+    (product_verdict places_max names_max quotient xs ys ≡ Ok tt) × (product_of names_max quotient xs ys ≡ zs)
 Holds (root ps s r) = root_of names_max ps s ≡ r
 Holds (converts yes! ps xs ys) = convertible names_max (root_of names_max ps) xs ys ≡ yes!
 Holds (against yes! a b) = matches store (Known a) (Known b) ≡ yes!
 Holds (unifies r e a b) = unify store e a (bound [] []) ≡ unified r b
-Holds (binary op x y o) = binary_answer store [] false no_pairs op x y ≡ answered o no_unit
-Holds (unary op x o) = (unary_answer store [] false op x ≡ answered o no_unit) × (unary_page store [] false op x ≡ store)
+Holds (binary op x y o) = binary_answer store [] false no_pairs op x y ≡ Ok (answered o no_unit)
+Holds (unary op x o) = (unary_answer store [] false op x ≡ Ok (answered o no_unit)) × (unary_page store [] false op x ≡ store)
 
 -- ---- symbols
 
@@ -198,14 +197,14 @@ cases =
     -- "Tuple(Null, Int) against Tuple(Int, Int) no"
     ∷ against false tuple_null_int tuple_int_int
     -- "Unify Tuple(A, Bool) with Tuple(Int, Float), A a Generic: no, yet A is bound to Int"
-    ∷ unifies No tuple_a_bool tuple_int_float (bound (name_a ∷ []) (int ∷ []))
+    ∷ unifies (Ok false) tuple_a_bool tuple_int_float (bound (name_a ∷ []) (int ∷ []))
     -- "Array A with Array Null: yes, A unbound"
-    ∷ unifies Yes array_a array_null (bound [] [])
+    ∷ unifies (Ok true) array_a array_null (bound [] [])
     -- "UInt mm < UInt s: no error; == : reason 2, still Bool" ("Answers")
     ∷ binary less (in_unit uint millimetre) (in_unit uint second) (outcome (Known bool) no_error)
-    ∷ binary equals (in_unit uint millimetre) (in_unit uint second) (outcome (Known bool) (one_error bad_units))
+    ∷ binary equals (in_unit uint millimetre) (in_unit uint second) (outcome (Known bool) (one_error BadUnits))
     -- "Int and Int under `and`: reasons 3, 4, Bool"
-    ∷ binary and (plain int) (plain int) (outcome (Known bool) (two_errors left_not_bool right_not_bool))
+    ∷ binary and (plain int) (plain int) (outcome (Known bool) (two_errors LeftNotBool RightNotBool))
     -- "Unary − on Any(): reason 8"
-    ∷ unary minus (plain any_of_none) (outcome Unknown (one_error no_member))
+    ∷ unary minus (plain any_of_none) (outcome Unknown (one_error NoMember))
     ∷ []

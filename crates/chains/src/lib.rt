@@ -5,8 +5,6 @@
 ghost use Rattle.std.specs.Prelude.{◌≡◌, ◌+◌, ◌<◌, length, get_or, set, replicate};
 ghost use Rattle.chains.specs.Prints.{prints_max, print_of};
 
-use pages::index;
-
 // Puts thing i into a bucket, before the things that are there.
 pub fn link(heads: &mut [u16], links: &mut [u16], bucket: usize, i: usize)
     requires { (bucket < length heads.old) × (i < length links.old) × (i + 1 < 65536) }
@@ -19,26 +17,21 @@ pub fn link(heads: &mut [u16], links: &mut [u16], bucket: usize, i: usize)
 // How many prints there are.
 pub const PRINTS: usize = 1024;
 
-// A sum is two bytes.
-const SUMS: usize = 65536;
-
-// How many sums have one print.
-const SHARE: usize = SUMS / PRINTS;
+// How many sums have one print: a sum is two bytes.
+const SHARE: usize = 65536 / PRINTS;
 
 // What spreads a byte over a sum.
-const SPREAD: usize = 40503;
+const SPREAD: u16 = 40503;
 
 // The print of bytes, from a sum with them mixed in one after another.
 pub fn print_of(bytes: &[u8]) -> usize
     ensures { (result ≡ print_of bytes.now) × (result < prints_max) }
 {
-    let mut sum: usize = 0;
-    let mut i: usize = 0;
-    while i < bytes.len() {
-        sum = (sum + index(bytes[i])) * SPREAD % SUMS;
-        i += 1;
-    }
-    sum / SHARE
+    let sum: u16 = bytes.iter().fold(
+        0,
+        |sum, b| sum.wrapping_add(u16::from(*b)).wrapping_mul(SPREAD),
+    );
+    usize::from(sum) / SHARE
 }
 
 // For each print the last thing that has it.

@@ -1,15 +1,13 @@
 -- What the calls on checked types answer, and leave in the page (document 01, "Types" and the table of refusals). Names are lent
 -- where `lent` is true. 2 is for the names, the store and the bindings together, 3 for the numbers together.
-use Rattle.std.specs.Prelude.{Bool, true, ◌&&◌, ◌||◌, not, List, [], ◌∷◌, ℕ, ltb}
-use Rattle.refusals.specs.Lowest.{◌when◌, lowest, unless_refused, answered}
+use Rattle.refusals.specs.declared.Refusal.{Refusal}
+use Rattle.std.specs.Prelude.{Bool, true, ◌&&◌, ◌||◌, not, List, [], ◌∷◌, ℕ, ltb, Result, Ok, Err}
+use Rattle.refusals.specs.Lowest.{◌when◌, lowest, unless_refused, answer_of, guarded}
 use Rattle.refusals.specs.declared.Refusal.TheVariants.{Broken, Unused}
-use Rattle.refusals.specs.declared.Verdict.{Verdict}
-use Rattle.refusals.specs.declared.Verdict.TheVariants.{Passed, Refused}
-use Rattle.refusals.specs.declared.Answer.{Answer}
+use Rattle.refusals.specs.Numbers.{Verdict}
 use Rattle.names.specs.Calls.{used_of}
 use Rattle.types.specs.Types.{types_in}
 use Rattle.types.specs.Calls.{store_broken, const_answer, const_page}
-use Rattle.types.specs.declared.Made.{Made}
 use Rattle.matching.specs.Matching.{matches, in_use}
 use Rattle.matching.specs.Memo.{fits}
 use Rattle.matching.specs.declared.Checked.{Checked}
@@ -19,7 +17,6 @@ use Rattle.bindings.specs.Generics.{has_generic, substitute}
 use Rattle.bindings.specs.declared.Bindings.{Bindings}
 use Rattle.unification.specs.Unification.{unified, unify, unify_arg}
 use Rattle.unification.specs.declared.Unified.{Unified}
-use Rattle.checked.specs.declared.Const.{Const}
 
 -- ---- refusals that calls share
 
@@ -29,42 +26,34 @@ verdict_of page names lent formed used = lowest ((Broken when (store_broken page
 
 -- ---- `matches`
 
-unfoldable pub matches_answer : List ℕ → List ℕ → Bool → Checked → Checked → Answer
+unfoldable pub matches_answer : List ℕ → List ℕ → Bool → Checked → Checked → Result Bool Refusal
 matches_answer page names lent actual expected =
-    answered (verdict_of page names lent true (in_use page actual && in_use page expected)) (matches page actual expected)
+    answer_of (verdict_of page names lent true (in_use page actual && in_use page expected)) (matches page actual expected)
 
 -- ---- `has_generic`
 
-unfoldable pub generic_answer : List ℕ → List ℕ → Bool → ℕ → Answer
-generic_answer page names lent t = answered (verdict_of page names lent true (ltb t (types_in page))) (has_generic page t)
+unfoldable pub generic_answer : List ℕ → List ℕ → Bool → ℕ → Result Bool Refusal
+generic_answer page names lent t = answer_of (verdict_of page names lent true (ltb t (types_in page))) (has_generic page t)
 
 -- ---- `into_const`: the const form of a Known type, everything else as it is
 
--- a checked type
-abbrev pub given : Checked → Const
-given c = record { verdict = Passed; checked = c }
+-- the type that was made
+abbrev pub of_made : Result ℕ Refusal → Result Checked Refusal
+of_made (Ok t) = Ok (Known t)
+of_made (Err r) = Err r
 
--- the type that was made, or Unknown beside the refusal
-abbrev pub of_made : Made → Const
-of_made (Made.At t) = given (Known t)
-of_made (Made.Refused r) = record { verdict = Refused r; checked = Unknown }
-
-abbrev pub const_of : List ℕ → Checked → Const
-const_of page Unknown = given Unknown
+abbrev pub const_of : List ℕ → Checked → Result Checked Refusal
+const_of page Unknown = Ok Unknown
 const_of page (Known t) = of_made (const_answer page t)
-const_of page (Function t) = given (Function t)
+const_of page (Function t) = Ok (Function t)
 
 abbrev pub const_after : List ℕ → Checked → List ℕ
 const_after page Unknown = page
 const_after page (Known t) = const_page page t
 const_after page (Function t) = page
 
-abbrev pub or_refused : Verdict → Const → Const
-or_refused Passed c = c
-or_refused (Refused r) c = record { verdict = Refused r; checked = Unknown }
-
-unfoldable pub into_const : List ℕ → List ℕ → Bool → Checked → Const
-into_const page names lent c = or_refused (verdict_of page names lent true (in_use page c)) (const_of page c)
+unfoldable pub into_const : List ℕ → List ℕ → Bool → Checked → Result Checked Refusal
+into_const page names lent c = guarded (verdict_of page names lent true (in_use page c)) (const_of page c)
 
 unfoldable pub into_const_page : List ℕ → List ℕ → Bool → Checked → List ℕ
 into_const_page page names lent c = unless_refused (verdict_of page names lent true (in_use page c)) (const_after page c) page
@@ -75,22 +64,13 @@ into_const_page page names lent c = unless_refused (verdict_of page names lent t
 unfoldable pub bindings_verdict : List ℕ → List ℕ → Bool → Bindings → Bool → Verdict
 bindings_verdict page names lent b used = verdict_of page names lent (bindings.formed (used_of names lent) (types_in page) b) used
 
--- what was made, or the refusal
-abbrev pub made_or : Verdict → Made → Made
-made_or Passed m = m
-made_or (Refused r) m = Made.Refused r
-
-unfoldable pub substitute_answer : List ℕ → List ℕ → Bool → Bindings → ℕ → Made
-substitute_answer page names lent b t = made_or (bindings_verdict page names lent b (ltb t (types_in page))) (substitute b t page).made
+unfoldable pub substitute_answer : List ℕ → List ℕ → Bool → Bindings → ℕ → Result ℕ Refusal
+substitute_answer page names lent b t = guarded (bindings_verdict page names lent b (ltb t (types_in page))) (substitute b t page).made
 
 -- a refusal in the walk, too, restores the store
-abbrev pub unless_stopped : Made → List ℕ → List ℕ → List ℕ
-unless_stopped (Made.At t) new old = new
-unless_stopped (Made.Refused r) new old = old
-
 unfoldable pub substitute_page : List ℕ → List ℕ → Bool → Bindings → ℕ → List ℕ
 substitute_page page names lent b t =
-    unless_refused (bindings_verdict page names lent b (ltb t (types_in page))) (unless_stopped (substitute b t page).made (substitute b t page).store page) page
+    unless_refused (bindings_verdict page names lent b (ltb t (types_in page))) (unless_refused (substitute b t page).made (substitute b t page).store page) page
 
 -- ---- `unify` and `unify_arg`
 
@@ -99,14 +79,13 @@ unfoldable pub fits_bound : ℕ → Bindings → ℕ → Checked → Bool
 fits_bound n b e actual = fits n (Known e) actual && bindings.types_below b n
 
 -- "a plain no from unify keeps its bindings"; a refusal, in the walk too, gives back those that came in
-abbrev pub kept_by : Answer → Bindings → Bindings → Unified
-kept_by Answer.Yes new old = unified Answer.Yes new
-kept_by Answer.No new old = unified Answer.No new
-kept_by (Answer.Refused r) new old = unified (Answer.Refused r) old
+abbrev pub kept_by : Result Bool Refusal → Bindings → Bindings → Unified
+kept_by (Ok holds) new old = unified (Ok holds) new
+kept_by (Err r) new old = unified (Err r) old
 
 abbrev pub unified_or : Verdict → Unified → Bindings → Unified
-unified_or Passed u b = kept_by u.answer u.bindings b
-unified_or (Refused r) u b = unified (Answer.Refused r) b
+unified_or (Ok _) u b = kept_by u.answer u.bindings b
+unified_or (Err r) u b = unified (Err r) b
 
 -- an expected type, and an actual checked type
 unfoldable pub unify_arg_answer : List ℕ → List ℕ → Bool → Bindings → ℕ → Checked → Unified

@@ -2,189 +2,149 @@
 // what it cannot answer. Names are looked at where `lent` is true.
 #![tactic(auto)]
 
-ghost use Rattle.std.specs.Prelude.{◌≡◌, true, ◌≤◌, ◌<◌};
-ghost use Rattle.types.specs.Types.{types_in, Held};
-ghost use Rattle.marks.specs.Marks.{Noted};
+ghost use Rattle.std.specs.Prelude.{◌≡◌, true, ◌*◌, ◌≤◌, ◌<◌};
+ghost use Rattle.types.specs.Types.{types_in};
+ghost use Rattle.marks.specs.Marks.{large_bytes};
 ghost use Rattle.matching.specs.Matching.{in_use, matches};
-ghost use Rattle.matching.specs.Memo.{Found};
 ghost use Rattle.bindings.specs.Bindings.{bindings_max, Usable};
-ghost use Rattle.refusals.specs.Lowest.{answered};
-ghost use Rattle.refusals.specs.declared.Verdict.TheVariants.{Passed};
-ghost use Rattle.refusals.specs.declared.Answer.{Answer};
-ghost use Rattle.unification.specs.Unification.{unified, unify_arg, SettledAt};
-ghost use Rattle.checked.specs.Calls.{given, of_made, matches_answer, generic_answer, into_const, into_const_page, substitute_answer, substitute_page, kept_by, fits_bound, unify_arg_answer, unify_answer};
+ghost use Rattle.unification.specs.Unification.{unified, unify_arg};
+ghost use Rattle.checked.specs.Calls.{of_made, matches_answer, generic_answer, into_const, into_const_page, substitute_answer, substitute_page, kept_by, fits_bound, unify_arg_answer, unify_answer};
 
 use bindings::Bindings;
 use kinds::CALLBACK;
-use marks::SMALL;
-use matching::Checked;
-use refusals::{Answer, Refusal, Verdict};
-use types::{Made, kind_of, no_depths, no_offsets};
+use marks::{LARGE_BYTES, SMALL, SMALL_BYTES, TINY, TINY_BYTES};
+use matching::{Checked, LARGE_MEMO, SMALL_MEMO, TINY_MEMO};
+use refusals::Refusal;
+use types::{Store, TYPES, Tables};
 use unification::Unified;
 
-// The const form of a checked type, or Unknown beside the refusal.
-#[derive(Clone, Copy)]
-pub struct Const {
-    pub verdict: Verdict,
-    pub checked: Checked,
-}
-
 // Whether a checked type's number is in use and, of a Function, that of a Callback. For crates above (their entry calls answer 3).
-pub fn is_used(page: &[u8], offsets: &[usize], c: Checked) -> bool
-    requires { Held page.now offsets.now }
-    ensures { result ≡ in_use page.now c }
+pub fn is_used(store: Store, c: Checked) -> bool
+    ensures { result ≡ in_use store.entry.page.now c }
 {
     match c {
         Checked::Unknown => true,
-        Checked::Known(t) => t < types::count(page),
-        Checked::Function(t) => {
-            if t < types::count(page) {
-                kind_of(page, offsets, t) == CALLBACK
-            } else {
-                false
-            }
-        }
+        Checked::Known(t) => t < store.count(),
+        Checked::Function(t) => t < store.count() && store.kind_of(t) == CALLBACK,
     }
 }
 
-// A yes or a no.
-fn say(yes: bool) -> Answer
-    ensures { result ≡ answered Passed yes }
+// Whether a checked type in use stands for another, over a table of N bytes, in a frame of its own.
+#[inline(never)]
+fn matches_over<const N: usize>(store: Store, actual: Checked, expected: Checked) -> bool
+    requires actual_value { (in_use store.page.now actual ≡ true) × (in_use store.page.now expected ≡ true) }
+    requires n_bound { N ≤ 2 * large_bytes }
+    ensures { result ≡ matches store.entry.page.now actual expected }
 {
-    if yes { Answer::Yes } else { Answer::No }
+    let mut memo = [0; N];
+    matching::matches(store, &mut memo, actual, expected)
 }
 
-// A checked type as the answer.
-fn pass(checked: Checked) -> Const
-    ensures { result ≡ given checked }
+// The same over a table that has room for both types.
+fn matches_in(store: Store, actual: Checked, expected: Checked) -> bool
+    requires { (in_use store.page.now actual ≡ true) × (in_use store.page.now expected ≡ true) }
+    ensures { result ≡ matches store.entry.page.now actual expected }
 {
-    Const {
-        verdict: Verdict::Passed,
-        checked,
+    if matching::fits(TINY, actual, expected) {
+        matches_over::<TINY_MEMO>(store, actual, expected)
+    } else if matching::fits(SMALL, actual, expected) {
+        matches_over::<SMALL_MEMO>(store, actual, expected)
+    } else {
+        matches_over::<LARGE_MEMO>(store, actual, expected)
     }
-}
-
-// A type that was made, or the refusal.
-fn of_made(made: Made) -> Const
-    ensures { result ≡ of_made made }
-{
-    match made {
-        Made::At(t) => pass(Checked::Known(t)),
-        Made::Refused(r) => Const {
-            verdict: Verdict::Refused(r),
-            checked: Checked::Unknown,
-        },
-    }
-}
-
-// Whether a checked type in use stands for another, with room for all types: a frame of four MiB.
-fn matches_in_large(page: &[u8], offsets: &[usize], actual: Checked, expected: Checked) -> bool
-    requires held { Held page.now offsets.now }
-    requires actual_value { (in_use page.now actual ≡ true) × (in_use page.now expected ≡ true) }
-    ensures { result ≡ matches page.now actual expected }
-{
-    let mut large = matching::large_memo();
-    matching::matches(page, offsets, &mut large, actual, expected)
-}
-
-// The same over the table lent, where it has room for both types, else over one of its own that has. That it calls itself keeps the
-// frames of the larger tables out of its own and its callers'.
-fn matches_in(
-    page: &[u8],
-    offsets: &[usize],
-    memo: &mut [u8],
-    actual: Checked,
-    expected: Checked,
-) -> bool
-    requires held { Held page.now offsets.now }
-    requires actual_value { (in_use page.now actual ≡ true) × (in_use page.now expected ≡ true) }
-    requires noted { Noted (Found page.now) memo.old }
-    ensures { result ≡ matches page.now actual expected }
-{
-    if matching::fits(marks::room(memo), actual, expected) {
-        return matching::matches(page, offsets, memo, actual, expected);
-    }
-    if matching::fits(SMALL, actual, expected) {
-        let mut small = matching::small_memo();
-        return matches_in(page, offsets, &mut small, actual, expected);
-    }
-    matches_in_large(page, offsets, actual, expected)
 }
 
 // Whether a checked type stands for another.
-pub fn matches(page: &[u8], names: &[u8], lent: bool, actual: Checked, expected: Checked) -> Answer
+pub fn matches(
+    page: &[u8],
+    names: &[u8],
+    lent: bool,
+    actual: Checked,
+    expected: Checked,
+) -> Result<bool, Refusal>
     ensures { result ≡ matches_answer page.now names.now lent actual expected }
 {
-    let mut offsets = no_offsets();
-    let mut depths = no_depths();
-    if !types::opened(page, names, lent, &mut offsets, &mut depths) {
-        return Answer::Refused(Refusal::Broken);
+    let mut tables = Tables::new();
+    if !types::opened(page, names, lent, &mut tables) {
+        return Err(Refusal::Broken);
     }
-    if !is_used(page, &offsets, actual) {
-        return Answer::Refused(Refusal::Unused);
+    let store = tables.store(page);
+    if !is_used(store, actual) {
+        return Err(Refusal::Unused);
     }
-    if !is_used(page, &offsets, expected) {
-        return Answer::Refused(Refusal::Unused);
+    if !is_used(store, expected) {
+        return Err(Refusal::Unused);
     }
-    let mut memo = matching::tiny_memo();
-    say(matches_in(page, &offsets, &mut memo, actual, expected))
+    Ok(matches_in(store, actual, expected))
 }
 
 // Whether a generic name stands in a type.
-pub fn has_generic(page: &[u8], names: &[u8], lent: bool, t: usize) -> Answer
+pub fn has_generic(page: &[u8], names: &[u8], lent: bool, t: usize) -> Result<bool, Refusal>
     ensures { result ≡ generic_answer page.now names.now lent t }
 {
-    let mut offsets = no_offsets();
-    let mut depths = no_depths();
-    if !types::opened(page, names, lent, &mut offsets, &mut depths) {
-        return Answer::Refused(Refusal::Broken);
+    let mut tables = Tables::new();
+    if !types::opened(page, names, lent, &mut tables) {
+        return Err(Refusal::Broken);
     }
-    if types::count(page) <= t {
-        return Answer::Refused(Refusal::Unused);
+    let store = tables.store(page);
+    if store.count() <= t {
+        return Err(Refusal::Unused);
     }
-    say(bindings::has_generic(page, &offsets, t))
+    Ok(bindings::has_generic(store, t))
+}
+
+// A type that was made, as a checked type.
+fn of_made(made: Result<usize, Refusal>) -> Result<Checked, Refusal>
+    ensures { result ≡ of_made made }
+{
+    made.map(Checked::Known)
 }
 
 // The const form of a checked type, which is made if it is new.
-pub fn into_const(page: &mut [u8], names: &[u8], lent: bool, c: Checked) -> Const
+pub fn into_const(page: &mut [u8], names: &[u8], lent: bool, c: Checked) -> Result<Checked, Refusal>
     ensures { (result ≡ into_const page.old names.now lent c) × (page.new ≡ into_const_page page.old names.now lent c) }
 {
-    let mut offsets = no_offsets();
-    let mut depths = no_depths();
-    if !types::opened(page, names, lent, &mut offsets, &mut depths) {
-        return of_made(Made::Refused(Refusal::Broken));
+    let mut tables = Tables::new();
+    if !types::opened(page, names, lent, &mut tables) {
+        return Err(Refusal::Broken);
     }
-    if !is_used(page, &offsets, c) {
-        return of_made(Made::Refused(Refusal::Unused));
+    if !is_used(tables.store(page), c) {
+        return Err(Refusal::Unused);
     }
     match c {
-        Checked::Unknown => pass(Checked::Unknown),
-        Checked::Function(f) => pass(Checked::Function(f)),
-        Checked::Known(t) => of_made(types::const_form(page, &mut offsets, &mut depths, t)),
+        Checked::Unknown => Ok(Checked::Unknown),
+        Checked::Function(f) => Ok(Checked::Function(f)),
+        Checked::Known(t) => of_made(types::const_form(page, &mut tables, t)),
     }
 }
 
 // A type with its generic names replaced by what they are bound to. New types are made left to right, children before parent.
-pub fn substitute(page: &mut [u8], names: &[u8], lent: bool, bound: Bindings, t: usize) -> Made
+pub fn substitute(
+    page: &mut [u8],
+    names: &[u8],
+    lent: bool,
+    bound: Bindings,
+    t: usize,
+) -> Result<usize, Refusal>
     ensures { (result ≡ substitute_answer page.old names.now lent bound t) × (page.new ≡ substitute_page page.old names.now lent bound t) }
 {
-    let mut offsets = no_offsets();
-    let mut depths = no_depths();
-    if !types::opened(page, names, lent, &mut offsets, &mut depths) {
-        return Made::Refused(Refusal::Broken);
+    let mut tables = Tables::new();
+    if !types::opened(page, names, lent, &mut tables) {
+        return Err(Refusal::Broken);
     }
-    let n = types::count(page);
+    let store = tables.store(page);
+    let n = store.count();
     if !bindings::is_formed(bound, names::in_use(names, lent), n) {
-        return Made::Refused(Refusal::Broken);
+        return Err(Refusal::Broken);
     }
     if n <= t {
-        return Made::Refused(Refusal::Unused);
+        return Err(Refusal::Unused);
     }
-    let front = types::front(page);
-    let end = types::offset_of(&offsets, n);
-    let mut done = bindings::none_done();
-    let made = bindings::substitute(page, &mut offsets, &mut depths, &mut done, bound, t);
-    if let Made::Refused(_) = made {
+    let front = store.front();
+    let end = store.place_of(n);
+    let mut done = [None; TYPES];
+    let made = bindings::substitute(page, &mut tables, &mut done, bound, t);
+    if let Err(_) = made {
         types::take_back(page, front, end);
     }
     made
@@ -192,10 +152,10 @@ pub fn substitute(page: &mut [u8], names: &[u8], lent: bool, bound: Bindings, t:
 
 // A refusal, beside the bindings that came in.
 fn refuse(r: Refusal, bound: Bindings) -> Unified
-    ensures { result ≡ unified (Answer.Refused r) bound }
+    ensures { result ≡ unified (Err r) bound }
 {
     Unified {
-        answer: Answer::Refused(r),
+        answer: Err(r),
         bindings: bound,
     }
 }
@@ -206,13 +166,13 @@ fn kept_by(out: Unified, bound: Bindings) -> Unified
 {
     let answer = out.answer;
     match answer {
-        Answer::Yes => out,
-        Answer::No => out,
-        Answer::Refused(r) => refuse(r, bound),
+        Ok(_) => out,
+        Err(r) => refuse(r, bound),
     }
 }
 
 // Whether the types of an argument and a parameter, and those that names are bound to, are numbered below n.
+#[tactic(auto, unfolding(crate::specs::Calls::fits_bound))]
 fn fits_bound(n: usize, bound: Bindings, e: usize, actual: Checked) -> bool
     requires { bound.count ≤ bindings_max }
     ensures { result ≡ fits_bound n bound e actual }
@@ -220,51 +180,37 @@ fn fits_bound(n: usize, bound: Bindings, e: usize, actual: Checked) -> bool
     matching::fits(n, Checked::Known(e), actual) & bindings::are_below(bound, n)
 }
 
-// Whether an argument in use fits a parameter in use, with room for all types: a frame of six MiB.
-fn unify_in_large(
-    page: &[u8],
-    offsets: &[usize],
+// Whether an argument in use fits a parameter in use, over tables of M and N bytes, in a frame of its own.
+#[inline(never)]
+fn unify_over<const M: usize, const N: usize>(
+    store: Store,
     bound: Bindings,
     e: usize,
     actual: Checked,
 ) -> Unified
-    requires held { Held page.now offsets.now }
-    requires e_bound { (e < types_in page.now) × (in_use page.now actual ≡ true) }
-    requires usable { Usable bound (types_in page.now) }
-    ensures { result ≡ unify_arg page.now e actual bound }
+    requires e_bound { (e < types_in store.page.now) × (in_use store.page.now actual ≡ true) }
+    requires usable { Usable bound (types_in store.page.now) }
+    requires m_bound { (M ≤ 2 * large_bytes) × (N ≤ large_bytes) }
+    ensures { result ≡ unify_arg store.entry.page.now e actual bound }
 {
-    let mut memo = matching::large_memo();
-    let mut seen = unification::large_seen();
-    unification::unify_arg(page, offsets, &mut memo, &mut seen, bound, e, actual)
+    let mut memo = [0; M];
+    let mut seen = [0; N];
+    unification::unify_arg(store, &mut memo, &mut seen, bound, e, actual)
 }
 
-// The same over the tables lent, where they have room for all the types, else over some of its own that have. That it calls itself
-// keeps the frames of the larger tables out of its own and its callers'.
-fn unify_in(
-    page: &[u8],
-    offsets: &[usize],
-    memo: &mut [u8],
-    seen: &mut [u8],
-    bound: Bindings,
-    e: usize,
-    actual: Checked,
-) -> Unified
-    requires held { Held page.now offsets.now }
-    requires e_bound { (e < types_in page.now) × (in_use page.now actual ≡ true) }
-    requires usable { Usable bound (types_in page.now) }
-    requires noted { Noted (Found page.now) memo.old }
-    requires noted_2 { Noted (SettledAt page.now bound) seen.old }
-    ensures { result ≡ unify_arg page.now e actual bound }
+// The same over tables that have room for all the types.
+fn unify_in(store: Store, bound: Bindings, e: usize, actual: Checked) -> Unified
+    requires e_bound { (e < types_in store.page.now) × (in_use store.page.now actual ≡ true) }
+    requires usable { Usable bound (types_in store.page.now) }
+    ensures { result ≡ unify_arg store.entry.page.now e actual bound }
 {
-    if fits_bound(marks::room(memo), bound, e, actual) {
-        return unification::unify_arg(page, offsets, memo, seen, bound, e, actual);
+    if fits_bound(TINY, bound, e, actual) {
+        unify_over::<TINY_MEMO, TINY_BYTES>(store, bound, e, actual)
+    } else if fits_bound(SMALL, bound, e, actual) {
+        unify_over::<SMALL_MEMO, SMALL_BYTES>(store, bound, e, actual)
+    } else {
+        unify_over::<LARGE_MEMO, LARGE_BYTES>(store, bound, e, actual)
     }
-    if fits_bound(SMALL, bound, e, actual) {
-        let mut small = matching::small_memo();
-        let mut small_seen = unification::small_seen();
-        return unify_in(page, offsets, &mut small, &mut small_seen, bound, e, actual);
-    }
-    unify_in_large(page, offsets, bound, e, actual)
 }
 
 // Whether an argument fits a parameter, and what generic names it binds.
@@ -278,24 +224,22 @@ pub fn unify_arg(
 ) -> Unified
     ensures { result ≡ unify_arg_answer page.now names.now lent bound e actual }
 {
-    let mut offsets = no_offsets();
-    let mut depths = no_depths();
-    if !types::opened(page, names, lent, &mut offsets, &mut depths) {
+    let mut tables = Tables::new();
+    if !types::opened(page, names, lent, &mut tables) {
         return refuse(Refusal::Broken, bound);
     }
-    let n = types::count(page);
+    let store = tables.store(page);
+    let n = store.count();
     if !bindings::is_formed(bound, names::in_use(names, lent), n) {
         return refuse(Refusal::Broken, bound);
     }
     if n <= e {
         return refuse(Refusal::Unused, bound);
     }
-    if !is_used(page, &offsets, actual) {
+    if !is_used(store, actual) {
         return refuse(Refusal::Unused, bound);
     }
-    let mut memo = matching::tiny_memo();
-    let mut seen = unification::tiny_seen();
-    let out = unify_in(page, &offsets, &mut memo, &mut seen, bound, e, actual);
+    let out = unify_in(store, bound, e, actual);
     kept_by(out, bound)
 }
 

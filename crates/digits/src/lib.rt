@@ -26,33 +26,35 @@ pub fn decimal(out: &mut [u8], at: usize, n: usize) -> usize
     requires { (n < decimal_max) × (at + length (decimal_of n) ≤ length out.old) }
     ensures { (result ≡ at + length (decimal_of n)) × (out.new ≡ put out.old at (decimal_of n)) }
 {
-    if n < 10 {
-        let text = [digit(n)];
-        return push(out, at, &text);
+    // An arm for each length: one digit after another takes three times as long.
+    match n {
+        0..=9 => push(out, at, &[digit(n)]),
+        10..=99 => push(out, at, &[digit(n / 10), digit(n % 10)]),
+        100..=999 => push(
+            out,
+            at,
+            &[digit(n / 100), digit(n / 10 % 10), digit(n % 10)],
+        ),
+        1000..=9999 => push(
+            out,
+            at,
+            &[
+                digit(n / 1000),
+                digit(n / 100 % 10),
+                digit(n / 10 % 10),
+                digit(n % 10),
+            ],
+        ),
+        _ => push(
+            out,
+            at,
+            &[
+                digit(n / 10000),
+                digit(n / 1000 % 10),
+                digit(n / 100 % 10),
+                digit(n / 10 % 10),
+                digit(n % 10),
+            ],
+        ),
     }
-    if n < 100 {
-        let text = [digit(n / 10), digit(n % 10)];
-        return push(out, at, &text);
-    }
-    if n < 1000 {
-        let text = [digit(n / 100), digit(n / 10 % 10), digit(n % 10)];
-        return push(out, at, &text);
-    }
-    if n < 10000 {
-        let text = [
-            digit(n / 1000),
-            digit(n / 100 % 10),
-            digit(n / 10 % 10),
-            digit(n % 10),
-        ];
-        return push(out, at, &text);
-    }
-    let text = [
-        digit(n / 10000),
-        digit(n / 1000 % 10),
-        digit(n / 100 % 10),
-        digit(n / 10 % 10),
-        digit(n % 10),
-    ];
-    push(out, at, &text)
 }

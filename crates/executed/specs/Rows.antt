@@ -1,14 +1,12 @@
 -- What a row of the program looks at: no name bound, a plain yes or no, the answers of operators and indexing, and refusals.
-use Rattle.std.specs.Prelude.{◌≡◌, Bool, true, false, not, List, [], ◌∷◌, ℕ, replicate}
-use Rattle.refusals.specs.Numbers.{number_of}
-use Rattle.refusals.specs.declared.Answer.{Answer}
-use Rattle.refusals.specs.declared.Answer.TheVariants.{Yes, No, Refused}
-use Rattle.refusals.specs.declared.Verdict.{Verdict}
+use Rattle.units.specs.declared.Unit.{Unit}
+use Rattle.refusals.specs.declared.Refusal.{Refusal}
+use Rattle.std.specs.Prelude.{◌≡◌, Bool, true, false, not, List, [], ◌∷◌, ℕ, replicate, Result, Ok, Err, Option}
+use Rattle.refusals.specs.Numbers.{code_of}
 use Rattle.matching.specs.declared.Checked.{Checked}
-use Rattle.matching.specs.declared.Checked.TheVariants.{Known, Unknown, Function}
+use Rattle.matching.specs.declared.Checked.TheVariants.{Known}
 use Rattle.bindings.specs.Bindings.{bindings_max}
 use Rattle.bindings.specs.declared.Bindings.{Bindings}
-use Rattle.units.specs.declared.MaybeUnit.{MaybeUnit}
 use Rattle.pairs.specs.Page.{size_of}
 use Rattle.pairs.specs.Calls.{empty_page, page_after}
 use Rattle.sums.specs.Calls.{convert_answer}
@@ -22,28 +20,16 @@ abbrev pub unbound : Bindings
 unbound = record { count = 0; names = replicate bindings_max 0; types = replicate bindings_max 0 }
 
 -- is the answer a plain yes or, with false, a plain no
-abbrev pub is_plain : Answer → Bool → Bool
-is_plain Yes b = b
-is_plain No b = not b
-is_plain (Refused r) b = false
+abbrev pub is_plain : Result Bool Refusal → Bool → Bool
+is_plain (Ok true) b = b
+is_plain (Ok false) b = not b
+is_plain (Err r) b = false
 
 -- ---- answers
 
--- which of the three a checked type is
-abbrev pub tag_of : Checked → ℕ
-tag_of (Known t) = 0
-tag_of Unknown = 1
-tag_of (Function t) = 2
-
--- its number, 0 where it has none
-abbrev pub number_in : Checked → ℕ
-number_in (Known t) = t
-number_in Unknown = 0
-number_in (Function t) = t
-
 -- an answer of these parts
-abbrev pub expected : Verdict → Checked → MaybeUnit → Errors → Answered
-expected v c u e = record { verdict = v; checked = c; unit = u; errors = e }
+abbrev pub passed : Checked → Option Unit → Errors → Result Answered Refusal
+passed c u e = Ok (record { checked = c; unit = u; errors = e })
 
 -- a store of Any(Int, Float), Any(Int), Tuple(Int) and Array Float
 abbrev pub unions : List ℕ
@@ -62,28 +48,22 @@ abbrev pub inch_table : List ℕ
 inch_table = page_after (empty_page (replicate (size_of 1) 0)) symbols true 3 factor 2
 
 -- what a binary operator answers over these
-abbrev pub BinaryRow : ℕ → CheckedExpr → CheckedExpr → Answered → Type 0
+abbrev pub BinaryRow : ℕ → CheckedExpr → CheckedExpr → Result Answered Refusal → Type 0
 BinaryRow op x y a = binary_answer unions symbols true inch_table op x y ≡ a
 
 -- what an operator answers for one operand, entering nothing
-abbrev pub UnaryRow : ℕ → CheckedExpr → Answered → Type 0
+abbrev pub UnaryRow : ℕ → CheckedExpr → Result Answered Refusal → Type 0
 UnaryRow op x a = (unary_answer unions symbols true op x ≡ a) × (unary_page unions symbols true op x ≡ unions)
 
 -- what indexing by an Int answers, entering nothing
-abbrev pub IndexRow : CheckedExpr → Answered → Type 0
+abbrev pub IndexRow : CheckedExpr → Result Answered Refusal → Type 0
 IndexRow x a = (index_answer unions symbols true x (Known 1) ≡ a) × (index_page unions symbols true x (Known 1) ≡ unions)
 
 -- ---- refusals
 
--- the number of the refusal that an answer is, 0 where it is none
-abbrev pub refusal_in : Answer → ℕ
-refusal_in Yes = 0
-refusal_in No = 0
-refusal_in (Refused r) = number_of r
-
 -- the refusal of asking whether two units convert, without names lent
-abbrev pub ConvertRow : MaybeUnit → MaybeUnit → ℕ → Type 0
-ConvertRow x y r = refusal_in (convert_answer inch_table symbols false x y) ≡ r
+abbrev pub ConvertRow : Option Unit → Option Unit → ℕ → Type 0
+ConvertRow x y r = code_of (convert_answer inch_table symbols false x y) ≡ r
 
 -- how many names are said to be in use: more than there can be
 abbrev pub in_use_said : ℕ

@@ -4,7 +4,6 @@
 #![tactic(auto)]
 
 ghost use Rattle.std.specs.Prelude.{◌≡◌, true, false, [], ◌∷◌, ◌<◌};
-ghost use Rattle.refusals.specs.declared.Verdict.TheVariants.{Passed};
 ghost use Rattle.names.specs.Table.{names_max};
 ghost use Rattle.units.specs.Unit.{places_max, term};
 ghost use Rattle.units.specs.Unit as units;
@@ -14,15 +13,17 @@ ghost use Rattle.pairs.specs.Table.{both_used};
 ghost use Rattle.types.specs.Store.{formed};
 ghost use Rattle.types.specs.Types.{types_in};
 ghost use Rattle.unification.specs.Unification.{said, unify};
-ghost use Rattle.executed.specs.Rows.{unbound, is_plain, tag_of, number_in, refusal_in, inch_table, in_use_said, expected, BinaryRow, UnaryRow, IndexRow, ConvertRow};
+ghost use Rattle.executed.specs.Rows.{unbound, is_plain, inch_table, in_use_said, passed, BinaryRow, UnaryRow, IndexRow, ConvertRow};
 
 use answers::{Answered, CheckedExpr};
 use bindings::{BINDINGS, Bindings};
-use matching::Checked;
+use marks::TINY_BYTES;
+use matching::{Checked, TINY_MEMO};
 use names::Symbol;
-use operators::{Errors, MINUS};
-use refusals::{Answer, Refusal, Verdict};
-use units::{MaybeUnit, PLACES, Unit};
+use operators::{Errors, MINUS, Reason};
+use refusals::Refusal;
+use types::Tables;
+use units::{PLACES, Unit};
 
 const NULL: usize = 0;
 
@@ -87,97 +88,63 @@ const FACTOR: u64 = 0x4039666666666666;
 const TABLE_BYTES: usize = 268;
 
 // Units: none, m, m^1000, s, mm, in.
-const NO_UNIT: MaybeUnit = MaybeUnit {
-    some: false,
-    unit: Unit {
-        count: 0,
-        symbols: [0; PLACES],
-        exponents: [0; PLACES],
-    },
-};
+const NO_UNIT: Option<Unit> = None;
 
-const M: MaybeUnit = MaybeUnit {
-    some: true,
-    unit: Unit {
-        count: 1,
-        symbols: [METRE, 0, 0, 0, 0, 0, 0, 0],
-        exponents: [1, 0, 0, 0, 0, 0, 0, 0],
-    },
-};
+const M: Option<Unit> = Some(Unit {
+    count: 1,
+    symbols: [METRE, 0, 0, 0, 0, 0, 0, 0],
+    exponents: [1, 0, 0, 0, 0, 0, 0, 0],
+});
 
-const LARGE: MaybeUnit = MaybeUnit {
-    some: true,
-    unit: Unit {
-        count: 1,
-        symbols: [METRE, 0, 0, 0, 0, 0, 0, 0],
-        exponents: [1000, 0, 0, 0, 0, 0, 0, 0],
-    },
-};
+const LARGE: Option<Unit> = Some(Unit {
+    count: 1,
+    symbols: [METRE, 0, 0, 0, 0, 0, 0, 0],
+    exponents: [1000, 0, 0, 0, 0, 0, 0, 0],
+});
 
-const S: MaybeUnit = MaybeUnit {
-    some: true,
-    unit: Unit {
-        count: 1,
-        symbols: [SECOND, 0, 0, 0, 0, 0, 0, 0],
-        exponents: [1, 0, 0, 0, 0, 0, 0, 0],
-    },
-};
+const S: Option<Unit> = Some(Unit {
+    count: 1,
+    symbols: [SECOND, 0, 0, 0, 0, 0, 0, 0],
+    exponents: [1, 0, 0, 0, 0, 0, 0, 0],
+});
 
-const MM: MaybeUnit = MaybeUnit {
-    some: true,
-    unit: Unit {
-        count: 1,
-        symbols: [MILLIMETRE, 0, 0, 0, 0, 0, 0, 0],
-        exponents: [1, 0, 0, 0, 0, 0, 0, 0],
-    },
-};
+const MM: Option<Unit> = Some(Unit {
+    count: 1,
+    symbols: [MILLIMETRE, 0, 0, 0, 0, 0, 0, 0],
+    exponents: [1, 0, 0, 0, 0, 0, 0, 0],
+});
 
-const IN: MaybeUnit = MaybeUnit {
-    some: true,
-    unit: Unit {
-        count: 1,
-        symbols: [INCH, 0, 0, 0, 0, 0, 0, 0],
-        exponents: [1, 0, 0, 0, 0, 0, 0, 0],
-    },
-};
+const IN: Option<Unit> = Some(Unit {
+    count: 1,
+    symbols: [INCH, 0, 0, 0, 0, 0, 0, 0],
+    exponents: [1, 0, 0, 0, 0, 0, 0, 0],
+});
 
 // Units of one symbol that no byte holds.
-const WIDE_256: MaybeUnit = MaybeUnit {
-    some: true,
-    unit: Unit {
-        count: 1,
-        symbols: [256, 0, 0, 0, 0, 0, 0, 0],
-        exponents: [1, 0, 0, 0, 0, 0, 0, 0],
-    },
-};
+const WIDE_256: Option<Unit> = Some(Unit {
+    count: 1,
+    symbols: [256, 0, 0, 0, 0, 0, 0, 0],
+    exponents: [1, 0, 0, 0, 0, 0, 0, 0],
+});
 
-const WIDE_300: MaybeUnit = MaybeUnit {
-    some: true,
-    unit: Unit {
-        count: 1,
-        symbols: [300, 0, 0, 0, 0, 0, 0, 0],
-        exponents: [1, 0, 0, 0, 0, 0, 0, 0],
-    },
-};
+const WIDE_300: Option<Unit> = Some(Unit {
+    count: 1,
+    symbols: [300, 0, 0, 0, 0, 0, 0, 0],
+    exponents: [1, 0, 0, 0, 0, 0, 0, 0],
+});
 
 // Units that say nine symbols, of which eight stand in their places: the eighth is one that a name can have, or one that no byte holds.
-const NINE: MaybeUnit = MaybeUnit {
-    some: true,
-    unit: Unit {
-        count: 9,
-        symbols: [0, 1, 2, 3, 4, 5, 6, 7],
-        exponents: [1; PLACES],
-    },
-};
+const NINE: Option<Unit> = Some(Unit {
+    count: 9,
+    symbols: [0, 1, 2, 3, 4, 5, 6, 7],
+    exponents: [1; PLACES],
+});
 
-const NINE_WIDE: MaybeUnit = MaybeUnit {
-    some: true,
-    unit: Unit {
-        count: 9,
-        symbols: [0, 1, 2, 3, 4, 5, 6, 300],
-        exponents: [1; PLACES],
-    },
-};
+const NINE_WIDE: Option<Unit> = Some(Unit {
+    count: 9,
+    symbols: [0, 1, 2, 3, 4, 5, 6, 300],
+    exponents: [1; PLACES],
+});
 
 // How many names are said to be in use: more than there can be.
 const IN_USE: usize = 300;
@@ -249,41 +216,17 @@ const PLUS: usize = 1;
 const TIMES: usize = 3;
 
 // Errors: none, reason 2, reason 7 for one pair of members, which is (Float, Int), and reason 10.
-const NO_ERROR: Errors = Errors {
-    count: 0,
-    first: 0,
-    second: 0,
-    failing: 0,
-    left: 0,
-    right: 0,
-};
+const NO_ERROR: Errors = Errors::None;
 
-const BAD_UNITS: Errors = Errors {
-    count: 1,
-    first: 2,
-    second: 0,
-    failing: 0,
-    left: 0,
-    right: 0,
-};
+const BAD_UNITS: Errors = Errors::One(Reason::BadUnits);
 
-const ONE_FAILS: Errors = Errors {
-    count: 1,
-    first: 7,
-    second: 0,
+const ONE_FAILS: Errors = Errors::SomeFail {
     failing: 1,
     left: 5,
     right: 1,
 };
 
-const NOT_INDEXABLE: Errors = Errors {
-    count: 1,
-    first: 10,
-    second: 0,
-    failing: 0,
-    left: 0,
-    right: 0,
-};
+const NOT_INDEXABLE: Errors = Errors::One(Reason::NotIndexable);
 
 // No name bound.
 fn no_bindings() -> Bindings
@@ -297,13 +240,12 @@ fn no_bindings() -> Bindings
 }
 
 // Whether an answer is a plain yes or, with `yes` false, a plain no.
-fn is_plain(answer: Answer, yes: bool) -> bool
+fn is_plain(answer: Result<bool, Refusal>, yes: bool) -> bool
     ensures { result ≡ is_plain answer yes }
 {
     match answer {
-        Answer::Yes => yes,
-        Answer::No => !yes,
-        Answer::Refused(_) => false,
+        Ok(holds) => holds == yes,
+        Err(_) => false,
     }
 }
 
@@ -313,12 +255,12 @@ fn expect_unified(page: &[u8], e: usize, a: usize, yes: bool)
     requires e_bound { (e < types_in page.now) × (a < types_in page.now) }
     requires unbound_value { unify page.now e a unbound ≡ said yes unbound }
 {
-    let mut offsets = types::no_offsets();
-    let mut depths = types::no_depths();
-    check::expect(types::survey(page, NAMES, &mut offsets, &mut depths));
-    let mut memo = matching::tiny_memo();
-    let mut seen = unification::tiny_seen();
-    let out = unification::unify(page, &offsets, &mut memo, &mut seen, no_bindings(), e, a);
+    let mut tables = Tables::new();
+    check::expect(types::survey(page, NAMES, &mut tables));
+    let store = tables.store(page);
+    let mut memo = [0; TINY_MEMO];
+    let mut seen = [0; TINY_BYTES];
+    let out = unification::unify(store, &mut memo, &mut seen, no_bindings(), e, a);
     let answer = out.answer;
     let bindings = out.bindings;
     check::expect(is_plain(answer, yes));
@@ -344,81 +286,20 @@ fn expect_units() {
     let large = power(METRE, 1000);
     let metre = power(METRE, 1);
     let quotient = units::product(large, metre, true);
-    let passed = quotient.verdict;
-    check::expect(refusals::code(passed) == 0);
+    check::expect(refusals::code(quotient) == 0);
     let product = units::product(large, metre, false);
-    let refused = product.verdict;
-    check::expect(refusals::code(refused) == 8);
+    check::expect(refusals::code(product) == 8);
 }
 
-// Which of the three a checked type is.
-fn tag_of(c: Checked) -> u8
-    ensures { result ≡ tag_of c }
+// An answer without a refusal.
+fn passed(checked: Checked, unit: Option<Unit>, errors: Errors) -> Result<Answered, Refusal>
+    ensures { result ≡ passed checked unit errors }
 {
-    match c {
-        Checked::Known(_) => 0,
-        Checked::Unknown => 1,
-        Checked::Function(_) => 2,
-    }
-}
-
-// Its number, 0 where it has none.
-fn number_in(c: Checked) -> usize
-    ensures { result ≡ number_in c }
-{
-    match c {
-        Checked::Known(t) => t,
-        Checked::Unknown => 0,
-        Checked::Function(t) => t,
-    }
-}
-
-// Expects two checked types to be one.
-fn expect_checked(a: Checked, b: Checked)
-    requires { a ≡ b }
-{
-    check::expect(tag_of(a) == tag_of(b));
-    check::expect(number_in(a) == number_in(b));
-}
-
-// Expects two units, or none, to be one.
-fn expect_unit(a: MaybeUnit, b: MaybeUnit)
-    requires { a ≡ b }
-{
-    check::expect(a.some == b.some);
-    let u = a.unit;
-    let v = b.unit;
-    check::expect(u.count == v.count);
-    let mut i: usize = 0;
-    while i < PLACES {
-        check::expect(u.symbols[i] == v.symbols[i]);
-        check::expect(u.exponents[i] == v.exponents[i]);
-        i += 1;
-    }
-}
-
-// Expects two lists of errors to be one.
-fn expect_errors(a: Errors, b: Errors)
-    requires { a ≡ b }
-{
-    check::expect(a.count == b.count);
-    check::expect(a.first == b.first);
-    check::expect(a.second == b.second);
-    check::expect(a.failing == b.failing);
-    check::expect(a.left == b.left);
-    check::expect(a.right == b.right);
-}
-
-// Expects of an answer a verdict, a checked type, a unit or none, and errors.
-fn expect_answer(a: Answered, verdict: Verdict, c: Checked, unit: MaybeUnit, errors: Errors)
-    requires { a ≡ expected verdict c unit errors }
-{
-    let v = a.verdict;
-    check::expect(refusals::code(v) == refusals::code(verdict));
-    let d = a.checked;
-    expect_checked(d, c);
-    expect_unit(a.unit, unit);
-    expect_errors(a.errors, errors);
+    Ok(Answered {
+        checked,
+        unit,
+        errors,
+    })
 }
 
 // A table of the pair (in, mm).
@@ -426,9 +307,16 @@ fn inch_table() -> [u8; TABLE_BYTES]
     ensures { result ≡ inch_table }
 {
     let mut table = [0u8; TABLE_BYTES];
-    pairs::empty_pairs(&mut table);
-    pairs::insert_pair(&mut table, &SYMBOLS, true, INCH, FACTOR, MILLIMETRE);
+    check::expect(pairs::empty_pairs(&mut table).is_ok());
+    check::expect(pairs::insert_pair(&mut table, &SYMBOLS, true, INCH, FACTOR, MILLIMETRE).is_ok());
     table
+}
+
+// Expects two answers to be one.
+fn expect_answer(a: Result<Answered, Refusal>, b: Result<Answered, Refusal>)
+    requires { a ≡ b }
+{
+    check::expect(a == b);
 }
 
 // Expects what a binary operator answers, over the store of unions and the table of the pair (in, mm).
@@ -436,35 +324,32 @@ fn expect_binary(
     op: usize,
     left: CheckedExpr,
     right: CheckedExpr,
-    verdict: Verdict,
-    c: Checked,
-    unit: MaybeUnit,
-    errors: Errors,
+    expected: Result<Answered, Refusal>,
 )
-    requires { BinaryRow op left right (expected verdict c unit errors) }
+    requires { BinaryRow op left right expected }
 {
     let table = inch_table();
     let a = answers::check_binary_operator(&UNIONS, &SYMBOLS, true, &table, op, left, right);
-    expect_answer(a, verdict, c, unit, errors);
+    expect_answer(a, expected);
 }
 
 // Expects what an operator answers for one operand, over that store, which stays as it is.
-fn expect_unary(op: usize, x: CheckedExpr, c: Checked, unit: MaybeUnit, errors: Errors)
-    requires { UnaryRow op x (expected Passed c unit errors) }
+fn expect_unary(op: usize, x: CheckedExpr, expected: Result<Answered, Refusal>)
+    requires { UnaryRow op x expected }
 {
     let mut page = UNIONS;
     let a = answers::check_unary_operator(&mut page, &SYMBOLS, true, op, x);
-    expect_answer(a, Verdict::Passed, c, unit, errors);
+    expect_answer(a, expected);
     check::expect(check::same(&page, &UNIONS));
 }
 
 // Expects what indexing a target by an Int answers, over that store, which stays as it is.
-fn expect_index(target: CheckedExpr, c: Checked, unit: MaybeUnit, errors: Errors)
-    requires { IndexRow target (expected Passed c unit errors) }
+fn expect_index(target: CheckedExpr, expected: Result<Answered, Refusal>)
+    requires { IndexRow target expected }
 {
     let mut page = UNIONS;
     let a = answers::check_index(&mut page, &SYMBOLS, true, target, Checked::Known(INT));
-    expect_answer(a, Verdict::Passed, c, unit, errors);
+    expect_answer(a, expected);
     check::expect(check::same(&page, &UNIONS));
 }
 
@@ -473,73 +358,46 @@ fn expect_index(target: CheckedExpr, c: Checked, unit: MaybeUnit, errors: Errors
 // the left's".
 fn expect_sums() {
     let uint = Checked::Known(UINT);
-    let passed = Verdict::Passed;
-    expect_binary(PLUS, UINT_MM, UINT_MM, passed, uint, MM, NO_ERROR);
-    expect_binary(PLUS, UINT_PLAIN, UINT_MM, passed, uint, MM, NO_ERROR);
-    expect_binary(PLUS, UINT_MM, UINT_PLAIN, passed, uint, MM, NO_ERROR);
-    expect_binary(PLUS, UINT_IN, UINT_MM, passed, uint, IN, NO_ERROR);
-    expect_binary(PLUS, UINT_MM, UINT_IN, passed, uint, MM, NO_ERROR);
-    expect_binary(PLUS, UINT_MM, UINT_S, passed, uint, NO_UNIT, BAD_UNITS);
-    expect_binary(MINUS, UINT_MM, UINT_S, passed, uint, NO_UNIT, BAD_UNITS);
+    let mm = passed(uint, MM, NO_ERROR);
+    let inch = passed(uint, IN, NO_ERROR);
+    let bad = passed(uint, NO_UNIT, BAD_UNITS);
+    expect_binary(PLUS, UINT_MM, UINT_MM, mm);
+    expect_binary(PLUS, UINT_PLAIN, UINT_MM, mm);
+    expect_binary(PLUS, UINT_MM, UINT_PLAIN, mm);
+    expect_binary(PLUS, UINT_IN, UINT_MM, inch);
+    expect_binary(PLUS, UINT_MM, UINT_IN, mm);
+    expect_binary(PLUS, UINT_MM, UINT_S, bad);
+    expect_binary(MINUS, UINT_MM, UINT_S, bad);
 }
 
 // The cases of unions: no member's trial meets a unit's limits, the final result does; "Unary − on Any(Int, Float) with mm: that
 // union, no unit".
 fn expect_unions() {
-    expect_binary(
-        TIMES,
-        UNION_LARGE,
-        INT_M,
-        Verdict::Passed,
-        Checked::Unknown,
-        NO_UNIT,
-        ONE_FAILS,
-    );
-    let exponent = Verdict::Refused(Refusal::Exponent);
-    expect_binary(
-        TIMES,
-        ANY_INT_LARGE,
-        INT_M,
-        exponent,
-        Checked::Unknown,
-        NO_UNIT,
-        NO_ERROR,
-    );
-    expect_unary(
-        MINUS,
-        UNION_MM,
-        Checked::Known(ANY_INT_FLOAT),
-        NO_UNIT,
-        NO_ERROR,
-    );
+    let one_fails = passed(Checked::Unknown, NO_UNIT, ONE_FAILS);
+    expect_binary(TIMES, UNION_LARGE, INT_M, one_fails);
+    expect_binary(TIMES, ANY_INT_LARGE, INT_M, Err(Refusal::Exponent));
+    let union = passed(Checked::Known(ANY_INT_FLOAT), NO_UNIT, NO_ERROR);
+    expect_unary(MINUS, UNION_MM, union);
 }
 
 // The cases of indexing: "Null and tuple targets index to Unknown with no error", "An index keeps its target's unit", with an error too.
 fn expect_indexing() {
-    expect_index(NULL_PLAIN, Checked::Unknown, NO_UNIT, NO_ERROR);
-    expect_index(TUPLE_PLAIN, Checked::Unknown, NO_UNIT, NO_ERROR);
-    expect_index(ARRAY_FLOAT_MM, Checked::Known(FLOAT), MM, NO_ERROR);
-    expect_index(INT_MM, Checked::Unknown, MM, NOT_INDEXABLE);
-}
-
-// The number of the refusal that an answer is, 0 where it is none.
-fn refusal_in(answer: Answer) -> u8
-    ensures { result ≡ refusal_in answer }
-{
-    match answer {
-        Answer::Yes => 0,
-        Answer::No => 0,
-        Answer::Refused(r) => refusals::number(r),
-    }
+    let unknown = passed(Checked::Unknown, NO_UNIT, NO_ERROR);
+    let element = passed(Checked::Known(FLOAT), MM, NO_ERROR);
+    let kept = passed(Checked::Unknown, MM, NOT_INDEXABLE);
+    expect_index(NULL_PLAIN, unknown);
+    expect_index(TUPLE_PLAIN, unknown);
+    expect_index(ARRAY_FLOAT_MM, element);
+    expect_index(INT_MM, kept);
 }
 
 // Expects that asking whether two units convert is refused, over the table of the pair (in, mm), without names lent.
-fn expect_unconverted(left: MaybeUnit, right: MaybeUnit, refusal: u8)
+fn expect_unconverted(left: Option<Unit>, right: Option<Unit>, refusal: u8)
     requires { ConvertRow left right refusal }
 {
     let table = inch_table();
     let answer = sums::is_convertible_to(&table, &SYMBOLS, false, left, right);
-    check::expect(refusal_in(answer) == refusal);
+    check::expect(refusals::code(answer) == refusal);
 }
 
 // Expects that a unit is refused for its form (5): by itself, on the left of a product, and on the right of a quotient.
@@ -550,11 +408,9 @@ fn expect_unformed(u: Unit)
     let form = units::unit_form(u);
     check::expect(refusals::code(form) == 5);
     let product = units::product(u, metre, false);
-    let left = product.verdict;
-    check::expect(refusals::code(left) == 5);
+    check::expect(refusals::code(product) == 5);
     let quotient = units::product(metre, u, true);
-    let right = quotient.verdict;
-    check::expect(refusals::code(right) == 5);
+    check::expect(refusals::code(quotient) == 5);
 }
 
 // Expects that a pair is refused by value for a symbol not in use (3), where more names are said to be in use than there can be.
@@ -562,8 +418,7 @@ fn expect_unused(symbol: Symbol, base: Symbol)
     requires { both_used in_use_said (pair symbol base) ≡ false }
 {
     let out = pairs::inserted(pairs::fresh_table(), IN_USE, symbol, FACTOR, base);
-    let verdict = out.verdict;
-    check::expect(refusals::code(verdict) == 3);
+    check::expect(refusals::code(out) == 3);
 }
 
 // The cases of symbols that no byte holds: a number not in use (3) wherever symbols are looked up, by value those in the eight

@@ -1,10 +1,10 @@
 -- Walks one step at a time, and parents one list of pairs after another. Assumes nothing.
 use mathlib.Core.Path.{◌≡◌, refl, ◌∙◌, ap}
 use mathlib.Core.List.{List, [], ◌∷◌, ◌++◌}
-use Prim.Native.Nat.{ℕ, zero, suc, ◌+◌, ◌-◌, ◌<◌, ◌≤◌}
+use Prim.Native.Nat.{ℕ, suc, ◌+◌, ◌-◌, ◌<◌, ◌≤◌}
 use native.Mathlib.Omega.{arith}
-use native.Mathlib.Nat.{add-zero, zero-add, suc-add, add-suc, not-suc-le-zero, le_of_suc-le-suc}
-use lib.ListN.{length, get_or, set, length-set}
+use native.Mathlib.Nat.{add-zero, zero-add, suc-add, add-suc}
+use lib.ListN.{length, get_or, length-set}
 use Rattle.groups.specs.Groups.{Pair, link_at, walk, enter, enter_all, selves, parents_of}
 use Rattle.groups.proofs.UnionFind.{length_selves}
 
@@ -21,12 +21,6 @@ unfolding walk
 walk_none n k p x l =
     let e : n - k ≡ 0 = omega arith in
     ap (λ (m : ℕ). walk m p x) e
-
--- a list that does not have a place is not changed there
-pub set_past : (p : List ℕ) (i x : ℕ) → length p ≤ i → set p i x ≡ p
-set_past [] i x h = refl
-set_past (y ∷ p) zero x h = absurd (not-suc-le-zero h)
-set_past (y ∷ p) (suc i) x h = ap (λ (q : List ℕ). y ∷ q) (set_past p i x (le_of_suc-le-suc h))
 
 -- ---- more pairs at the end
 

@@ -29,30 +29,21 @@ fn linked(a: Symbol, b: Symbol) -> Link
 pub fn own_parents() -> Parents
     ensures { result ≡ selves 0 names_max }
 {
-    let mut parents = [0; NAMES];
-    let mut i: usize = 0;
-    while i < NAMES {
-        parents[i] = i as Symbol;
-        i += 1;
-    }
-    parents
+    std::array::from_fn(|i| i as Symbol)
 }
 
 // The parent of a symbol, 0 where the list does not have it.
 fn parent_of(parents: &[Symbol], symbol: Symbol) -> Symbol
     ensures { result ≡ get_or parents.now symbol 0 }
 {
-    let i = symbol_index(symbol);
-    if i < parents.len() {
-        return parents[i];
-    }
-    0
+    parents.get(symbol_index(symbol)).copied().unwrap_or(0)
 }
 
 // Makes a symbol the parent of another, if the list has that one.
 fn set_parent(parents: &mut [Symbol], symbol: Symbol, parent: Symbol)
     ensures { parents.new ≡ set parents.old symbol parent }
 {
+    // By index: of a write through `get_mut` a proof learns no element.
     let i = symbol_index(symbol);
     if i < parents.len() {
         parents[i] = parent;
@@ -65,14 +56,12 @@ pub fn root(parents: &[Symbol], steps: usize, symbol: Symbol) -> Symbol
     ensures { result ≡ walk steps parents.now symbol }
 {
     let mut at = symbol;
-    let mut k: usize = 0;
-    while k < steps {
+    for _ in 0..steps {
         let up = parent_of(parents, at);
         if up == at {
             return at;
         }
         at = up;
-        k += 1;
     }
     at
 }
@@ -81,8 +70,6 @@ pub fn root(parents: &[Symbol], steps: usize, symbol: Symbol) -> Symbol
 pub fn join(parents: &mut [Symbol], steps: usize, symbol: Symbol, base: Symbol)
     ensures { parents.new ≡ enter steps parents.old (pair symbol base) }
 {
-    let a = root(parents, steps, symbol);
-    let b = root(parents, steps, base);
-    let l = linked(a, b);
-    set_parent(parents, l.child, l.root);
+    let link = linked(root(parents, steps, symbol), root(parents, steps, base));
+    set_parent(parents, link.child, link.root);
 }

@@ -14,7 +14,8 @@ use Rattle.matching.specs.declared.Checked.{Checked}
 use Rattle.matching.specs.declared.Checked.TheVariants.{Known, Unknown}
 use Rattle.matching.proofs.Parts.{one_child, two_children}
 use Rattle.matching.proofs.Matching.{in_use_known}
-use Rattle.operators.specs.Outcome.{no_error, one_error, outcome, number_of, bad_key, not_indexable}
+use Rattle.operators.specs.Outcome.{no_error, one_error, outcome, number_of}
+use Rattle.operators.specs.declared.Reason.TheVariants.{BadKey, NotIndexable}
 use Rattle.operators.specs.declared.Outcome.{Outcome}
 use Rattle.members.proofs.Kept.{unknown_used, number_used}
 use Rattle.indexing.specs.Indexing.{index_target}
@@ -35,7 +36,7 @@ module _ (page : List ℕ) (key : Checked) (t : ℕ) where
 
   module _ (e : has_elements page t ≡ false) where
     pub target_value : is_map (kind_of page t) ≡ true → (m : Bool) → matches page key (Known (child_of page t 0)) ≡ m
-        → outcome (Known (child_of page t 1)) (cond m no_error (one_error bad_key)) ≡ index_target page key t
+        → outcome (Known (child_of page t 1)) (cond m no_error (one_error BadKey)) ≡ index_target page key t
     unfolding index_target
     target_value i m h = rw (e, i, h) refl
 
@@ -44,7 +45,7 @@ module _ (page : List ℕ) (key : Checked) (t : ℕ) where
       unfolding index_target
       target_unknown n = rw (e, i, n) refl
 
-      pub target_none : is_unknown page t ≡ false → outcome Unknown (one_error not_indexable) ≡ index_target page key t
+      pub target_none : is_unknown page t ≡ false → outcome Unknown (one_error NotIndexable) ≡ index_target page key t
       unfolding index_target
       target_none n = rw (e, i, n) refl
 
@@ -64,14 +65,14 @@ module _ (page : List ℕ) (f : Formed page) (t : ℕ) (u : t < types_in page) w
     unfolding index_target
     target_in_use = element (has_elements page t) refl
       where
-        other : (n : Bool) → in_use page (cond n (outcome Unknown no_error) (outcome Unknown (one_error not_indexable))).checked ≡ true
+        other : (n : Bool) → in_use page (cond n (outcome Unknown no_error) (outcome Unknown (one_error NotIndexable))).checked ≡ true
         other true = unknown_used page
         other false = unknown_used page
 
         value : (m : Bool) → is_map (kind_of page t) ≡ m
             → in_use page (cond m
-            (outcome (Known (child_of page t 1)) (cond (matches page key (Known (child_of page t 0))) no_error (one_error bad_key)))
-            (cond (is_unknown page t) (outcome Unknown no_error) (outcome Unknown (one_error not_indexable)))).checked ≡ true
+            (outcome (Known (child_of page t 1)) (cond (matches page key (Known (child_of page t 0))) no_error (one_error BadKey)))
+            (cond (is_unknown page t) (outcome Unknown no_error) (outcome Unknown (one_error NotIndexable)))).checked ≡ true
         value true h =
             in_use_known page (child_of page t 1) (omega (arith, child_lower page f t u 1 (omega (arith, two_children page f t u h))))
         value false h = other (is_unknown page t)
@@ -79,8 +80,8 @@ module _ (page : List ℕ) (f : Formed page) (t : ℕ) (u : t < types_in page) w
         element : (b : Bool) → has_elements page t ≡ b
             → in_use page (cond b (outcome (Known (child_of page t 0)) no_error)
             (cond (is_map (kind_of page t))
-            (outcome (Known (child_of page t 1)) (cond (matches page key (Known (child_of page t 0))) no_error (one_error bad_key)))
-            (cond (is_unknown page t) (outcome Unknown no_error) (outcome Unknown (one_error not_indexable))))).checked ≡ true
+            (outcome (Known (child_of page t 1)) (cond (matches page key (Known (child_of page t 0))) no_error (one_error BadKey)))
+            (cond (is_unknown page t) (outcome Unknown no_error) (outcome Unknown (one_error NotIndexable))))).checked ≡ true
         element true h = in_use_known page (child_of page t 0) (omega (arith, child_lower page f t u 0 (element_there h)))
         element false h = value (is_map (kind_of page t)) refl
 

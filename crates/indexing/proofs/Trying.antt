@@ -1,4 +1,6 @@
 -- The trials of a type's members: one more trial, what they come to, and that the results are in use. Assumes nothing.
+use Rattle.std.proofs.Common.{Result, Ok}
+use Rattle.refusals.specs.declared.Refusal.{Refusal}
 use mathlib.Core.Path.{◌≡◌, refl, sym, ap, ◌∙◌}
 use mathlib.Core.Bool.{Bool, true, false, cond}
 use mathlib.Core.List.{List}
@@ -12,17 +14,16 @@ use Rattle.types.specs.Store.{Formed}
 use Rattle.types.specs.Types.{types_in}
 use Rattle.types.specs.Making.{Grows}
 use Rattle.types.specs.Calls.{all_below}
-use Rattle.types.specs.declared.Made.{Made}
 use Rattle.marks.specs.Marks.{Noted}
 use Rattle.matching.specs.Memo.{Found}
 use Rattle.matching.proofs.Grown.{noted_grown}
 use Rattle.matching.specs.declared.Checked.{Checked}
 use Rattle.matching.specs.declared.Checked.TheVariants.{Unknown}
-use Rattle.operators.specs.Outcome.{one_error, some_fail, outcome, number_of, passes, no_member}
+use Rattle.operators.specs.Outcome.{one_error, some_fail, outcome, number_of, passes}
+use Rattle.operators.specs.declared.Reason.TheVariants.{NoMember}
 use Rattle.operators.specs.declared.Outcome.{Outcome}
 use Rattle.members.specs.Members.{members_max, size_of, member, merged, Entered, entered, union_of, concluded, conclude}
 use Rattle.members.specs.Trials.{fold_to, failed_at, errors_of, Tried, tried, joined, settled}
-use Rattle.members.specs.declared.Conclusion.{Conclusion}
 use Rattle.members.proofs.Members.{member_used}
 use Rattle.members.proofs.Flattening.{Flattened}
 use Rattle.members.proofs.Unions.{merged_below, union_sound}
@@ -109,18 +110,18 @@ module _ (page : List ℕ) (f : Formed page) (t : ℕ) (u : t < types_in page) (
 module _ (page : List ℕ) (key : Checked) (t : ℕ) (results : List ℕ) (trials : Trials)
     (e : tried_of results trials ≡ members_tried page key t (size_of page t)) where
   pub some_failed : (trials.failing ≡ 0 → ⊥)
-      → concluded (Conclusion.Is (outcome Unknown (some_fail trials.failing trials.first 0))) page ≡ index_any page key t
+      → concluded (Ok (outcome Unknown (some_fail trials.failing trials.first 0))) page ≡ index_any page key t
   unfolding index_any settled errors_of
   some_failed n = rw (← e, ne_eqb trials.failing 0 n) refl
 
   module _ (z : trials.failing ≡ 0) (l : trials.merged ≤ length results) where
-    pub no_results : trials.merged ≡ 0 → concluded (Conclusion.Is (outcome Unknown (one_error no_member))) page ≡ index_any page key t
+    pub no_results : trials.merged ≡ 0 → concluded (Ok (outcome Unknown (one_error NoMember))) page ≡ index_any page key t
     unfolding index_any settled errors_of
     no_results m =
         let size = length-take-le trials.merged results l in
         rw (← e, eq-eqb trials.failing 0 z, le-ltb 0 (length (take trials.merged results)) (omega (arith, size, m))) refl
 
-    pub some_results : (trials.merged ≡ 0 → ⊥) → (m : Made) (s : List ℕ) → entered m s ≡ union_of page (take trials.merged results)
+    pub some_results : (trials.merged ≡ 0 → ⊥) → (m : Result ℕ Refusal) (s : List ℕ) → entered m s ≡ union_of page (take trials.merged results)
         → concluded (conclude m) s ≡ index_any page key t
     unfolding index_any settled errors_of
     some_results n m s h =
@@ -132,7 +133,7 @@ module _ (page : List ℕ) (key : Checked) (t : ℕ) (results : List ℕ) (trial
   results_used f u = rw (← e) at (tried_used page key t f u (size_of page t) (omega arith))
 
 -- what is in mind stays so where their union enters the store
-pub union_noted : (page : List ℕ) → Formed page → (rs : List ℕ) → all_below (types_in page) rs ≡ true → (m : Made) (after : List ℕ)
+pub union_noted : (page : List ℕ) → Formed page → (rs : List ℕ) → all_below (types_in page) rs ≡ true → (m : Result ℕ Refusal) (after : List ℕ)
     → entered m after ≡ union_of page rs → Formed after → (memo : List ℕ) → Noted (Found page) memo → Noted (Found after) memo
 union_noted page f rs u m after e fa memo n =
     let g : Grows page after = rw (← e) at (union_sound page f rs u).grown in

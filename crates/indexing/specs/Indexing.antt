@@ -1,16 +1,16 @@
 -- The check of an index (document 01, "Answers"; `check_index_target` and `check_index_any` of the source's statements/mod.rs): a
 -- target, and a key.
-use Rattle.std.specs.Prelude.{◌||◌, cond, List, [], ℕ, eqb, take}
+use Rattle.std.specs.Prelude.{◌||◌, cond, List, [], ℕ, eqb, take, Ok}
 use Rattle.kinds.specs.Kinds.{null, is_array, is_set, is_map, is_tuple, is_union}
 use Rattle.types.specs.Types.{kind_of, child_of}
 use Rattle.matching.specs.Matching.{matches}
 use Rattle.matching.specs.declared.Checked.{Checked}
 use Rattle.matching.specs.declared.Checked.TheVariants.{Known, Unknown, Function}
-use Rattle.operators.specs.Outcome.{no_error, one_error, outcome, bad_key, not_indexable}
+use Rattle.operators.specs.Outcome.{no_error, one_error, outcome}
+use Rattle.operators.specs.declared.Reason.TheVariants.{BadKey, NotIndexable}
 use Rattle.operators.specs.declared.Outcome.{Outcome}
 use Rattle.members.specs.Members.{size_of, member, Concluded, concluded}
 use Rattle.members.specs.Trials.{fold_to, failures, no_failure, Tried, tried, joined, settled}
-use Rattle.members.specs.declared.Conclusion.{Conclusion}
 use Rattle.indexing.specs.declared.Trials.{Trials}
 
 -- ---- `check_index_target`
@@ -21,8 +21,8 @@ unfoldable pub index_target : List ℕ → Checked → ℕ → Outcome
 index_target page key t =
     cond (is_array (kind_of page t) || is_set (kind_of page t)) (outcome (Known (child_of page t 0)) no_error)
     (cond (is_map (kind_of page t))
-    (outcome (Known (child_of page t 1)) (cond (matches page key (Known (child_of page t 0))) no_error (one_error bad_key)))
-    (cond (eqb (kind_of page t) null || is_tuple (kind_of page t)) (outcome Unknown no_error) (outcome Unknown (one_error not_indexable))))
+    (outcome (Known (child_of page t 1)) (cond (matches page key (Known (child_of page t 0))) no_error (one_error BadKey)))
+    (cond (eqb (kind_of page t) null || is_tuple (kind_of page t)) (outcome Unknown no_error) (outcome Unknown (one_error NotIndexable))))
 
 -- ---- `check_index_any`: "A union target is flattened likewise; a member still a union, or indexing to Unknown, fails"
 
@@ -40,7 +40,7 @@ index_any page key t = settled page (members_tried page key t (size_of page t))
 -- ---- on checked types
 
 unfoldable pub check_index : List ℕ → Checked → Checked → Concluded
-check_index page key Unknown = concluded (Conclusion.Is (outcome Unknown no_error)) page
-check_index page key (Function f) = concluded (Conclusion.Is (outcome Unknown (one_error not_indexable))) page
+check_index page key Unknown = concluded (Ok (outcome Unknown no_error)) page
+check_index page key (Function f) = concluded (Ok (outcome Unknown (one_error NotIndexable))) page
 check_index page key (Known t) =
-    cond (is_union (kind_of page t)) (index_any page key t) (concluded (Conclusion.Is (index_target page key t)) page)
+    cond (is_union (kind_of page t)) (index_any page key t) (concluded (Ok (index_target page key t)) page)

@@ -15,57 +15,51 @@ ghost use Rattle.indexing.specs.Indexing.{index_target, members_tried, tried_of,
 
 use kinds::Kind;
 use matching::Checked;
-use members::{Conclusion, conclusion_of, enter_union, flatten, member_at, merge, no_members};
-use operators::{BAD_KEY, NO_MEMBER, NOT_INDEXABLE, Outcome};
-use types::{NULL, child_of, kind_of};
+use members::{MEMBERS, conclusion_of, enter_union, flatten, member_at, merge};
+use operators::{Errors, Outcome, Reason};
+use refusals::Refusal;
+use types::{NULL, Store, Tables};
 
 // Whether a kind's values have one sort of element: arrays and sets.
 fn has_elements(k: Kind) -> bool
     ensures { result ≡ (is_array k || is_set k) }
 {
-    kinds::is_array(k) | kinds::is_set(k)
+    kinds::is_array(k) || kinds::is_set(k)
 }
 
 // Whether a kind indexes to Unknown: Null and tuples.
 fn is_unknown(k: Kind) -> bool
     ensures { result ≡ (eqb k null || is_tuple k) }
 {
-    (k == NULL as Kind) | kinds::is_tuple(k)
+    k == NULL as Kind || kinds::is_tuple(k)
 }
 
 // What indexing a Known type comes to, where unions are not indexed: a union's member that is itself one fails.
-pub fn check_index_target(
-    page: &[u8],
-    offsets: &[usize],
-    memo: &mut [u8],
-    key: Checked,
-    t: usize,
-) -> Outcome
-    requires held { Held page.now offsets.now }
-    requires t_bound { (t < types_in page.now) × (in_use page.now key ≡ true) }
-    requires noted { Noted (Found page.now) memo.old }
-    ensures value { (result ≡ index_target page.now key t) × (number_of result.checked < types_in page.now) }
-    ensures noted_2 { Noted (Found page.now) memo.new }
+pub fn check_index_target(store: Store, memo: &mut [u8], key: Checked, t: usize) -> Outcome
+    requires t_bound { (t < types_in store.page.now) × (in_use store.page.now key ≡ true) }
+    requires noted { Noted (Found store.page.now) memo.old }
+    ensures value { (result ≡ index_target store.entry.page.now key t) × (number_of result.checked < types_in store.entry.page.now) }
+    ensures noted_2 { Noted (Found store.entry.page.now) memo.new }
 {
-    let kind = kind_of(page, offsets, t);
+    let kind = store.kind_of(t);
     if has_elements(kind) {
-        return operators::known(child_of(page, offsets, t, 0));
+        return operators::known(store.child_of(t, 0));
     }
     if kinds::is_map(kind) {
-        let wanted = child_of(page, offsets, t, 0);
-        let value = child_of(page, offsets, t, 1);
-        if matching::matches(page, offsets, memo, key, Checked::Known(wanted)) {
+        let wanted = store.child_of(t, 0);
+        let value = store.child_of(t, 1);
+        if matching::matches(store, memo, key, Checked::Known(wanted)) {
             return operators::known(value);
         }
         return Outcome {
             checked: Checked::Known(value),
-            errors: operators::one_error(BAD_KEY),
+            errors: Errors::One(Reason::BadKey),
         };
     }
     if is_unknown(kind) {
-        return operators::unknown(operators::no_error());
+        return operators::unknown(Errors::None);
     }
-    operators::unknown(operators::one_error(NOT_INDEXABLE))
+    operators::unknown(Errors::One(Reason::NotIndexable))
 }
 
 // The trials of members: how many results there are, how many members fail, and the first of those.
@@ -106,33 +100,23 @@ fn join(results: &mut [u16], trials: Trials, o: Outcome, x: usize) -> Trials
 }
 
 // Tries every member of a type.
-fn try_members(
-    page: &[u8],
-    offsets: &[usize],
-    memo: &mut [u8],
-    key: Checked,
-    t: usize,
-    results: &mut [u16],
-) -> Trials
-    requires held { Held page.now offsets.now }
-    requires t_bound { (t < types_in page.now) × (in_use page.now key ≡ true) × (length results.old ≡ members_max) }
-    requires noted { Noted (Found page.now) memo.old }
-    ensures result_after { tried_of results.new result ≡ members_tried page.now key t (size_of page.now t) }
-    ensures results_len { (length results.new ≡ members_max) × (result.merged ≤ members_max) × Noted (Found page.now) memo.new }
+fn try_members(store: Store, memo: &mut [u8], key: Checked, t: usize, results: &mut [u16]) -> Trials
+    requires t_bound { (t < types_in store.page.now) × (in_use store.page.now key ≡ true) × (length results.old ≡ members_max) }
+    requires noted { Noted (Found store.page.now) memo.old }
+    ensures result_after { tried_of results.new result ≡ members_tried store.entry.page.now key t (size_of store.entry.page.now t) }
+    ensures results_len { (length results.new ≡ members_max) × (result.merged ≤ members_max) × Noted (Found store.entry.page.now) memo.new }
 {
-    let mut types = no_members();
-    let n = flatten(page, offsets, t, &mut types);
+    let mut types = [0; MEMBERS];
+    let n = flatten(store, t, &mut types);
     let mut trials = Trials {
         merged: 0,
         failing: 0,
         first: 0,
     };
-    let mut i: usize = 0;
-    while i < n {
+    for i in 0..n {
         let x = member_at(&types, i);
-        let o = check_index_target(page, offsets, memo, key, x);
+        let o = check_index_target(store, memo, key, x);
         trials = join(results, trials, o, x);
-        i += 1;
     }
     trials
 }
@@ -140,61 +124,53 @@ fn try_members(
 // What indexing a union comes to: every member is tried. What the memo holds stays right in the store that grows.
 pub fn check_index_any(
     page: &mut [u8],
-    offsets: &mut [usize],
-    depths: &mut [u8],
+    tables: &mut Tables,
     memo: &mut [u8],
     key: Checked,
     t: usize,
-) -> Conclusion
-    requires measured { Measured page.old offsets.old depths.old }
+) -> Result<Outcome, Refusal>
+    requires measured { Measured page.old tables.old.offsets tables.old.depths }
     requires t_bound { (t < types_in page.old) × (in_use page.old key ≡ true) }
     requires noted { Noted (Found page.old) memo.old }
     ensures page_after { concluded result page.new ≡ index_any page.old key t }
-    ensures measured_2 { Measured page.new offsets.new depths.new }
+    ensures measured_2 { Measured page.new tables.new.offsets tables.new.depths }
     ensures noted_2 { Noted (Found page.new) memo.new }
 {
-    let mut results = no_members();
-    let trials = try_members(page, offsets, memo, key, t, &mut results);
+    let mut results = [0; MEMBERS];
+    let trials = try_members(tables.store(page), memo, key, t, &mut results);
     if trials.failing != 0 {
-        return Conclusion::Is(operators::unknown(operators::some_fail(
-            trials.failing,
-            trials.first,
-            0,
-        )));
+        return Ok(operators::unknown(operators::some_fail(trials.failing, trials.first, 0)));
     }
     if trials.merged == 0 {
-        return Conclusion::Is(operators::unknown(operators::one_error(NO_MEMBER)));
+        return Ok(operators::unknown(Errors::One(Reason::NoMember)));
     }
-    conclusion_of(enter_union(page, offsets, depths, &results, trials.merged))
+    conclusion_of(enter_union(page, tables, &results, trials.merged))
 }
 
 // What indexing a checked type comes to, for crates above (`answers::check_index` is the entry call). A refusal leaves
 // the store as it was.
 pub fn check_index(
     page: &mut [u8],
-    offsets: &mut [usize],
-    depths: &mut [u8],
+    tables: &mut Tables,
     memo: &mut [u8],
     target: Checked,
     key: Checked,
-) -> Conclusion
-    requires measured { Measured page.old offsets.old depths.old }
+) -> Result<Outcome, Refusal>
+    requires measured { Measured page.old tables.old.offsets tables.old.depths }
     requires target_value { (in_use page.old target ≡ true) × (in_use page.old key ≡ true) }
     requires noted { Noted (Found page.old) memo.old }
     ensures page_after { concluded result page.new ≡ check_index page.old key target }
-    ensures measured_2 { Measured page.new offsets.new depths.new }
+    ensures measured_2 { Measured page.new tables.new.offsets tables.new.depths }
     ensures noted_2 { Noted (Found page.new) memo.new }
 {
     match target {
-        Checked::Unknown => Conclusion::Is(operators::unknown(operators::no_error())),
-        Checked::Function(_) => Conclusion::Is(operators::unknown(operators::one_error(
-            NOT_INDEXABLE,
-        ))),
+        Checked::Unknown => Ok(operators::unknown(Errors::None)),
+        Checked::Function(_) => Ok(operators::unknown(Errors::One(Reason::NotIndexable))),
         Checked::Known(t) => {
-            if kinds::is_union(kind_of(page, offsets, t)) {
-                return check_index_any(page, offsets, depths, memo, key, t);
+            if kinds::is_union(tables.store(page).kind_of(t)) {
+                return check_index_any(page, tables, memo, key, t);
             }
-            Conclusion::Is(check_index_target(page, offsets, memo, key, t))
+            Ok(check_index_target(tables.store(page), memo, key, t))
         }
     }
 }

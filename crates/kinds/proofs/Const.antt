@@ -1,49 +1,16 @@
--- Const forms: one law for each return, and what they have of their kinds. Assumes nothing.
-use mathlib.Core.Path.{◌≡◌, refl, sym, ◌∙◌, ap}
+-- What the const forms of stored kinds have of them. Assumes nothing.
+use mathlib.Core.Path.{◌≡◌, refl, sym, ◌∙◌}
 use mathlib.Core.Bool.{Bool, true, false, ◌&&◌, ◌||◌, not, cond}
-use Prim.Native.Nat.{ℕ, ◌+◌, ◌-◌, ◌%◌, ◌<◌, ◌≤◌}
+use Prim.Native.Nat.{ℕ, ◌+◌, ◌-◌, ◌≤◌}
 use native.Mathlib.Decide.{ℕ_discrete}
 use native.Mathlib.Omega.{arith}
 use lib.Dec.{eqb, leb}
 use borrow.Author.Tests.{eq-eqb, ne_eqb, eqb-true, leb-true}
 use Rattle.pages.specs.Quant.{all_to}
-use Rattle.pages.specs.Bytes.{within}
 use Rattle.pages.proofs.Quant.{and_true, all_at}
-use Rattle.pages.proofs.Bytes.{and_false}
-use Rattle.kinds.specs.Kinds.{fixed_max, kind_last, is_named, is_stored, fewest, most, is_plain, const_variant, const_matches}
+use Rattle.kinds.specs.Kinds.{fixed_max, kind_last, is_named, is_stored, fewest, most, const_variant}
 
 -- ---- the next code
-
-within_most : (a b k : ℕ) → within a b k ≡ true → k ≤ b
-within_most a b k h = leb-true k b (and_true (leb a k) (leb k b) h).1
-
--- a plain kind has a small code
-pub plain_small : (k : ℕ) → is_plain k ≡ true → k ≤ 27
-plain_small k h = go (within 1 15 k) refl (and_true (eqb (k % 2) 1) (within 1 15 k || within 19 27 k) h).1
-  where
-    go : (b : Bool) → within 1 15 k ≡ b → (b || within 19 27 k) ≡ true → k ≤ 27
-    go true e f = omega (arith, within_most 1 15 k e)
-    go false e f = within_most 19 27 k f
-
-module _ (k : ℕ) where
-  pub variant_plain : is_plain k ≡ true → k + 1 ≡ const_variant k
-  unfolding const_variant
-  variant_plain h = rw h
-
-  module _ (h : is_plain k ≡ false) where
-    pub variant_record : k ≡ 32 → 33 ≡ const_variant k
-    unfolding const_variant
-    variant_record e = rw e
-
-    pub variant_enum : (k ≡ 32 → ⊥) → k ≡ 34 → 35 ≡ const_variant k
-    unfolding const_variant
-    variant_enum n e = rw e
-
-    pub variant_self : (k ≡ 32 → ⊥) → (k ≡ 34 → ⊥) → k ≡ const_variant k
-    unfolding const_variant
-    variant_self n m = rw (h, ne_eqb k 32 n, ne_eqb k 34 m)
-
--- ---- one against the other
 
 -- one more is a difference of one
 one_more_lem : (a b : ℕ) → b ≤ a → eqb (a - b) 1 ≡ eqb a (b + 1)
@@ -56,19 +23,6 @@ one_more_lem a b h = go (ℕ_discrete a (b + 1))
 or_none_lem : (a : Bool) → (a || false) ≡ a
 or_none_lem true = refl
 or_none_lem false = refl
-
-module _ (a b : ℕ) where
-  pub matches_above : b < a → (is_plain b && eqb (a - b) 1) ≡ const_matches a b
-  unfolding const_matches
-  matches_above h =
-      let none : eqb b (a + 1) ≡ false = ne_eqb b (a + 1) (omega arith) in
-      rw (none, and_false (is_plain a && within 15 27 a), or_none_lem (is_plain b && eqb a (b + 1))) (ap (λ (x : Bool). is_plain b && x) (one_more_lem a b (omega arith)))
-
-  pub matches_below : a ≤ b → ((is_plain a && within 15 27 a) && eqb (b - a) 1) ≡ const_matches a b
-  unfolding const_matches
-  matches_below h =
-      let none : eqb a (b + 1) ≡ false = ne_eqb a (b + 1) (omega arith) in
-      rw (none, and_false (is_plain b)) (ap (λ (x : Bool). (is_plain a && within 15 27 a) && x) (one_more_lem b a h))
 
 -- ---- what the const form of a kind that is stored has of it
 

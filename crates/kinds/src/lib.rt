@@ -2,10 +2,9 @@
 #![tactic(auto)]
 
 ghost use Rattle.std.specs.Prelude.{◌≡◌, ◌≤◌};
-ghost use Rattle.pages.specs.Bytes.{within};
 ghost use Rattle.kinds.specs.Kinds.{children_max, is_int, is_byte, is_array, is_set, is_result, is_map, is_tuple, is_record, is_enum, is_built, is_union, is_named, is_stored, fewest, most, is_plain, const_variant, const_matches};
 
-// The code of a kind.
+// The code of a kind; no enum, as the functions are lent any byte, and const forms (k + 1) and families (k - k % 2) are arithmetic on codes.
 pub type Kind = u8;
 
 // How many types are always there, under the codes of their kinds.
@@ -66,165 +65,143 @@ pub const HANDLE: Kind = 36;
 
 pub const GENERIC: Kind = 37;
 
-// Whether a code is one of those from a to b.
-fn is_within(k: Kind, a: Kind, b: Kind) -> bool
-    ensures { result ≡ within a b k }
-{
-    (a <= k) & (k <= b)
-}
+// The questions from here to `is_stored` differ in a range of codes alone, and each is no more than that range.
 
 // Whether a kind is that of an Int or a CInt.
 pub fn is_int(k: Kind) -> bool
     ensures { result ≡ is_int k }
 {
-    is_within(k, INT, CINT)
+    matches!(k, INT..=CINT)
 }
 
 // Whether a kind is that of a Byte or a CByte.
 pub fn is_byte(k: Kind) -> bool
     ensures { result ≡ is_byte k }
 {
-    is_within(k, BYTE, CBYTE)
+    matches!(k, BYTE..=CBYTE)
 }
 
 // Whether a kind is that of an Array or a CArray.
 pub fn is_array(k: Kind) -> bool
     ensures { result ≡ is_array k }
 {
-    is_within(k, ARRAY, CARRAY)
+    matches!(k, ARRAY..=CARRAY)
 }
 
 // Whether a kind is that of a Set or a CSet.
 pub fn is_set(k: Kind) -> bool
     ensures { result ≡ is_set k }
 {
-    is_within(k, SET, CSET)
+    matches!(k, SET..=CSET)
 }
 
 // Whether a kind is that of a Result or a CResult.
 pub fn is_result(k: Kind) -> bool
     ensures { result ≡ is_result k }
 {
-    is_within(k, RESULT, CRESULT)
+    matches!(k, RESULT..=CRESULT)
 }
 
 // Whether a kind is that of a Map or a CMap.
 pub fn is_map(k: Kind) -> bool
     ensures { result ≡ is_map k }
 {
-    is_within(k, MAP, CMAP)
+    matches!(k, MAP..=CMAP)
 }
 
 // Whether a kind is that of a Tuple or a CTuple.
 pub fn is_tuple(k: Kind) -> bool
     ensures { result ≡ is_tuple k }
 {
-    is_within(k, TUPLE, CTUPLE)
+    matches!(k, TUPLE..=CTUPLE)
 }
 
 // Whether a kind is that of a Record or a CRecord.
 pub fn is_record(k: Kind) -> bool
     ensures { result ≡ is_record k }
 {
-    is_within(k, RECORD, CRECORD)
+    matches!(k, RECORD..=CRECORD)
 }
 
 // Whether a kind is that of an Enum or a CEnum.
 pub fn is_enum(k: Kind) -> bool
     ensures { result ≡ is_enum k }
 {
-    is_within(k, ENUM, CENUM)
+    matches!(k, ENUM..=CENUM)
 }
 
 // Whether a kind is one from Array to CTuple.
 pub fn is_built(k: Kind) -> bool
     ensures { result ≡ is_built k }
 {
-    is_within(k, ARRAY, CTUPLE)
+    matches!(k, ARRAY..=CTUPLE)
 }
 
 // Whether a kind is that of a union.
 pub fn is_union(k: Kind) -> bool
     ensures { result ≡ is_union k }
 {
-    is_within(k, ANY, CANY)
+    matches!(k, ANY..=CANY)
 }
 
 // Whether a kind has a name, and no child.
 pub fn is_named(k: Kind) -> bool
     ensures { result ≡ is_named k }
 {
-    is_within(k, RECORD, GENERIC)
+    matches!(k, RECORD..=GENERIC)
 }
 
 // Whether a store holds types of this kind: those that are not fixed.
 pub fn is_stored(k: Kind) -> bool
     ensures { result ≡ is_stored k }
 {
-    is_within(k, ARRAY, GENERIC)
+    matches!(k, ARRAY..=GENERIC)
 }
 
 // How many children a kind has at least.
 pub fn fewest(k: Kind) -> usize
     ensures { result ≡ fewest k }
 {
-    if is_within(k, MAP, CMAP) {
-        return 2;
+    match k {
+        MAP..=CMAP => 2,
+        ARRAY..=CRESULT | CALLBACK => 1,
+        _ => 0,
     }
-    if is_within(k, ARRAY, CRESULT) {
-        return 1;
-    }
-    if k == CALLBACK {
-        return 1;
-    }
-    0
 }
 
 // How many children a kind has at most.
 pub fn most(k: Kind) -> usize
     ensures { (result ≡ most k) × (result ≤ children_max) }
 {
-    if is_within(k, MAP, CMAP) {
-        return 2;
+    match k {
+        MAP..=CMAP => 2,
+        ARRAY..=CRESULT => 1,
+        TUPLE..=CALLBACK => CHILDREN,
+        _ => 0,
     }
-    if is_within(k, ARRAY, CRESULT) {
-        return 1;
-    }
-    if is_within(k, TUPLE, CALLBACK) {
-        return CHILDREN;
-    }
-    0
 }
 
 // Whether a kind is the plain one of two, the const one having the next code.
 fn is_plain(k: Kind) -> bool
     ensures { result ≡ is_plain k }
 {
-    (k % 2 == 1) & (is_within(k, INT, ERROR) | is_within(k, ARRAY, TUPLE))
+    k % 2 == 1 && matches!(k, INT..=ERROR | ARRAY..=TUPLE)
 }
 
 // The const form of a kind, or itself where it has none: `const_variant` of the source.
 pub fn const_variant(k: Kind) -> Kind
     ensures { result ≡ const_variant k }
 {
-    if is_plain(k) {
-        return k + 1;
+    if is_plain(k) || k == RECORD || k == ENUM {
+        k + 1
+    } else {
+        k
     }
-    if k == RECORD {
-        return CRECORD;
-    }
-    if k == ENUM {
-        return CENUM;
-    }
-    k
 }
 
 // Whether a kind stands against another as its const form or, for some, as its plain one: `const_matches` of the source.
 pub fn const_matches(a: Kind, b: Kind) -> bool
     ensures { result ≡ const_matches a b }
 {
-    if a > b {
-        return is_plain(b) & (a - b == 1);
-    }
-    is_plain(a) & is_within(a, ERROR, TUPLE) & (b - a == 1)
+    (is_plain(b) && a == b + 1) || (is_plain(a) && matches!(a, ERROR..=TUPLE) && b == a + 1)
 }

@@ -3,19 +3,19 @@ use mathlib.Core.Path.{◌≡◌, refl, sym, ◌∙◌, ap}
 use mathlib.Core.Bool.{Bool, true, false, ◌&&◌, cond}
 use mathlib.Core.List.{List}
 use mathlib.Core.Logic.{◌⊎◌, inl, inr, ⊎_elim}
-use Prim.Native.Nat.{ℕ, ◌+◌, ◌-◌, ◌*◌, ◌/◌, ◌%◌, ◌^◌, ◌≤◌, ◌<◌, max}
+use Prim.Native.Nat.{ℕ, ◌+◌, ◌-◌, ◌*◌, ◌/◌, ◌%◌, ◌^◌, ◌<◌, max}
 use native.Mathlib.Nat.{max-zero, mul-div_cancel, div-eq_of_lt, div_self, zero-div, one-mul, eq-or-lt_of_le, mul-add-mod_self_right, mod-eq_of_lt, eq_of_mul-eq-mul_right}
 use native.Mathlib.Decide.{ℕ_discrete}
 use native.Mathlib.Omega.{arith}
 use lib.Dec.{ltb, eqb}
 use lib.Bits.{bit_or, or_step, or_shr}
 use lib.Pow.{pow-add, pow_pos, pow-lt, shl_exact}
-use lib.ListN.{length, get_or, set, replicate, length-set, length-replicate, get_or-eq_default}
+use lib.ListN.{length, get_or, set, replicate, length-set, get_or-eq_default}
 use lib.Seq.{get_or-set_same, get_or-set_other, set_out}
 use borrow.Author.Tests.{eqb-true, eq-eqb, ltb-true, ltb-false, lt-ltb, le-ltb}
 use Rattle.pages.proofs.Quant.{and_true}
 use Rattle.pages.proofs.Bytes.{and_false, made_at}
-use Rattle.marks.specs.Marks.{bits, small, small_bytes, room, columns, place, is_set, is_set_at, set_at, is_marked, marking, Noted}
+use Rattle.marks.specs.Marks.{bits, room, columns, place, Within, Beyond, is_set, is_set_at, set_at, is_marked, marking, Noted}
 
 -- ---- one byte
 
@@ -154,42 +154,38 @@ module _ (table : List ℕ) (row column : ℕ) where
       let e = lt-ltb column (columns (room (length table))) u in
       rw (e, length-set table (place (room (length table)) row column / bits) (bit_or (get_or table (place (room (length table)) row column / bits) 0) (2 ^ (place (room (length table)) row column % bits))), e, set_set table (place (room (length table)) row column) l) refl
 
--- ---- what the functions meet: a column beyond the table's, a place behind its end, and one within it
+-- ---- what the functions meet: a mark that the table has no place for, and one that it has
 
-module _ (table : List ℕ) (row column n : ℕ) (e : n ≡ room (length table)) where
-  pub unmarked_beyond : 2 * n ≤ column → is_marked table row column ≡ false
-  unfolding is_marked
-  unmarked_beyond l = rw (← e, le-ltb column (columns n) l) refl
+module _ (table : List ℕ) (row column : ℕ) where
+  pub unmarked_beyond : Beyond table row column → false ≡ is_marked table row column
+  unfolding is_marked is_set
+  unmarked_beyond (inl l) = rw (le-ltb column (columns (room (length table))) l) refl
+  unmarked_beyond (inr l) =
+      let p = place (room (length table)) row column in
+      let zero_byte = ap (λ (m : ℕ). m / 2 ^ (p % bits) % 2) (get_or-eq_default table 0 l) ∙ ap (λ (m : ℕ). m % 2) (zero-div (2 ^ (p % bits))) in
+      rw zero_byte (sym (and_false (ltb column (columns (room (length table))))))
 
-  pub marking_beyond : 2 * n ≤ column → marking table row column ≡ table
+  pub marking_beyond : Beyond table row column → table ≡ marking table row column
   unfolding marking
-  marking_beyond l = rw (← e, le-ltb column (columns n) l) refl
+  marking_beyond (inl l) = rw (le-ltb column (columns (room (length table))) l) refl
+  marking_beyond (inr l) =
+      let p = place (room (length table)) row column in
+      rw (set_out table (p / bits) (bit_or (get_or table (p / bits) 0) (2 ^ (p % bits))) l) (go (ltb column (columns (room (length table)))))
+    where
+      go : (r : Bool) → table ≡ cond r table table
+      go true = refl
+      go false = refl
 
-  module _ (p : ℕ) (d : p ≡ place n row column) where
-    pub unmarked_behind : length table ≤ p / bits → is_marked table row column ≡ false
+  module _ (p : ℕ) (w : Within table row column p) where
+    pub marked_at : eqb (get_or table (p / bits) 0 / 2 ^ (p % bits) % 2) 1 ≡ is_marked table row column
     unfolding is_marked is_set
-    unmarked_behind l =
-        let zero_byte = ap (λ (m : ℕ). m / 2 ^ (p % bits) % 2) (get_or-eq_default table 0 l) ∙ ap (λ (m : ℕ). m % 2) (zero-div (2 ^ (p % bits))) in
-        rw (← e, ← d, zero_byte) (and_false (ltb column (columns n)))
+    marked_at = rw (← w.0, lt-ltb column (columns (room (length table))) w.1) refl
 
-    pub marking_behind : length table ≤ p / bits → marking table row column ≡ table
+    pub marking_at : set table (p / bits) (bit_or (get_or table (p / bits) 0) (1 * 2 ^ (p % bits) % 256)) ≡ marking table row column
     unfolding marking
-    marking_behind l = rw (← e, ← d, set_out table (p / bits) (bit_or (get_or table (p / bits) 0) (2 ^ (p % bits))) l) (go (ltb column (columns n)))
-      where
-        go : (r : Bool) → cond r table table ≡ table
-        go true = refl
-        go false = refl
-
-    module _ (l : column < 2 * n) where
-      pub marked_at : eqb (get_or table (p / bits) 0 / 2 ^ (p % bits) % 2) 1 ≡ is_marked table row column
-      unfolding is_marked is_set
-      marked_at = rw (← e, ← d, lt-ltb column (columns n) l) refl
-
-      pub marking_at : set table (p / bits) (bit_or (get_or table (p / bits) 0) (1 * 2 ^ (p % bits) % 256)) ≡ marking table row column
-      unfolding marking
-      marking_at =
-          let one : 1 * 2 ^ (p % bits) % 256 ≡ 2 ^ (p % bits) = shl_exact 1 (p % bits) 8 (omega arith) (omega arith) ∙ one-mul (2 ^ (p % bits)) in
-          rw (← e, ← d, lt-ltb column (columns n) l, one) refl
+    marking_at =
+        let one : 1 * 2 ^ (p % bits) % 256 ≡ 2 ^ (p % bits) = shl_exact 1 (p % bits) 8 (omega arith) (omega arith) ∙ one-mul (2 ^ (p % bits)) in
+        rw (← w.0, lt-ltb column (columns (room (length table))) w.1, one) refl
 
 -- what was marked still is
 pub marked_still : (table : List ℕ) (row column x y : ℕ) → is_marked table x y ≡ true → is_marked (marking table row column) x y ≡ true
@@ -221,10 +217,6 @@ module _ (holds : List ℕ → ℕ → ℕ → Type 0) where
           let one = eqb-true (get_or {A = ℕ} (replicate n 0) (place w r c / bits) 0 / 2 ^ (place w r c % bits) % 2) 1 d in
           omega (arith, zero_byte, one)
 
-  -- nothing is marked in a fresh table
-  pub noted_fresh : (table : List ℕ) (n : ℕ) → table ≡ replicate n 0 → Noted holds table
-  noted_fresh table n e = rw e (noted_none n)
-
   -- one mark more, where what holds goes by the marks alone
   module _ (table : List ℕ) (n : Noted holds table) (row column : ℕ) (goes : (other : List ℕ) (x y : ℕ) → holds table x y → holds other x y) where
     pub noted_more : holds table row column → Noted holds (marking table row column)
@@ -237,8 +229,3 @@ module _ (holds : List ℕ → ℕ → ℕ → Type 0) where
 -- what holds of all that is marked holds of it in another way, if the one follows from the other
 pub noted_as : (holds also : List ℕ → ℕ → ℕ → Type 0) (table : List ℕ) → ((row column : ℕ) → holds table row column → also table row column) → Noted holds table → Noted also table
 noted_as holds also table f n = record { right = λ r c h. f r c (n.right r c h) }
-
--- a small table has room for that many types
-pub small_room : (table : List ℕ) → table ≡ replicate (2 * small_bytes) 0 → room (length table) ≡ small
-unfolding room
-small_room table e = ap (λ (t : List ℕ). room (length t)) e ∙ ap room (length-replicate {A = ℕ} (2 * small_bytes) 0)

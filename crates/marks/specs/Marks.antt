@@ -1,5 +1,5 @@
 -- Marks on pairs of types in a table of bytes, one bit each. Assumes nothing.
-use Rattle.std.specs.Prelude.{◌≡◌, Bool, true, ◌&&◌, cond, List, ℕ, ◌+◌, ◌*◌, ◌/◌, ◌%◌, ◌^◌, ltb, eqb, length, get_or, set}
+use Rattle.std.specs.Prelude.{◌≡◌, Bool, true, ◌&&◌, cond, ◌⊎◌, List, ℕ, ◌+◌, ◌*◌, ◌/◌, ◌%◌, ◌^◌, ◌<◌, ◌≤◌, ltb, eqb, length, get_or, set}
 use Rattle.std.specs.Int.Bits.{bit_or}
 use Rattle.types.specs.Store.{types_max}
 
@@ -35,6 +35,14 @@ columns n = 2 * n
 -- the place of a mark, with room for n types
 unfoldable pub place : ℕ → ℕ → ℕ → ℕ
 place n row column = row * columns n + column
+
+-- the table has a place p for a mark, and the place is the mark's
+abbrev pub Within : List ℕ → ℕ → ℕ → ℕ → Type 0
+Within table row column p = (p ≡ place (room (length table)) row column) × (column < columns (room (length table))) × (p / bits < length table)
+
+-- the table has none: it has no such column, or ends before
+abbrev pub Beyond : List ℕ → ℕ → ℕ → Type 0
+Beyond table row column = (columns (room (length table)) ≤ column) ⊎ (length table ≤ place (room (length table)) row column / bits)
 
 -- is bit k of a byte set
 unfoldable pub is_set : ℕ → ℕ → Bool

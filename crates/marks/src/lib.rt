@@ -2,9 +2,9 @@
 // each type that the table has room for; behind its end nothing is marked, and nothing can be.
 #![tactic(auto)]
 
-ghost use Rattle.std.specs.Prelude.{◌≡◌, ◌≤◌, ◌<◌, length};
+ghost use Rattle.std.specs.Prelude.{◌≡◌, ◌≤◌, ◌<◌, length, MatchOption};
 ghost use Rattle.types.specs.Store.{types_max};
-ghost use Rattle.marks.specs.Marks.{room, columns, place, is_marked, marking};
+ghost use Rattle.marks.specs.Marks.{room, Beyond, Within, is_marked, marking};
 
 use types::TYPES;
 
@@ -12,7 +12,7 @@ use types::TYPES;
 const BITS: usize = 8;
 
 // For how many types a tiny table has room, and a small one; a large one has room for all.
-const TINY: usize = 64;
+pub const TINY: usize = 64;
 
 pub const SMALL: usize = 512;
 
@@ -27,22 +27,27 @@ pub const LARGE_BYTES: usize = TYPES * TYPES / BITS;
 pub fn room(table: &[u8]) -> usize
     ensures { (result ≡ room (length table.now)) × (result ≤ types_max) }
 {
-    if table.len() < SMALL_BYTES {
-        return TINY;
-    }
-    if table.len() < LARGE_BYTES {
-        SMALL
-    } else {
-        TYPES
+    match table.len() {
+        ..SMALL_BYTES => TINY,
+        ..LARGE_BYTES => SMALL,
+        _ => TYPES,
     }
 }
 
-// The place of a mark, in a table with room for n types.
-fn place_of(n: usize, row: usize, column: usize) -> usize
-    requires { (n ≤ types_max) × (row < types_max) × (column < columns n) }
-    ensures { result ≡ place n row column }
+// The place of a mark, if the table has one.
+fn place_of(table: &[u8], row: usize, column: usize) -> Option<usize>
+    requires { row < types_max }
+    ensures { MatchOption result (Beyond table.now row column) (λ p. Within table.now row column p) }
 {
-    row * (2 * n) + column
+    let columns = 2 * room(table);
+    if column >= columns {
+        return None;
+    }
+    let place = row * columns + column;
+    if place / BITS >= table.len() {
+        return None;
+    }
+    Some(place)
 }
 
 // Whether a row is marked in a column.
@@ -50,16 +55,10 @@ pub fn is_marked(table: &[u8], row: usize, column: usize) -> bool
     requires { row < types_max }
     ensures { result ≡ is_marked table.now row column }
 {
-    let n = room(table);
-    if 2 * n <= column {
-        return false;
+    match place_of(table, row, column) {
+        Some(place) => (table[place / BITS] >> (place % BITS)) % 2 == 1,
+        None => false,
     }
-    let place = place_of(n, row, column);
-    let at = place / BITS;
-    if table.len() <= at {
-        return false;
-    }
-    (table[at] >> (place % BITS)) % 2 == 1
 }
 
 // Marks a row in a column.
@@ -67,14 +66,7 @@ pub fn mark(table: &mut [u8], row: usize, column: usize)
     requires { row < types_max }
     ensures { table.new ≡ marking table.old row column }
 {
-    let n = room(table);
-    if 2 * n <= column {
-        return;
+    if let Some(place) = place_of(table, row, column) {
+        table[place / BITS] |= 1 << (place % BITS);
     }
-    let place = place_of(n, row, column);
-    let at = place / BITS;
-    if table.len() <= at {
-        return;
-    }
-    table[at] = table[at] | (1 << (place % BITS));
 }

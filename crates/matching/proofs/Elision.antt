@@ -2,7 +2,7 @@
 use mathlib.Core.Path.{◌≡◌, refl, sym, ◌∙◌, ap, subst}
 use mathlib.Core.Bool.{Bool, true, false, ◌&&◌, ◌||◌, cond}
 use mathlib.Core.List.{List}
-use Prim.Native.Nat.{ℕ, ◌<◌, ◌≤◌}
+use Prim.Native.Nat.{ℕ, ◌<◌, ◌≤◌, min}
 use native.Mathlib.Omega.{arith}
 use lib.Dec.{ltb, eqb, T}
 use borrow.Author.Tests.{ltb-true, ltb-false}
@@ -149,3 +149,12 @@ module _ (page : List ℕ) (f : Formed page) (a : ℕ) (u : a < types_in page) (
   pub map_all : both is_map page a b ≡ true → all_to 2 (elided page (part_rule page (null_map_elision page)) a b) ≡ null_map_elision page a b
   unfolding map_elision
   map_all h = sym (map_eq ∙ rw h refl)
+
+-- the smaller of two numbers
+pub smaller_is : (m n : ℕ) → min m n ≡ smaller m n
+unfolding smaller
+smaller_is m n = go (ltb m n) refl
+  where
+    go : (x : Bool) → ltb m n ≡ x → min m n ≡ cond x m n
+    go true e = let l = ltb-true m n e in omega (arith, l)
+    go false e = let l = ltb-false m n e in omega (arith, l)

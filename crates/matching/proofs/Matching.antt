@@ -102,13 +102,13 @@ module _ (page : List ℕ) (a b : ℕ) where
         go false ua = any_alone ua
 
     module _ (n : ℕ) (e : n ≡ members_of page a) where
-      pub all_met : (i : ℕ) → i ≡ n → all_to i (λ i. has_partner page (member_of page a i) b) ≡ true → eqb i n ≡ any_matches page a b
-      all_met i q h = eq-eqb i n q ∙ sym (rw (q, e) at h) ∙ any_members
+      pub all_met : (i : ℕ) → i ≡ n → all_to i (λ i. has_partner page (member_of page a i) b) ≡ true → true ≡ any_matches page a b
+      all_met i q h = sym (rw (q, e) at h) ∙ any_members
 
-      pub one_alone : (i : ℕ) → i < n → has_partner page (member_of page a i) b ≡ false → eqb i n ≡ any_matches page a b
+      pub one_alone : (i : ℕ) → i < n → has_partner page (member_of page a i) b ≡ false → false ≡ any_matches page a b
       one_alone i l h =
           let k : i < members_of page a = omega (arith, e) in
-          ne_eqb i n (omega arith) ∙ sym (all_failed (λ i. has_partner page (member_of page a i) b) (members_of page a) i k h) ∙ any_members
+          sym (all_failed (λ i. has_partner page (member_of page a i) b) (members_of page a) i k h) ∙ any_members
 
 -- ---- the equation of matching
 

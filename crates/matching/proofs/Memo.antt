@@ -11,8 +11,8 @@ use Rattle.pages.proofs.Quant.{and_true}
 use Rattle.pages.proofs.Bytes.{and_false}
 use Rattle.kinds.specs.Kinds.{null, is_array, is_tuple, is_map, is_union}
 use Rattle.types.specs.Store.{types_max, Formed}
-use Rattle.types.specs.Types.{types_in, kind_of}
-use Rattle.types.proofs.Types.{whole}
+use Rattle.types.specs.Types.{types_in, kind_of, Held}
+use Rattle.types.proofs.Types.{whole, held_by}
 use Rattle.marks.specs.Marks.{is_marked, marking, Noted}
 use Rattle.marks.proofs.Marks.{marked_more, marked_still}
 use Rattle.matching.specs.Matching.{both, null_or, null_array_elision, null_map_elision, flat_matches, known_matches}
@@ -22,6 +22,9 @@ use Rattle.matching.proofs.Parts.{within_below, within_above}
 -- a type in use has a row and a column
 pub in_use_small : (page : List ℕ) → Formed page → (t : ℕ) → t < types_in page → t < types_max
 in_use_small page f t u = omega (arith, (whole page f.names f.form).few)
+
+pub stored_small : {page offsets : List ℕ} → ∥ Held page offsets ∥₁ → (t : ℕ) → t < types_in page → t < types_max
+stored_small h t u = in_use_small _ (held_by h).sound t u
 
 -- a column's type and answer
 column_type : (b : ℕ) (answer : Bool) → column_of b answer / 2 ≡ b

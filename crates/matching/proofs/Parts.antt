@@ -9,10 +9,10 @@ use borrow.Author.Tests.{le-leb, lt-leb, leb-true}
 use Rattle.pages.specs.Bytes.{within}
 use Rattle.pages.proofs.Quant.{and_true}
 use Rattle.pages.proofs.Bytes.{and_false}
-use Rattle.kinds.specs.Kinds.{handle, is_record, is_enum, is_map, is_named, fewest, most}
+use Rattle.kinds.specs.Kinds.{handle, is_record, is_enum, is_map, is_named, fewest, most, is_set}
 use Rattle.types.specs.Store.{Formed}
-use Rattle.types.specs.Types.{types_in, kind_of, arity}
-use Rattle.types.proofs.Types.{arity_within}
+use Rattle.types.specs.Types.{types_in, kind_of, arity, Held}
+use Rattle.types.proofs.Types.{arity_within, held_by}
 
 -- what lies between two codes lies between wider ones
 within_wider : (a b x y k : ℕ) → x ≤ a → b ≤ y → within a b k ≡ true → within x y k ≡ true
@@ -61,3 +61,7 @@ module _ (page : List ℕ) (f : Formed page) (t : ℕ) (u : t < types_in page) w
       let w = arity_within page f t u in
       let p : (2 ≤ arity page t) × (arity page t ≤ 2) = rw h at w in
       omega (arith, p.0, p.1)
+
+-- a set has an element
+pub set_child : {page offsets : List ℕ} → ∥ Held page offsets ∥₁ → (t : ℕ) → t < types_in page → is_set (kind_of page t) ≡ true → 0 < arity page t
+set_child h t u k = omega (arith, one_child _ (held_by h).sound t u 21 22 (omega arith) (omega arith) k)

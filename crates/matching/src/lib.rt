@@ -1,61 +1,42 @@
-// When one type may stand for another (document 01, "Types"; types.rs of the source, whose names the functions have). Each takes a
-// store in form with its offsets, and numbers in use; `checked` has the calls that test them.
+// When one type may stand for another (document 01, "Types"; types.rs of the source, whose names the functions have). Each takes
+// numbers in use in the store; `checked` has the calls that test them.
 #![tactic(auto)]
 
 ghost use Rattle.std.specs.Prelude.{◌≡◌, true, false, ◌||◌, ◌*◌, ◌≤◌, ◌<◌, replicate};
 ghost use Rattle.types.specs.Store.{types_max};
 ghost use Rattle.kinds.specs.Kinds.{is_array, is_map, is_tuple, is_union, const_matches};
-ghost use Rattle.marks.specs.Marks.{tiny_bytes, small_bytes, large_bytes, is_marked, marking, Noted};
+ghost use Rattle.marks.specs.Marks.{is_marked, marking, Noted};
 ghost use Rattle.types.specs.Types.{types_in, kind_of, Held};
 ghost use Rattle.matching.specs.Matching.{both, smaller, null_array_elision, null_map_elision, record_matches, enum_matches, set_matches, handle_matches, wild, flat_matches, any_matches, known_for_function, function_matches, matches, in_use};
 ghost use Rattle.matching.specs.Memo.{type_number, fits, column_of, keeps, refuting, is_elided, is_free, is_refuted, members_of, member_of, found, Found};
 
 use kinds::{FN, GENERIC, HANDLE, HANDLE_INFER};
 use marks::{LARGE_BYTES, SMALL_BYTES, TINY_BYTES};
-use types::{NULL, arity, child_of, kind_of, name_of};
+use types::{NULL, Store};
 
 // A checked type: a type of the store, none known, or a Callback's parameters and return.
-#[derive(Clone, Copy)]
+#[derive(Clone, Copy, Debug, PartialEq, Eq)]
 pub enum Checked {
     Known(usize),
     Unknown,
     Function(usize),
 }
 
-// What a call has found, in a table that is tiny, small or large.
-type TinyMemo = [u8; 2 * TINY_BYTES];
+// How many bytes the table takes of what a call has found: tiny, small or large.
+pub const TINY_MEMO: usize = 2 * TINY_BYTES;
 
-type SmallMemo = [u8; 2 * SMALL_BYTES];
+pub const SMALL_MEMO: usize = 2 * SMALL_BYTES;
 
-type LargeMemo = [u8; 2 * LARGE_BYTES];
-
-// Nothing found yet.
-pub fn tiny_memo() -> TinyMemo
-    ensures { result ≡ replicate (2 * tiny_bytes) 0 }
-{
-    [0; 2 * TINY_BYTES]
-}
-
-pub fn small_memo() -> SmallMemo
-    ensures { result ≡ replicate (2 * small_bytes) 0 }
-{
-    [0; 2 * SMALL_BYTES]
-}
-
-pub fn large_memo() -> LargeMemo
-    ensures { result ≡ replicate (2 * large_bytes) 0 }
-{
-    [0; 2 * LARGE_BYTES]
-}
+pub const LARGE_MEMO: usize = 2 * LARGE_BYTES;
 
 // The number of a checked type, 0 where none is known.
+#[tactic(auto, unfolding(crate::specs::Memo::type_number))]
 fn type_number(c: Checked) -> usize
     ensures { result ≡ type_number c }
 {
     match c {
-        Checked::Known(t) => t,
+        Checked::Known(t) | Checked::Function(t) => t,
         Checked::Unknown => 0,
-        Checked::Function(t) => t,
     }
 }
 
@@ -67,11 +48,12 @@ pub fn fits(n: usize, a: Checked, b: Checked) -> bool
 }
 
 // The column of a type and an answer.
+#[tactic(auto, unfolding(crate::specs::Memo::column_of))]
 fn column_of(b: usize, answer: bool) -> usize
     requires { b < types_max }
     ensures { result ≡ column_of b answer }
 {
-    if answer { 2 * b + 1 } else { 2 * b }
+    2 * b + usize::from(answer)
 }
 
 // Whether an answer for a pair is kept in mind.
@@ -105,73 +87,51 @@ fn refute(memo: &mut [u8], a: usize, b: usize)
     }
 }
 
-// The smaller of two numbers.
-fn smaller_of(m: usize, n: usize) -> usize
-    ensures { (result ≡ smaller m n) × (result ≤ m) × (result ≤ n) }
-{
-    if m < n { m } else { n }
-}
-
 // Whether children can be elided in two types: both arrays, or both tuples.
-fn are_sequences(page: &[u8], offsets: &[usize], a: usize, b: usize) -> bool
-    requires held { Held page.now offsets.now }
-    requires a_bound { (a < types_in page.now) × (b < types_in page.now) }
-    ensures { result ≡ (both is_array page.now a b || both is_tuple page.now a b) }
+fn are_sequences(store: Store, a: usize, b: usize) -> bool
+    requires { (a < types_in store.page.now) × (b < types_in store.page.now) }
+    ensures { result ≡ (both is_array store.entry.page.now a b || both is_tuple store.entry.page.now a b) }
 {
-    let ka = kind_of(page, offsets, a);
-    let kb = kind_of(page, offsets, b);
+    let ka = store.kind_of(a);
+    let kb = store.kind_of(b);
     (kinds::is_array(ka) & kinds::is_array(kb)) | (kinds::is_tuple(ka) & kinds::is_tuple(kb))
 }
 
-// Whether two types are both maps.
-fn are_maps(page: &[u8], offsets: &[usize], a: usize, b: usize) -> bool
-    requires held { Held page.now offsets.now }
-    requires a_bound { (a < types_in page.now) × (b < types_in page.now) }
-    ensures { result ≡ both is_map page.now a b }
+// Whether two types are both maps. With the kind's test as a closure this, sequences and unions would be one function, and each call
+// of it as long as these bodies.
+fn are_maps(store: Store, a: usize, b: usize) -> bool
+    requires { (a < types_in store.page.now) × (b < types_in store.page.now) }
+    ensures { result ≡ both is_map store.entry.page.now a b }
 {
-    kinds::is_map(kind_of(page, offsets, a)) & kinds::is_map(kind_of(page, offsets, b))
+    kinds::is_map(store.kind_of(a)) & kinds::is_map(store.kind_of(b))
 }
 
 // Whether two types are both unions.
-fn are_unions(page: &[u8], offsets: &[usize], a: usize, b: usize) -> bool
-    requires held { Held page.now offsets.now }
-    requires a_bound { (a < types_in page.now) × (b < types_in page.now) }
-    ensures { result ≡ both is_union page.now a b }
+fn are_unions(store: Store, a: usize, b: usize) -> bool
+    requires { (a < types_in store.page.now) × (b < types_in store.page.now) }
+    ensures { result ≡ both is_union store.entry.page.now a b }
 {
-    kinds::is_union(kind_of(page, offsets, a)) & kinds::is_union(kind_of(page, offsets, b))
+    kinds::is_union(store.kind_of(a)) & kinds::is_union(store.kind_of(b))
 }
 
 // Whether two children are known to be elided: one is Null, or they are arrays or tuples of which it was found.
-fn is_elided(page: &[u8], offsets: &[usize], memo: &[u8], x: usize, y: usize) -> bool
-    requires held { Held page.now offsets.now }
-    requires x_bound { (x < types_in page.now) × (y < types_in page.now) }
-    ensures { result ≡ is_elided page.now memo.now x y }
+#[tactic(auto, unfolding(crate::specs::Memo::is_elided))]
+fn is_elided(store: Store, memo: &[u8], x: usize, y: usize) -> bool
+    requires { (x < types_in store.page.now) × (y < types_in store.page.now) }
+    ensures { result ≡ is_elided store.entry.page.now memo.now x y }
 {
-    if (x == NULL) | (y == NULL) {
-        return true;
-    }
-    if !recalls(memo, x, y, true) {
-        return false;
-    }
-    are_sequences(page, offsets, x, y)
+    x == NULL || y == NULL || recalls(memo, x, y, true) && are_sequences(store, x, y)
 }
 
 // Whether of two arrays, or two tuples, every pair of elements has Null on a side or is such a pair itself; of tuples only shared
 // elements are compared.
-pub fn null_array_elision(
-    page: &[u8],
-    offsets: &[usize],
-    memo: &mut [u8],
-    a: usize,
-    b: usize,
-) -> bool
-    requires held { Held page.now offsets.now }
-    requires a_bound { (a < types_in page.now) × (b < types_in page.now) }
-    requires noted { Noted (Found page.now) memo.old }
-    ensures value { result ≡ null_array_elision page.now a b }
-    ensures noted_2 { Noted (Found page.now) memo.new }
+pub fn null_array_elision(store: Store, memo: &mut [u8], a: usize, b: usize) -> bool
+    requires a_bound { (a < types_in store.page.now) × (b < types_in store.page.now) }
+    requires noted { Noted (Found store.page.now) memo.old }
+    ensures value { result ≡ null_array_elision store.entry.page.now a b }
+    ensures noted_2 { Noted (Found store.entry.page.now) memo.new }
 {
-    if !are_sequences(page, offsets, a, b) {
+    if !are_sequences(store, a, b) {
         return false;
     }
     if recalls(memo, a, b, true) {
@@ -180,32 +140,28 @@ pub fn null_array_elision(
     if recalls(memo, a, b, false) {
         return false;
     }
-    let n = smaller_of(arity(page, offsets, a), arity(page, offsets, b));
-    let mut i: usize = 0;
-    while i < n {
-        let x = child_of(page, offsets, a, i);
-        let y = child_of(page, offsets, b, i);
-        if !is_elided(page, offsets, memo, x, y) {
-            if !null_array_elision(page, offsets, memo, x, y) {
-                note(memo, a, b, false);
-                return false;
-            }
+    let n = store.arity(a).min(store.arity(b));
+    for i in 0..n {
+        let x = store.child_of(a, i);
+        let y = store.child_of(b, i);
+        if !is_elided(store, memo, x, y) && !null_array_elision(store, memo, x, y) {
+            note(memo, a, b, false);
+            return false;
         }
-        i += 1;
     }
     note(memo, a, b, true);
     true
 }
 
-// Whether of two maps the keys, and the values, have Null on a side, or are arrays, tuples or maps of which the same holds.
-pub fn null_map_elision(page: &[u8], offsets: &[usize], memo: &mut [u8], a: usize, b: usize) -> bool
-    requires held { Held page.now offsets.now }
-    requires a_bound { (a < types_in page.now) × (b < types_in page.now) }
-    requires noted { Noted (Found page.now) memo.old }
-    ensures value { result ≡ null_map_elision page.now a b }
-    ensures noted_2 { Noted (Found page.now) memo.new }
+// Whether of two maps the keys, and the values, have Null on a side, or are arrays, tuples or maps of which the same holds. One function
+// with the elision of arrays would test at each step which of the two it is, and the source has both by name.
+pub fn null_map_elision(store: Store, memo: &mut [u8], a: usize, b: usize) -> bool
+    requires a_bound { (a < types_in store.page.now) × (b < types_in store.page.now) }
+    requires noted { Noted (Found store.page.now) memo.old }
+    ensures value { result ≡ null_map_elision store.entry.page.now a b }
+    ensures noted_2 { Noted (Found store.entry.page.now) memo.new }
 {
-    if !are_maps(page, offsets, a, b) {
+    if !are_maps(store, a, b) {
         return false;
     }
     if recalls(memo, a, b, true) {
@@ -214,89 +170,73 @@ pub fn null_map_elision(page: &[u8], offsets: &[usize], memo: &mut [u8], a: usiz
     if recalls(memo, a, b, false) {
         return false;
     }
-    let mut i: usize = 0;
-    while i < 2 {
-        let x = child_of(page, offsets, a, i);
-        let y = child_of(page, offsets, b, i);
-        if !is_elided(page, offsets, memo, x, y) {
-            if !null_array_elision(page, offsets, memo, x, y) {
-                if !null_map_elision(page, offsets, memo, x, y) {
-                    note(memo, a, b, false);
-                    return false;
-                }
-            }
+    for i in 0..2 {
+        let x = store.child_of(a, i);
+        let y = store.child_of(b, i);
+        if !is_elided(store, memo, x, y)
+            && !null_array_elision(store, memo, x, y)
+            && !null_map_elision(store, memo, x, y)
+        {
+            note(memo, a, b, false);
+            return false;
         }
-        i += 1;
     }
     note(memo, a, b, true);
     true
 }
 
 // Whether a kind is const and the other its plain form, or for some the other way round; no child is looked at.
-pub fn const_matches(page: &[u8], offsets: &[usize], a: usize, b: usize) -> bool
-    requires held { Held page.now offsets.now }
-    requires a_bound { (a < types_in page.now) × (b < types_in page.now) }
-    ensures { result ≡ const_matches (kind_of page.now a) (kind_of page.now b) }
+pub fn const_matches(store: Store, a: usize, b: usize) -> bool
+    requires { (a < types_in store.page.now) × (b < types_in store.page.now) }
+    ensures { result ≡ const_matches (kind_of store.entry.page.now a) (kind_of store.entry.page.now b) }
 {
-    kinds::const_matches(kind_of(page, offsets, a), kind_of(page, offsets, b))
+    kinds::const_matches(store.kind_of(a), store.kind_of(b))
 }
 
 // Whether two records have the same name, const or not.
-pub fn record_matches(page: &[u8], offsets: &[usize], a: usize, b: usize) -> bool
-    requires held { Held page.now offsets.now }
-    requires a_bound { (a < types_in page.now) × (b < types_in page.now) }
-    ensures { result ≡ record_matches page.now a b }
+#[tactic(auto, unfolding(crate::specs::Matching::record_matches))]
+pub fn record_matches(store: Store, a: usize, b: usize) -> bool
+    requires { (a < types_in store.page.now) × (b < types_in store.page.now) }
+    ensures { result ≡ record_matches store.entry.page.now a b }
 {
-    if !kinds::is_record(kind_of(page, offsets, a)) {
-        return false;
-    }
-    if !kinds::is_record(kind_of(page, offsets, b)) {
-        return false;
-    }
-    name_of(page, offsets, a) == name_of(page, offsets, b)
+    kinds::is_record(store.kind_of(a))
+        && kinds::is_record(store.kind_of(b))
+        && store.name_of(a) == store.name_of(b)
 }
 
-// Whether two enums have the same name, const or not.
-pub fn enum_matches(page: &[u8], offsets: &[usize], a: usize, b: usize) -> bool
-    requires held { Held page.now offsets.now }
-    requires a_bound { (a < types_in page.now) × (b < types_in page.now) }
-    ensures { result ≡ enum_matches page.now a b }
+// Whether two enums have the same name, const or not. One function of both, handed the test of the kind, is no shorter than the two.
+#[tactic(auto, unfolding(crate::specs::Matching::enum_matches))]
+pub fn enum_matches(store: Store, a: usize, b: usize) -> bool
+    requires { (a < types_in store.page.now) × (b < types_in store.page.now) }
+    ensures { result ≡ enum_matches store.entry.page.now a b }
 {
-    if !kinds::is_enum(kind_of(page, offsets, a)) {
-        return false;
-    }
-    if !kinds::is_enum(kind_of(page, offsets, b)) {
-        return false;
-    }
-    name_of(page, offsets, a) == name_of(page, offsets, b)
+    kinds::is_enum(store.kind_of(a))
+        && kinds::is_enum(store.kind_of(b))
+        && store.name_of(a) == store.name_of(b)
 }
 
 // Whether two sets have equal elements, const or not.
-pub fn set_matches(page: &[u8], offsets: &[usize], a: usize, b: usize) -> bool
-    requires held { Held page.now offsets.now }
-    requires a_bound { (a < types_in page.now) × (b < types_in page.now) }
-    ensures { result ≡ set_matches page.now a b }
+#[tactic(auto, unfolding(crate::specs::Matching::set_matches))]
+pub fn set_matches(store: Store, a: usize, b: usize) -> bool
+    requires { (a < types_in store.page.now) × (b < types_in store.page.now) }
+    ensures { result ≡ set_matches store.entry.page.now a b }
 {
-    if !kinds::is_set(kind_of(page, offsets, a)) {
-        return false;
-    }
-    if !kinds::is_set(kind_of(page, offsets, b)) {
-        return false;
-    }
-    child_of(page, offsets, a, 0) == child_of(page, offsets, b, 0)
+    kinds::is_set(store.kind_of(a))
+        && kinds::is_set(store.kind_of(b))
+        && store.child_of(a, 0) == store.child_of(b, 0)
 }
 
 // Whether two handles have the same name, or either is HandleInfer.
-pub fn handle_matches(page: &[u8], offsets: &[usize], a: usize, b: usize) -> bool
-    requires held { Held page.now offsets.now }
-    requires a_bound { (a < types_in page.now) × (b < types_in page.now) }
-    ensures { result ≡ handle_matches page.now a b }
+#[tactic(auto, unfolding(crate::specs::Matching::handle_matches))]
+pub fn handle_matches(store: Store, a: usize, b: usize) -> bool
+    requires { (a < types_in store.page.now) × (b < types_in store.page.now) }
+    ensures { result ≡ handle_matches store.entry.page.now a b }
 {
-    let ka = kind_of(page, offsets, a);
-    let kb = kind_of(page, offsets, b);
+    let ka = store.kind_of(a);
+    let kb = store.kind_of(b);
     if ka == HANDLE {
         if kb == HANDLE {
-            return name_of(page, offsets, a) == name_of(page, offsets, b);
+            return store.name_of(a) == store.name_of(b);
         }
         return kb == HANDLE_INFER;
     }
@@ -304,58 +244,46 @@ pub fn handle_matches(page: &[u8], offsets: &[usize], a: usize, b: usize) -> boo
 }
 
 // Whether a type is Null, or either is a Generic.
-fn is_wild(page: &[u8], offsets: &[usize], a: usize, b: usize) -> bool
-    requires held { Held page.now offsets.now }
-    requires a_bound { (a < types_in page.now) × (b < types_in page.now) }
-    ensures { result ≡ wild page.now a b }
+#[tactic(auto, unfolding(crate::specs::Matching::wild))]
+fn is_wild(store: Store, a: usize, b: usize) -> bool
+    requires { (a < types_in store.page.now) × (b < types_in store.page.now) }
+    ensures { result ≡ wild store.entry.page.now a b }
 {
-    if a == NULL {
-        return true;
-    }
-    (kind_of(page, offsets, b) == GENERIC) | (kind_of(page, offsets, a) == GENERIC)
+    a == NULL || store.kind_of(b) == GENERIC || store.kind_of(a) == GENERIC
 }
 
 // Whether a type stands for another by a rule that looks at no child's children.
-fn flat_matches(page: &[u8], offsets: &[usize], a: usize, b: usize) -> bool
-    requires held { Held page.now offsets.now }
-    requires a_bound { (a < types_in page.now) × (b < types_in page.now) }
-    ensures { result ≡ flat_matches page.now a b }
+#[tactic(auto, unfolding(crate::specs::Matching::flat_matches))]
+fn flat_matches(store: Store, a: usize, b: usize) -> bool
+    requires { (a < types_in store.page.now) × (b < types_in store.page.now) }
+    ensures { result ≡ flat_matches store.entry.page.now a b }
 {
-    if const_matches(page, offsets, a, b) {
-        return true;
-    }
-    if record_matches(page, offsets, a, b) {
-        return true;
-    }
-    if enum_matches(page, offsets, a, b) {
-        return true;
-    }
-    if set_matches(page, offsets, a, b) {
-        return true;
-    }
-    handle_matches(page, offsets, a, b)
+    const_matches(store, a, b)
+        || record_matches(store, a, b)
+        || enum_matches(store, a, b)
+        || set_matches(store, a, b)
+        || handle_matches(store, a, b)
 }
 
 // Whether a Known type stands for a Function: Null, a Generic, or Fn.
-fn known_for_function(page: &[u8], offsets: &[usize], a: usize) -> bool
-    requires held { Held page.now offsets.now }
-    requires a_bound { a < types_in page.now }
-    ensures { result ≡ known_for_function page.now a }
+#[tactic(auto, unfolding(crate::specs::Matching::known_for_function))]
+fn known_for_function(store: Store, a: usize) -> bool
+    requires { a < types_in store.page.now }
+    ensures { result ≡ known_for_function store.entry.page.now a }
 {
-    let k = kind_of(page, offsets, a);
-    (a == NULL) | ((k == GENERIC) | (k == FN))
+    a == NULL || matches!(store.kind_of(a), GENERIC | FN)
 }
 
 // Whether a Function stands for a checked type: Unknown, a Generic, Fn, or a Function with the same parameters and return.
-fn function_matches(page: &[u8], offsets: &[usize], f: usize, expected: Checked) -> bool
-    requires held { Held page.now offsets.now }
-    requires expected_value { in_use page.now expected ≡ true }
-    ensures { result ≡ function_matches page.now f expected }
+#[tactic(auto, unfolding(crate::specs::Matching::function_matches, crate::specs::Matching::in_use))]
+fn function_matches(store: Store, f: usize, expected: Checked) -> bool
+    requires { in_use store.page.now expected ≡ true }
+    ensures { result ≡ function_matches store.entry.page.now f expected }
 {
     match expected {
         Checked::Unknown => true,
         Checked::Known(b) => {
-            let k = kind_of(page, offsets, b);
+            let k = store.kind_of(b);
             (k == GENERIC) | (k == FN)
         }
         Checked::Function(g) => f == g,
@@ -363,88 +291,70 @@ fn function_matches(page: &[u8], offsets: &[usize], f: usize, expected: Checked)
 }
 
 // Whether a type stands for another whatever their children are: they are equal, one of them is wild, or one is const.
-fn is_free(page: &[u8], offsets: &[usize], a: usize, b: usize) -> bool
-    requires held { Held page.now offsets.now }
-    requires a_bound { (a < types_in page.now) × (b < types_in page.now) }
-    ensures { result ≡ is_free page.now a b }
+#[tactic(auto, unfolding(crate::specs::Memo::is_free))]
+fn is_free(store: Store, a: usize, b: usize) -> bool
+    requires { (a < types_in store.page.now) × (b < types_in store.page.now) }
+    ensures { result ≡ is_free store.entry.page.now a b }
 {
-    if a == b {
-        return true;
-    }
-    is_wild(page, offsets, a, b) | const_matches(page, offsets, a, b)
+    a == b || is_wild(store, a, b) || const_matches(store, a, b)
 }
 
 // What is found of a pair whose expected type is no union: by elision, or by a rule that looks at no child's children.
-fn find(page: &[u8], offsets: &[usize], memo: &mut [u8], a: usize, b: usize) -> bool
-    requires held { Held page.now offsets.now }
-    requires a_bound { (a < types_in page.now) × (b < types_in page.now) × (is_union (kind_of page.now b) ≡ false) }
-    requires noted { Noted (Found page.now) memo.old }
-    ensures value { result ≡ found page.now a b }
-    ensures noted_2 { Noted (Found page.now) memo.new }
+fn find(store: Store, memo: &mut [u8], a: usize, b: usize) -> bool
+    requires a_bound { (a < types_in store.page.now) × (b < types_in store.page.now) × (is_union (kind_of store.page.now b) ≡ false) }
+    requires noted { Noted (Found store.page.now) memo.old }
+    ensures value { result ≡ found store.entry.page.now a b }
+    ensures noted_2 { Noted (Found store.entry.page.now) memo.new }
 {
-    if are_sequences(page, offsets, a, b) {
-        return null_array_elision(page, offsets, memo, a, b);
+    if are_sequences(store, a, b) {
+        return null_array_elision(store, memo, a, b);
     }
-    if are_maps(page, offsets, a, b) {
-        return null_map_elision(page, offsets, memo, a, b);
+    if are_maps(store, a, b) {
+        return null_map_elision(store, memo, a, b);
     }
-    let answer = flat_matches(page, offsets, a, b);
+    let answer = flat_matches(store, a, b);
     note(memo, a, b, answer);
     answer
 }
 
 // Whether it is known already that a type does not stand for another.
-fn is_refuted(page: &[u8], offsets: &[usize], memo: &[u8], a: usize, b: usize) -> bool
-    requires held { Held page.now offsets.now }
-    requires a_bound { (a < types_in page.now) × (b < types_in page.now) }
-    ensures { result ≡ is_refuted page.now memo.now a b }
+#[tactic(auto, unfolding(crate::specs::Memo::is_refuted, crate::specs::Memo::keeps))]
+fn is_refuted(store: Store, memo: &[u8], a: usize, b: usize) -> bool
+    requires { (a < types_in store.page.now) × (b < types_in store.page.now) }
+    ensures { result ≡ is_refuted store.entry.page.now memo.now a b }
 {
-    if !recalls(memo, a, b, false) {
-        return false;
-    }
-    if is_free(page, offsets, a, b) {
-        return false;
-    }
-    if !are_unions(page, offsets, a, b) {
-        return true;
-    }
-    marks::is_marked(memo, a, column_of(b, true))
+    recalls(memo, a, b, false)
+        && !is_free(store, a, b)
+        && (!are_unions(store, a, b) || marks::is_marked(memo, a, column_of(b, true)))
 }
 
 // Whether a checked type stands for another.
 #[cycle(any_matches_matches)]
-pub fn matches(
-    page: &[u8],
-    offsets: &[usize],
-    memo: &mut [u8],
-    actual: Checked,
-    expected: Checked,
-) -> bool
-    requires held { Held page.now offsets.now }
-    requires actual_value { (in_use page.now actual ≡ true) × (in_use page.now expected ≡ true) }
-    requires noted { Noted (Found page.now) memo.old }
-    ensures value { result ≡ matches page.now actual expected }
-    ensures noted_2 { Noted (Found page.now) memo.new }
+pub fn matches(store: Store, memo: &mut [u8], actual: Checked, expected: Checked) -> bool
+    requires actual_value { (in_use store.page.now actual ≡ true) × (in_use store.page.now expected ≡ true) }
+    requires noted { Noted (Found store.page.now) memo.old }
+    ensures value { result ≡ matches store.entry.page.now actual expected }
+    ensures noted_2 { Noted (Found store.entry.page.now) memo.new }
 {
     if let Checked::Unknown = expected {
         return true;
     }
     if let Checked::Function(f) = actual {
-        return function_matches(page, offsets, f, expected);
+        return function_matches(store, f, expected);
     }
     let Checked::Known(a) = actual else {
         return true;
     };
     let Checked::Known(b) = expected else {
-        return known_for_function(page, offsets, a);
+        return known_for_function(store, a);
     };
-    if is_free(page, offsets, a, b) {
+    if is_free(store, a, b) {
         return true;
     }
-    if !kinds::is_union(kind_of(page, offsets, b)) {
-        return find(page, offsets, memo, a, b);
+    if !kinds::is_union(store.kind_of(b)) {
+        return find(store, memo, a, b);
     }
-    if any_matches(page, offsets, memo, a, b) {
+    if any_matches(store, memo, a, b) {
         return true;
     }
     refute(memo, a, b);
@@ -452,64 +362,53 @@ pub fn matches(
 }
 
 // How many members a type has on the actual side, a union or not; what is no union is its own one member.
-fn members_of(page: &[u8], offsets: &[usize], a: usize, union: bool) -> usize
-    requires held { Held page.now offsets.now }
-    requires a_bound { (a < types_in page.now) × (union ≡ is_union (kind_of page.now a)) }
-    ensures { result ≡ members_of page.now a }
+#[tactic(auto, unfolding(crate::specs::Memo::members_of))]
+fn members_of(store: Store, a: usize, union: bool) -> usize
+    requires { (a < types_in store.page.now) × (union ≡ is_union (kind_of store.page.now a)) }
+    ensures { result ≡ members_of store.entry.page.now a }
 {
-    if union { arity(page, offsets, a) } else { 1 }
+    if union { store.arity(a) } else { 1 }
 }
 
 // Member i of a type on the actual side.
-fn member_of(page: &[u8], offsets: &[usize], a: usize, union: bool, i: usize) -> usize
-    requires held { Held page.now offsets.now }
-    requires a_bound { (a < types_in page.now) × (union ≡ is_union (kind_of page.now a)) × (i < members_of page.now a) }
-    ensures { (result ≡ member_of page.now a i) × (result ≤ a) }
+#[tactic(auto, unfolding(crate::specs::Memo::member_of, crate::specs::Memo::members_of))]
+fn member_of(store: Store, a: usize, union: bool, i: usize) -> usize
+    requires { (a < types_in store.page.now) × (union ≡ is_union (kind_of store.page.now a)) × (i < members_of store.page.now a) }
+    ensures { (result ≡ member_of store.entry.page.now a i) × (result ≤ a) }
 {
-    if union {
-        child_of(page, offsets, a, i)
-    } else {
-        a
-    }
+    if union { store.child_of(a, i) } else { a }
 }
 
 // Whether a type stands for a union: if every member of its own stands for some expected one.
 #[cycle(any_matches_matches)]
-pub fn any_matches(page: &[u8], offsets: &[usize], memo: &mut [u8], a: usize, b: usize) -> bool
-    requires held { Held page.now offsets.now × Noted (Found page.now) memo.old }
-    requires a_bound { (a < types_in page.now) × (b < types_in page.now) }
-    ensures { (result ≡ any_matches page.now a b) × Noted (Found page.now) memo.new }
+pub fn any_matches(store: Store, memo: &mut [u8], a: usize, b: usize) -> bool
+    requires noted { Noted (Found store.page.now) memo.old }
+    requires a_bound { (a < types_in store.page.now) × (b < types_in store.page.now) }
+    ensures { (result ≡ any_matches store.entry.page.now a b) × Noted (Found store.entry.page.now) memo.new }
 {
-    if !kinds::is_union(kind_of(page, offsets, b)) {
+    if !kinds::is_union(store.kind_of(b)) {
         return false;
     }
-    let union = kinds::is_union(kind_of(page, offsets, a));
-    let actual = members_of(page, offsets, a, union);
-    let expected = arity(page, offsets, b);
-    let mut i: usize = 0;
-    'members: while i < actual {
-        let m = member_of(page, offsets, a, union, i);
-        if !recalls(memo, m, b, true) {
-            if recalls(memo, m, b, false) {
-                break 'members;
-            }
-            let mut j: usize = 0;
-            loop {
-                if j == expected {
-                    note(memo, m, b, false);
-                    break 'members;
-                }
-                let e = child_of(page, offsets, b, j);
-                if !is_refuted(page, offsets, memo, m, e) {
-                    if matches(page, offsets, memo, Checked::Known(m), Checked::Known(e)) {
-                        break;
-                    }
-                }
-                j += 1;
-            }
-            note(memo, m, b, true);
+    let union = kinds::is_union(store.kind_of(a));
+    'members: for i in 0..members_of(store, a, union) {
+        let m = member_of(store, a, union, i);
+        if recalls(memo, m, b, true) {
+            continue;
         }
-        i += 1;
+        if recalls(memo, m, b, false) {
+            return false;
+        }
+        for j in 0..store.arity(b) {
+            let e = store.child_of(b, j);
+            if !is_refuted(store, memo, m, e)
+                && matches(store, memo, Checked::Known(m), Checked::Known(e))
+            {
+                note(memo, m, b, true);
+                continue 'members;
+            }
+        }
+        note(memo, m, b, false);
+        return false;
     }
-    i == actual
+    true
 }

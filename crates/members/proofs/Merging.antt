@@ -1,4 +1,5 @@
 -- Results merged, and their union: one law for each return. Assumes nothing.
+use Rattle.std.proofs.Common.{Ok, Err}
 use mathlib.Core.Path.{◌≡◌, refl, sym, ◌∙◌, ap}
 use mathlib.Core.Bool.{Bool, true, false, ◌||◌}
 use mathlib.Core.List.{List, [], ◌∷◌, ◌++◌}
@@ -15,7 +16,6 @@ use Rattle.kinds.specs.Kinds.{children_max, any}
 use Rattle.types.specs.Types.{types_in, Measured}
 use Rattle.types.specs.Making.{entry_of, Ready, enter_answer, enter_page}
 use Rattle.types.specs.Calls.{all_below}
-use Rattle.types.specs.declared.Made.{Made}
 use Rattle.members.specs.Members.{members_max, has, merged, entered, union_of}
 use Rattle.members.proofs.Unions.{union_enterable}
 
@@ -75,12 +75,12 @@ module _ (types : List ℕ) (n t : ℕ) (size : length types ≡ members_max) (l
 -- ---- the union of results
 
 module _ (page : List ℕ) where
-  pub union_one : (types : List ℕ) (n : ℕ) → n ≡ 1 → n ≤ length types → entered (Made.At (get_or types 0 0)) page ≡ union_of page (take n types)
+  pub union_one : (types : List ℕ) (n : ℕ) → n ≡ 1 → n ≤ length types → entered (Ok (get_or types 0 0)) page ≡ union_of page (take n types)
   unfolding union_of
   union_one [] n e l = absurd (omega arith)
   union_one (t ∷ types) n e l = rw e refl
 
-  pub union_wide : (ts : List ℕ) → children_max < length ts → entered (Made.Refused Width) page ≡ union_of page ts
+  pub union_wide : (ts : List ℕ) → children_max < length ts → entered (Err Width) page ≡ union_of page ts
   unfolding union_of
   union_wide [] h = absurd (omega arith)
   union_wide (t ∷ []) h = absurd (omega arith)

@@ -1,5 +1,6 @@
 -- The union of results: it leaves a store in form that has grown (`union_sound`), and a union made once is found again in every
 -- store that grows out of the one it left (`union_again`). Assumes nothing.
+use Rattle.std.proofs.Common.{Result, Ok, Err}
 use mathlib.Core.Path.{◌≡◌, refl, ap, ap₂}
 use mathlib.Core.Bool.{Bool, true, false, cond}
 use mathlib.Core.List.{List, [], ◌∷◌, ◌++◌}
@@ -10,16 +11,15 @@ use lib.ListN.{length}
 use borrow.Author.Tests.{lt-ltb, ltb-true, ltb-false, le-leb}
 use Rattle.refusals.specs.declared.Refusal.{Refusal}
 use Rattle.refusals.specs.declared.Refusal.TheVariants.{Width}
-use Rattle.refusals.specs.Lowest.{unless_refused}
-use Rattle.refusals.specs.declared.Verdict.{Verdict}
+use Rattle.refusals.specs.Lowest.{unless_refused, answer_of}
+use Rattle.refusals.specs.Numbers.{Verdict}
 use Rattle.pages.specs.Bytes.{count_of}
 use Rattle.pages.proofs.Quant.{and_true}
 use Rattle.kinds.specs.Kinds.{fixed_max, children_max, any, fewest, most}
 use Rattle.types.specs.Store.{equal_to, Formed}
 use Rattle.types.specs.Types.{types_in}
-use Rattle.types.specs.Making.{entry_of, is_made, Enterable, enter_verdict, numbered, enter_answer, with_entry, enter_page, Grows}
+use Rattle.types.specs.Making.{entry_of, is_made, Enterable, enter_verdict, enter_answer, with_entry, enter_page, Grows}
 use Rattle.types.specs.Calls.{all_below}
-use Rattle.types.specs.declared.Made.{Made}
 use Rattle.types.proofs.Grown.{grows_refl}
 use Rattle.types.proofs.Entries.{entry_whole, entry_parts}
 use Rattle.types.proofs.Again.{at_inj, enter_grows, enter_used, enter_again}
@@ -62,18 +62,18 @@ merged_some r (x ∷ rs) = go (has r (x ∷ rs))
 pub record Sound (page : List ℕ) (o : Entered) : Type 0 where
   pub grown : Grows page o.store
   pub form : Formed o.store
-  pub used : (r : ℕ) → o.made ≡ Made.At r → r < types_in o.store
+  pub used : (r : ℕ) → o.made ≡ Ok r → r < types_in o.store
 
 -- what was refused has no number
-pub refused_not : (q : Refusal) (r : ℕ) → Made.Refused q ≡ Made.At r → ⊥
+pub refused_not : (q : Refusal) (r : ℕ) → ◌≡◌ {A = Result ℕ Refusal} (Err q) (Ok r) → ⊥
 refused_not q r e = let z : ◌≡◌ {A = ℕ} 0 1 = cc in omega arith
 
-pub itself : (page : List ℕ) (x : ℕ) → Formed page → x < types_in page → Sound page (entered (Made.At x) page)
+pub itself : (page : List ℕ) (x : ℕ) → Formed page → x < types_in page → Sound page (entered (Ok x) page)
 itself page x f l = record { grown = grows_refl page; form = f; used = λ r e. rw (← at_inj x r e) l }
 
 -- what a check came to in a store s is found again, under its number, in every store that grows out of the one it left
 abbrev pub Again : (List ℕ → Entered) → List ℕ → Type 0
-Again f s = (r : ℕ) → (f s).made ≡ Made.At r → (q : List ℕ) → Grows (f s).store q → Formed q → f q ≡ entered (Made.At r) q
+Again f s = (r : ℕ) → (f s).made ≡ Ok r → (q : List ℕ) → Grows (f s).store q → Formed q → f q ≡ entered (Ok r) q
 
 -- ---- a union of results
 
@@ -98,7 +98,7 @@ module _ (s : List ℕ) (f : Formed s) where
       entry = entry_of any (x ∷ y ∷ rs) 0
 
       go : (b : Bool) → ltb children_max (length (x ∷ y ∷ rs)) ≡ b
-          → Sound s (cond b (entered (Made.Refused Width) s) (entered (enter_answer s entry) (enter_page s entry)))
+          → Sound s (cond b (entered (Err Width) s) (entered (enter_answer s entry) (enter_page s entry)))
       go true e = record { grown = grows_refl s; form = f; used = λ r h. absurd (refused_not Width r h) }
       go false e =
           let n = union_enterable s (x ∷ y ∷ rs) f (ltb-false children_max (length (x ∷ y ∷ rs)) e) u in
@@ -107,17 +107,17 @@ module _ (s : List ℕ) (f : Formed s) where
 
   pub union_again : (rs : List ℕ) → all_below (types_in s) rs ≡ true → Again (λ x. union_of x rs) s
   unfolding union_of
-  union_again [] u r h q g fq = ap (λ (x : Made). entered x q) h
-  union_again (x ∷ []) u r h q g fq = ap (λ (m : Made). entered m q) h
+  union_again [] u r h q g fq = ap (λ (x : Result ℕ Refusal). entered x q) h
+  union_again (x ∷ []) u r h q g fq = ap (λ (m : Result ℕ Refusal). entered m q) h
   union_again (x ∷ y ∷ rs) u r h q g fq = go (ltb children_max (length (x ∷ y ∷ rs))) refl h g
     where
       entry : List ℕ
       entry = entry_of any (x ∷ y ∷ rs) 0
 
       go : (b : Bool) → ltb children_max (length (x ∷ y ∷ rs)) ≡ b
-          → (cond b (entered (Made.Refused Width) s) (entered (enter_answer s entry) (enter_page s entry))).made ≡ Made.At r
-          → Grows (cond b (entered (Made.Refused Width) s) (entered (enter_answer s entry) (enter_page s entry))).store q
-          → cond b (entered (Made.Refused Width) q) (entered (enter_answer q entry) (enter_page q entry)) ≡ entered (Made.At r) q
+          → (cond b (entered (Err Width) s) (entered (enter_answer s entry) (enter_page s entry))).made ≡ Ok r
+          → Grows (cond b (entered (Err Width) s) (entered (enter_answer s entry) (enter_page s entry))).store q
+          → cond b (entered (Err Width) q) (entered (enter_answer q entry) (enter_page q entry)) ≡ entered (Ok r) q
       go true e k w = absurd (refused_not Width r k)
       go false e k w =
           let n = union_enterable s (x ∷ y ∷ rs) f (ltb-false children_max (length (x ∷ y ∷ rs)) e) u in
@@ -126,16 +126,16 @@ module _ (s : List ℕ) (f : Formed s) where
 
 -- ---- a union that is refused changes nothing
 
-enter_refused : (s entry : List ℕ) (q : Refusal) → enter_answer s entry ≡ Made.Refused q → enter_page s entry ≡ s
+enter_refused : (s entry : List ℕ) (q : Refusal) → enter_answer s entry ≡ Err q → enter_page s entry ≡ s
 unfolding enter_answer enter_page
 enter_refused s entry q = go (enter_verdict s entry)
   where
-    go : (v : Verdict) → numbered v (fixed_max + equal_to s (count_of s) entry) ≡ Made.Refused q
+    go : (v : Verdict) → answer_of v (fixed_max + equal_to s (count_of s) entry) ≡ Err q
         → unless_refused v (cond (is_made s entry) s (with_entry s entry)) s ≡ s
-    go Verdict.Passed e = absurd (let z : ◌≡◌ {A = ℕ} 0 1 = cc in omega arith)
-    go (Verdict.Refused r) e = refl
+    go (Ok _) e = absurd (let z : ◌≡◌ {A = ℕ} 0 1 = cc in omega arith)
+    go (Err r) e = refl
 
-pub union_refused : (s rs : List ℕ) (q : Refusal) → (union_of s rs).made ≡ Made.Refused q → (union_of s rs).store ≡ s
+pub union_refused : (s rs : List ℕ) (q : Refusal) → (union_of s rs).made ≡ Err q → (union_of s rs).store ≡ s
 unfolding union_of
 union_refused s [] q e = refl
 union_refused s (x ∷ []) q e = refl
@@ -144,7 +144,7 @@ union_refused s (x ∷ y ∷ rs) q e = go (ltb children_max (length (x ∷ y ∷
     entry : List ℕ
     entry = entry_of any (x ∷ y ∷ rs) 0
 
-    go : (b : Bool) → (cond b (entered (Made.Refused Width) s) (entered (enter_answer s entry) (enter_page s entry))).made ≡ Made.Refused q
-        → (cond b (entered (Made.Refused Width) s) (entered (enter_answer s entry) (enter_page s entry))).store ≡ s
+    go : (b : Bool) → (cond b (entered (Err Width) s) (entered (enter_answer s entry) (enter_page s entry))).made ≡ Err q
+        → (cond b (entered (Err Width) s) (entered (enter_answer s entry) (enter_page s entry))).store ≡ s
     go true k = refl
     go false k = enter_refused s entry q k

@@ -1,14 +1,14 @@
 -- The members of a type: "For a union operand every pair of members (a Function has none), flattened one level" (document 01,
 -- "Answers"); and the union of several types.
-use Rattle.std.specs.Prelude.{Bool, false, ◌||◌, cond, List, [], ◌∷◌, ◌++◌, ℕ, zero, suc, ◌*◌, eqb, ltb, length, get_or}
+use Rattle.operators.specs.declared.Outcome.{Outcome}
+use Rattle.refusals.specs.declared.Refusal.{Refusal}
+use Rattle.std.specs.Prelude.{Bool, false, ◌||◌, cond, List, [], ◌∷◌, ◌++◌, ℕ, zero, suc, ◌*◌, eqb, ltb, length, get_or, Result, Ok, Err}
 use Rattle.refusals.specs.declared.Refusal.TheVariants.{Width}
 use Rattle.kinds.specs.Kinds.{children_max, any, is_union}
 use Rattle.types.specs.Types.{kind_of, arity, child_of}
 use Rattle.types.specs.Making.{entry_of, enter_answer, enter_page}
-use Rattle.types.specs.declared.Made.{Made}
 use Rattle.matching.specs.declared.Checked.TheVariants.{Known}
 use Rattle.operators.specs.Outcome.{no_error, outcome}
-use Rattle.members.specs.declared.Conclusion.{Conclusion}
 
 -- how many members a type has at most
 abbrev pub members_max : ℕ
@@ -50,31 +50,31 @@ merged t results = cond (has t results) results (results ++ (t ∷ []))
 
 -- what entering a type came to, and the store afterwards
 pub record Entered : Type 0 where
-  pub made : Made
+  pub made : Result ℕ Refusal
   pub store : List ℕ
 
-abbrev pub entered : Made → List ℕ → Entered
+abbrev pub entered : Result ℕ Refusal → List ℕ → Entered
 entered m s = record { made = m; store = s }
 
 -- one result stays itself; several make a union, refused where it is "wider than 16". Where there is none nothing is entered: a check
 -- without a result has an error
 unfoldable pub union_of : List ℕ → List ℕ → Entered
-union_of store [] = entered (Made.At 0) store
-union_of store (t ∷ []) = entered (Made.At t) store
+union_of store [] = entered (Ok 0) store
+union_of store (t ∷ []) = entered (Ok t) store
 union_of store (t ∷ u ∷ ts) =
-    cond (ltb children_max (length (t ∷ u ∷ ts))) (entered (Made.Refused Width) store)
+    cond (ltb children_max (length (t ∷ u ∷ ts))) (entered (Err Width) store)
     (entered (enter_answer store (entry_of any (t ∷ u ∷ ts) 0)) (enter_page store (entry_of any (t ∷ u ∷ ts) 0)))
 
 -- ---- a check's conclusion, and the store afterwards
 
 pub record Concluded : Type 0 where
-  pub conclusion : Conclusion
+  pub conclusion : Result Outcome Refusal
   pub store : List ℕ
 
-abbrev pub concluded : Conclusion → List ℕ → Concluded
+abbrev pub concluded : Result Outcome Refusal → List ℕ → Concluded
 concluded c s = record { conclusion = c; store = s }
 
 -- the type that was entered, without an error, or the refusal
-abbrev pub conclude : Made → Conclusion
-conclude (Made.At t) = Conclusion.Is (outcome (Known t) no_error)
-conclude (Made.Refused r) = Conclusion.Refused r
+abbrev pub conclude : Result ℕ Refusal → Result Outcome Refusal
+conclude (Ok t) = Ok (outcome (Known t) no_error)
+conclude (Err r) = Err r

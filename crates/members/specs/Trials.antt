@@ -1,11 +1,11 @@
 -- The trials of a union's members: "every pair of members .. is tried by the operator's own rule" (document 01, "Answers").
-use Rattle.std.specs.Prelude.{Bool, cond, List, ℕ, zero, suc, ◌+◌, eqb, ltb, length}
-use Rattle.operators.specs.Outcome.{no_error, one_error, some_fail, outcome, number_of, passes, no_member}
+use Rattle.std.specs.Prelude.{Bool, cond, List, ℕ, zero, suc, ◌+◌, eqb, ltb, length, Ok}
+use Rattle.operators.specs.Outcome.{no_error, one_error, some_fail, outcome, number_of, passes, count_of}
+use Rattle.operators.specs.declared.Reason.TheVariants.{NoMember}
 use Rattle.operators.specs.declared.Errors.{Errors}
 use Rattle.operators.specs.declared.Outcome.{Outcome}
 use Rattle.matching.specs.declared.Checked.TheVariants.{Unknown}
 use Rattle.members.specs.Members.{merged, union_of, Concluded, concluded, conclude}
-use Rattle.members.specs.declared.Conclusion.{Conclusion}
 
 -- step 0, step 1, up to n of them, one after the other
 unfoldable pub fold_to : {A : Type 0} → ℕ → (ℕ → A → A) → A → A
@@ -33,7 +33,7 @@ failed_at x y f = cond (eqb f.count 0) (failures 1 x y) (failures (f.count + 1) 
 -- the errors of a union's check, where some member passes or none does: 7 some members fail; 8 there is none, since none fails and
 -- none passes
 unfoldable pub errors_of : Failures → Bool → Errors
-errors_of f some_passes = cond (eqb f.count 0) (cond some_passes no_error (one_error no_member)) (some_fail f.count f.left f.right)
+errors_of f some_passes = cond (eqb f.count 0) (cond some_passes no_error (one_error NoMember)) (some_fail f.count f.left f.right)
 
 -- ---- failures, and the distinct results in order
 
@@ -56,5 +56,5 @@ errors_in q = errors_of q.failed (ltb 0 (length q.results))
 -- what they come to: with an error Unknown, else the one result or the union of several, which enters the store
 unfoldable pub settled : List ℕ → Tried → Concluded
 settled page q =
-    cond (eqb (errors_in q).count 0) (concluded (conclude (union_of page q.results).made) (union_of page q.results).store)
-    (concluded (Conclusion.Is (outcome Unknown (errors_in q))) page)
+    cond (eqb (count_of (errors_in q)) 0) (concluded (conclude (union_of page q.results).made) (union_of page q.results).store)
+    (concluded (Ok (outcome Unknown (errors_in q))) page)

@@ -12,27 +12,10 @@ ghost use Rattle.members.specs.Leaves.{key_of, key_in, leaf_of, Leaves};
 use kinds::{ANY, CHILDREN, Kind};
 use operators::Outcome;
 use refusals::Refusal;
-use types::{Made, NULL, TYPES, arity, child_of, enter_type, kind_of, set_type};
+use types::{NULL, Store, Tables, enter_type, set_type};
 
 // How many members a type has at most.
-const MEMBERS: usize = CHILDREN * CHILDREN;
-
-// What a check comes to, or why the union that it answers is refused.
-#[derive(Clone, Copy)]
-pub enum Conclusion {
-    Is(Outcome),
-    Refused(Refusal),
-}
-
-// Places for members.
-type Members = [u16; MEMBERS];
-
-// No member yet.
-pub fn no_members() -> Members
-    ensures { result ≡ replicate members_max 0 }
-{
-    [0; MEMBERS]
-}
+pub const MEMBERS: usize = CHILDREN * CHILDREN;
 
 // The type at a place.
 pub fn member_at(types: &[u16], i: usize) -> usize
@@ -43,42 +26,34 @@ pub fn member_at(types: &[u16], i: usize) -> usize
 }
 
 // Writes down, from place n on, what child x of a union gives. Says where that ends.
-fn add_share(page: &[u8], offsets: &[usize], x: usize, types: &mut [u16], n: usize) -> usize
-    requires held { Held page.now offsets.now }
-    requires x_bound { x < types_in page.now }
-    requires x_in_bounds { n + length (share_of page.now x) ≤ length types.old }
-    ensures { (result ≡ n + length (share_of page.now x)) × (types.new ≡ put types.old n (share_of page.now x)) }
+fn add_share(store: Store, x: usize, types: &mut [u16], n: usize) -> usize
+    requires x_bound { x < types_in store.page.now }
+    requires x_in_bounds { n + length (share_of store.page.now x) ≤ length types.old }
+    ensures { (result ≡ n + length (share_of store.entry.page.now x)) × (types.new ≡ put types.old n (share_of store.entry.page.now x)) }
 {
-    if !kinds::is_union(kind_of(page, offsets, x)) {
+    if !kinds::is_union(store.kind_of(x)) {
         set_type(types, n, x);
         return n + 1;
     }
-    let k = arity(page, offsets, x);
-    let mut i: usize = 0;
-    while i < k {
-        set_type(types, n + i, child_of(page, offsets, x, i));
-        i += 1;
+    let k = store.arity(x);
+    for i in 0..k {
+        set_type(types, n + i, store.child_of(x, i));
     }
     n + k
 }
 
 // Writes down the members of a type, and says how many they are; what stands after them is left free.
-pub fn flatten(page: &[u8], offsets: &[usize], t: usize, types: &mut [u16]) -> usize
-    requires held { Held page.now offsets.now }
-    requires t_bound { (t < types_in page.now) × (length types.old ≡ members_max) }
-    ensures { (result ≡ length (members_of page.now t)) × (result ≤ members_max) × (take result types.new ≡ members_of page.now t) × (length types.new ≡ members_max) }
+pub fn flatten(store: Store, t: usize, types: &mut [u16]) -> usize
+    requires { (t < types_in store.page.now) × (length types.old ≡ members_max) }
+    ensures { (result ≡ length (members_of store.entry.page.now t)) × (result ≤ members_max) × (take result types.new ≡ members_of store.entry.page.now t) × (length types.new ≡ members_max) }
 {
-    if !kinds::is_union(kind_of(page, offsets, t)) {
+    if !kinds::is_union(store.kind_of(t)) {
         set_type(types, 0, t);
         return 1;
     }
-    let k = arity(page, offsets, t);
-    let mut n: usize = 0;
-    let mut i: usize = 0;
-    while i < k {
-        let child = child_of(page, offsets, t, i);
-        n = add_share(page, offsets, child, types, n);
-        i += 1;
+    let mut n = 0;
+    for i in 0..store.arity(t) {
+        n = add_share(store, store.child_of(t, i), types, n);
     }
     n
 }
@@ -88,12 +63,10 @@ fn is_among(types: &[u16], n: usize, t: usize) -> bool
     requires { n ≤ length types.now }
     ensures { result ≡ has t (take n types.now) }
 {
-    let mut i: usize = 0;
-    while i < n {
+    for i in 0..n {
         if member_at(types, i) == t {
             return true;
         }
-        i += 1;
     }
     false
 }
@@ -113,36 +86,33 @@ pub fn merge(types: &mut [u16], n: usize, t: usize) -> usize
 // The union of the first n results, entered; one result stays itself.
 pub fn enter_union(
     page: &mut [u8],
-    offsets: &mut [usize],
-    depths: &mut [u8],
+    tables: &mut Tables,
     types: &[u16],
     n: usize,
-) -> Made
-    requires measured { Measured page.old offsets.old depths.old }
+) -> Result<usize, Refusal>
+    requires measured { Measured page.old tables.old.offsets tables.old.depths }
     requires n_nonzero { (0 < n) × (n ≤ length types.now) × (all_below (types_in page.old) (take n types.now) ≡ true) }
     ensures page_after { entered result page.new ≡ union_of page.old (take n types.now) }
-    ensures measured_2 { Measured page.new offsets.new depths.new }
+    ensures measured_2 { Measured page.new tables.new.offsets tables.new.depths }
 {
     if n == 1 {
-        return Made::At(member_at(types, 0));
+        return Ok(member_at(types, 0));
     }
     if CHILDREN < n {
-        return Made::Refused(Refusal::Width);
+        return Err(Refusal::Width);
     }
-    enter_type(page, offsets, depths, ANY, &types[0..n], 0)
+    enter_type(page, tables, ANY, &types[..n], 0)
 }
 
 // The type that was entered, without an error, or the refusal.
-pub fn conclusion_of(made: Made) -> Conclusion
+pub fn conclusion_of(made: Result<usize, Refusal>) -> Result<Outcome, Refusal>
     ensures { result ≡ conclude made }
 {
-    match made {
-        Made::At(t) => Conclusion::Is(operators::known(t)),
-        Made::Refused(r) => Conclusion::Refused(r),
-    }
+    made.map(operators::known)
 }
 
 // The key of a kind.
+#[tactic(auto, unfolding(crate::specs::Leaves::key_of))]
 fn key_of(unary: bool, k: Kind) -> usize
     ensures { result ≡ key_of unary k }
 {
@@ -153,12 +123,11 @@ fn key_of(unary: bool, k: Kind) -> usize
 }
 
 // The key of a type that is no union.
-fn key_in(page: &[u8], offsets: &[usize], unary: bool, t: usize) -> usize
-    requires held { Held page.now offsets.now }
-    requires t_bound { t < types_in page.now }
-    ensures { result ≡ key_in unary page.now t }
+fn key_in(store: Store, unary: bool, t: usize) -> usize
+    requires { t < types_in store.page.now }
+    ensures { result ≡ key_in unary store.entry.page.now t }
 {
-    key_of(unary, kind_of(page, offsets, t))
+    key_of(unary, store.kind_of(t))
 }
 
 // The leaf that stands for a type, as the table has it.
@@ -170,55 +139,38 @@ pub fn leaf_at(leaves: &[u16], t: usize) -> usize
 }
 
 // The leaf that stands for a type, where the table has those of the types below.
-fn leaf_of(page: &[u8], offsets: &[usize], leaves: &[u16], unary: bool, t: usize) -> usize
-    requires held { Held page.now offsets.now }
-    requires t_bound { t < types_in page.now }
-    requires leaves { Leaves unary page.now leaves.now t }
-    ensures { (result ≡ leaf_of unary page.now t) × (result ≤ t) }
+fn leaf_of(store: Store, leaves: &[u16], unary: bool, t: usize) -> usize
+    requires t_bound { t < types_in store.page.now }
+    requires leaves { Leaves unary store.page.now leaves.now t }
+    ensures { (result ≡ leaf_of unary store.entry.page.now t) × (result ≤ t) }
 {
-    if !kinds::is_union(kind_of(page, offsets, t)) {
+    if !kinds::is_union(store.kind_of(t)) {
         return t;
     }
-    let mut types = no_members();
-    let n = flatten(page, offsets, t, &mut types);
+    let mut types = [0; MEMBERS];
+    let n = flatten(store, t, &mut types);
     if n == 0 {
         return NULL;
     }
     let first = leaf_at(leaves, member_at(&types, 0));
-    let key = key_in(page, offsets, unary, first);
-    let mut i: usize = 0;
-    while i < n {
+    let key = key_in(store, unary, first);
+    for i in 0..n {
         let leaf = leaf_at(leaves, member_at(&types, i));
-        if key_in(page, offsets, unary, leaf) != key {
+        if key_in(store, unary, leaf) != key {
             return NULL;
         }
-        i += 1;
     }
     first
 }
 
-// A leaf for each type.
-type LeafTable = [u16; TYPES];
-
-// No leaf yet.
-pub fn no_leaves() -> LeafTable
-    ensures { result ≡ replicate types_max 0 }
-{
-    [0; TYPES]
-}
-
 // Writes down the leaves of all types from `from` on, those below being there; what stands behind them stays.
-pub fn fill_leaves(page: &[u8], offsets: &[usize], leaves: &mut [u16], unary: bool, from: usize)
-    requires held { Held page.now offsets.now }
-    requires from_bound { (from ≤ types_in page.now) × (Leaves unary page.now leaves.old from) }
-    ensures leaves { Leaves unary page.now leaves.new (types_in page.now) }
-    ensures leaves_unchanged { drop (types_in page.now) leaves.new ≡ drop (types_in page.now) leaves.old }
+pub fn fill_leaves(store: Store, leaves: &mut [u16], unary: bool, from: usize)
+    requires { (from ≤ types_in store.page.now) × (Leaves unary store.page.now leaves.old from) }
+    ensures leaves { Leaves unary store.entry.page.now leaves.new (types_in store.entry.page.now) }
+    ensures leaves_unchanged { drop (types_in store.entry.page.now) leaves.new ≡ drop (types_in store.entry.page.now) leaves.old }
 {
-    let n = types::count(page);
-    let mut t: usize = from;
-    while t < n {
-        let leaf = leaf_of(page, offsets, leaves, unary, t);
+    for t in from..store.count() {
+        let leaf = leaf_of(store, leaves, unary, t);
         set_type(leaves, t, leaf);
-        t += 1;
     }
 }

@@ -1,4 +1,5 @@
 -- What the calls on a table of names come to, one law for each return. Assumes nothing.
+use Rattle.std.proofs.Common.{Some, None, Ok, Err}
 use mathlib.Core.Path.{◌≡◌, refl, sym, ◌∙◌, ap}
 use mathlib.Core.Bool.{Bool, true, false, ◌&&◌, not, cond}
 use mathlib.Core.List.{List, [], ◌∷◌}
@@ -11,17 +12,15 @@ use lib.Dec.{leb}
 use borrow.Author.Tests.{le-leb, lt-leb, lt-ltb, le-ltb, leb-true, not-false}
 use Rattle.refusals.specs.declared.Refusal.{Refusal}
 use Rattle.refusals.specs.declared.Refusal.TheVariants.{Broken, Unused, Malformed, Full}
-use Rattle.refusals.specs.declared.Verdict.TheVariants.{Passed, Refused}
 use Rattle.refusals.specs.Lowest.{◌when◌}
 use Rattle.refusals.proofs.Lowest.{first_holds}
+use Rattle.pages.specs.Pad.{padded}
 use Rattle.pages.specs.Quant.{all_to}
 use Rattle.pages.specs.Bytes.{zeros, count_bytes, count_of, bytes_of, put}
 use Rattle.pages.proofs.Quant.{all_at, and_true}
 use Rattle.pages.proofs.Put.{put_cons, put_length}
 use Rattle.names.specs.Table.{names_max, name_max, well_named, offset, name_at, number_of, good_at, formed}
-use Rattle.names.specs.Calls.{lent_broken, used_of, is_used, empty_verdict, empty_page, is_known, roomy, with_name, add_verdict, add_answer, page_after, find_verdict, find_answer, read_verdict, read_answer, name_of, no_name}
-use Rattle.names.specs.declared.Added.{Added}
-use Rattle.names.specs.declared.Found.{Found}
+use Rattle.names.specs.Calls.{lent_broken, used_of, is_used, empty_verdict, empty_page, is_known, roomy, with_name, add_verdict, add_answer, page_after, find_verdict, find_answer, read_verdict, read_answer}
 
 -- ---- a table in form
 
@@ -101,11 +100,11 @@ module _ (names : List ℕ) (lent : Bool) where
   used_unlent e = (rw e, le_refl names_max)
 
 module _ (page : List ℕ) where
-  pub empty_short : length page < count_bytes → (Refused Broken ≡ empty_verdict page) × (page ≡ empty_page page)
+  pub empty_short : length page < count_bytes → (Err Broken ≡ empty_verdict page) × (page ≡ empty_page page)
   unfolding empty_verdict empty_page
   empty_short h = (rw (lt-ltb (length page) count_bytes h), rw (lt-ltb (length page) count_bytes h))
 
-  pub empty_made : count_bytes ≤ length page → (Passed ≡ empty_verdict page) × (replicate (length page) 0 ≡ empty_page page)
+  pub empty_made : count_bytes ≤ length page → (Ok tt ≡ empty_verdict page) × (replicate (length page) 0 ≡ empty_page page)
   unfolding empty_verdict empty_page
   empty_made h = (rw (le-ltb (length page) count_bytes h), rw (le-ltb (length page) count_bytes h))
 
@@ -115,50 +114,50 @@ one_byte : (l : List ℕ) (at x : ℕ) → at + 1 ≤ length l → set l at x �
 one_byte l at x h = ap (λ (r : List ℕ). set r at x) (paste-zero l (at + 1) []) ∙ put_cons l at x [] (omega arith)
 
 module _ (limit : ℕ) (page name : List ℕ) where
-  refused_add : (r : Refusal) → add_verdict limit page name ≡ Refused r → (Added.Refused r ≡ add_answer limit page name) × (page ≡ page_after limit page name)
+  refused_add : (r : Refusal) → add_verdict limit page name ≡ Err r → (Err r ≡ add_answer limit page name) × (page ≡ page_after limit page name)
   unfolding add_answer page_after
   refused_add r v = (rw v, rw v)
 
-  passed_add : (known : Bool) → is_known page name ≡ known → add_verdict limit page name ≡ Passed
-      → (Added.At (number_of page (count_of page) name) ≡ add_answer limit page name) × (cond known page (with_name page name) ≡ page_after limit page name)
+  passed_add : (known : Bool) → is_known page name ≡ known → add_verdict limit page name ≡ Ok tt
+      → (Ok (number_of page (count_of page) name) ≡ add_answer limit page name) × (cond known page (with_name page name) ≡ page_after limit page name)
   unfolding add_answer page_after
   passed_add known k v = (rw v, rw (v, k))
 
-  pub add_broken : formed page ≡ false → (Added.Refused Broken ≡ add_answer limit page name) × (page ≡ page_after limit page name)
+  pub add_broken : formed page ≡ false → (Err Broken ≡ add_answer limit page name) × (page ≡ page_after limit page name)
   unfolding add_verdict
   add_broken f = refused_add Broken v
     where
-      v : add_verdict limit page name ≡ Refused Broken
+      v : add_verdict limit page name ≡ Err Broken
       v = rw f (first_holds Broken ((Malformed when not (well_named name)) ∷ (Full when (not (is_known page name) && not (roomy limit page name))) ∷ []) refl)
 
   module _ (f : formed page ≡ true) where
-    pub add_malformed : well_named name ≡ false → (Added.Refused Malformed ≡ add_answer limit page name) × (page ≡ page_after limit page name)
+    pub add_malformed : well_named name ≡ false → (Err Malformed ≡ add_answer limit page name) × (page ≡ page_after limit page name)
     unfolding add_verdict
     add_malformed w = refused_add Malformed v
       where
-        v : add_verdict limit page name ≡ Refused Malformed
+        v : add_verdict limit page name ≡ Err Malformed
         v = rw (f, w) (first_holds Malformed ((Full when (not (is_known page name) && not (roomy limit page name))) ∷ []) refl)
 
     module _ (w : well_named name ≡ true) (n k : ℕ) (e : n ≡ count_of page) (q : k ≡ number_of page n name) where
-      pub add_known : k < n → (Added.At k ≡ add_answer limit page name) × (page ≡ page_after limit page name)
+      pub add_known : k < n → (Ok k ≡ add_answer limit page name) × (page ≡ page_after limit page name)
       unfolding add_verdict
       add_known l = rw (← e, ← q) at (passed_add true (rw (← e, ← q) (lt-ltb k n l)) v)
         where
-          v : add_verdict limit page name ≡ Passed
+          v : add_verdict limit page name ≡ Ok tt
           v = rw (f, w, ← e, ← q, lt-ltb k n l)
 
       module _ (new : n ≤ k) where
         not_known : is_known page name ≡ false
         not_known = rw (← e, ← q) (le-ltb k n new)
 
-        full : roomy limit page name ≡ false → (Added.Refused Full ≡ add_answer limit page name) × (page ≡ page_after limit page name)
+        full : roomy limit page name ≡ false → (Err Full ≡ add_answer limit page name) × (page ≡ page_after limit page name)
         unfolding add_verdict
         full r = refused_add Full v
           where
-            v : add_verdict limit page name ≡ Refused Full
+            v : add_verdict limit page name ≡ Err Full
             v = rw (f, w, not_known, r)
 
-        pub add_many : limit ≤ n → (Added.Refused Full ≡ add_answer limit page name) × (page ≡ page_after limit page name)
+        pub add_many : limit ≤ n → (Err Full ≡ add_answer limit page name) × (page ≡ page_after limit page name)
         unfolding roomy
         add_many h = full r
           where
@@ -166,18 +165,18 @@ module _ (limit : ℕ) (page name : List ℕ) where
             r = rw (← e, le-ltb n limit h)
 
         module _ (h : n < limit) (end : ℕ) (o : end ≡ offset page n) where
-          pub add_short : length page < end + 1 + length name → (Added.Refused Full ≡ add_answer limit page name) × (page ≡ page_after limit page name)
+          pub add_short : length page < end + 1 + length name → (Err Full ≡ add_answer limit page name) × (page ≡ page_after limit page name)
           unfolding roomy
           add_short s = full r
             where
               r : roomy limit page name ≡ false
               r = rw (← e, lt-ltb n limit h, ← o, lt-leb (end + 1 + length name) (length page) s)
 
-          pub add_new : k ≡ n → end + 1 + length name ≤ length page → (Added.At n ≡ add_answer limit page name) × (put (put (put page (end + 1) name) end (length name ∷ [])) 0 (bytes_of (n + 1)) ≡ page_after limit page name)
+          pub add_new : k ≡ n → end + 1 + length name ≤ length page → (Ok n ≡ add_answer limit page name) × (put (put (put page (end + 1) name) end (length name ∷ [])) 0 (bytes_of (n + 1)) ≡ page_after limit page name)
           unfolding add_verdict roomy with_name
           add_new kn s = let z = passed_add false not_known v in (rw (← e, ← q, kn) at z.0, there ∙ z.1)
             where
-              v : add_verdict limit page name ≡ Passed
+              v : add_verdict limit page name ≡ Ok tt
               v = rw (f, w, not_known, ← e, lt-ltb n limit h, ← o, le-leb (end + 1 + length name) (length page) s)
 
               there : put (put (put page (end + 1) name) end (length name ∷ [])) 0 (bytes_of (n + 1)) ≡ with_name page name
@@ -190,42 +189,42 @@ module _ (limit : ℕ) (page name : List ℕ) where
 -- ---- looking for a name
 
 module _ (page name : List ℕ) where
-  pub find_broken : formed page ≡ false → Found.Refused Broken ≡ find_answer page name
+  pub find_broken : formed page ≡ false → Err Broken ≡ find_answer page name
   unfolding find_answer find_verdict
   find_broken f = rw v
     where
-      v : find_verdict page name ≡ Refused Broken
+      v : find_verdict page name ≡ Err Broken
       v = rw f (first_holds Broken ((Malformed when not (well_named name)) ∷ []) refl)
 
   module _ (f : formed page ≡ true) where
-    pub find_malformed : well_named name ≡ false → Found.Refused Malformed ≡ find_answer page name
+    pub find_malformed : well_named name ≡ false → Err Malformed ≡ find_answer page name
     unfolding find_answer find_verdict
     find_malformed w = rw (f, w)
 
     module _ (w : well_named name ≡ true) (n k : ℕ) (e : n ≡ count_of page) (q : k ≡ number_of page n name) where
-      pub find_known : k < n → Found.At k ≡ find_answer page name
+      pub find_known : k < n → Ok (Some k) ≡ find_answer page name
       unfolding find_answer find_verdict
       find_known l = rw (f, w, ← e, ← q, lt-ltb k n l)
 
-      pub find_absent : n ≤ k → Found.Absent ≡ find_answer page name
+      pub find_absent : n ≤ k → Ok None ≡ find_answer page name
       unfolding find_answer find_verdict
       find_absent l = rw (f, w, ← e, ← q, le-ltb k n l)
 
 -- ---- reading a name
 
 module _ (page : List ℕ) (k : ℕ) where
-  pub read_broken : formed page ≡ false → no_name Broken ≡ read_answer page k
+  pub read_broken : formed page ≡ false → Err Broken ≡ read_answer page k
   unfolding read_answer read_verdict
   read_broken f = rw v
     where
-      v : read_verdict page k ≡ Refused Broken
+      v : read_verdict page k ≡ Err Broken
       v = rw f (first_holds Broken ((Unused when not (is_used (count_of page) k)) ∷ []) refl)
 
   module _ (f : formed page ≡ true) (n : ℕ) (e : n ≡ count_of page) where
-    pub read_unused : is_used n k ≡ false → no_name Unused ≡ read_answer page k
+    pub read_unused : is_used n k ≡ false → Err Unused ≡ read_answer page k
     unfolding read_answer read_verdict
     read_unused h = rw (f, ← e, h)
 
-    pub read_name : is_used n k ≡ true → name_of (name_at page k) ≡ read_answer page k
+    pub read_name : is_used n k ≡ true → Ok (padded name_max (name_at page k)) ≡ read_answer page k
     unfolding read_answer read_verdict
     read_name h = rw (f, ← e, h)

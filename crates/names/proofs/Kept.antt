@@ -1,5 +1,6 @@
 -- A table in form stays in form: `empty_formed` of a fresh one, `added_formed` of whatever is added, refused names among them;
 -- and a name that was added is read under its number (`with_name_lem`). Assumes nothing.
+use Rattle.std.proofs.Common.{Ok, Err}
 use mathlib.Core.Path.{◌≡◌, refl, sym, ◌∙◌, ap}
 use mathlib.Core.Bool.{Bool, true, false, ◌&&◌, not, cond}
 use mathlib.Core.List.{List, [], ◌∷◌, ◌++◌}
@@ -13,8 +14,7 @@ use lib.Dec.{leb, ltb}
 use borrow.Author.Tests.{le-leb, ltb-false, ltb-true, leb-true, not-false}
 use Rattle.refusals.specs.Lowest.{◌when◌, unless_refused}
 use Rattle.refusals.specs.declared.Refusal.TheVariants.{Broken, Malformed, Full}
-use Rattle.refusals.specs.declared.Verdict.{Verdict}
-use Rattle.refusals.specs.declared.Verdict.TheVariants.{Passed, Refused}
+use Rattle.refusals.specs.Numbers.{Verdict}
 use Rattle.refusals.proofs.Lowest.{passed_parts}
 use Rattle.pages.specs.Quant.{all_to}
 use Rattle.pages.specs.Bytes.{eqs, zeros, count_bytes, count_of, bytes_of, put}
@@ -157,9 +157,9 @@ added_formed limit page name few f = by (add_verdict limit page name) refl (is_k
     roomed r w n = let z = room_parts limit page name r in with_formed page name (form page f) w n (omega (arith, z.0, few)) z.1
 
     by : (v : Verdict) → add_verdict limit page name ≡ v → (k : Bool) → is_known page name ≡ k → formed (unless_refused v (cond k page (with_name page name)) page) ≡ true
-    by (Refused r) e k o = f
-    by Passed e true o = f
-    by Passed e false o =
+    by (Err r) e k o = f
+    by (Ok _) e true o = f
+    by (Ok _) e false o =
         let a = passed_parts Broken (not (formed page)) ((Malformed when not (well_named name)) ∷ (Full when (not (is_known page name) && not (roomy limit page name))) ∷ []) e in
         let b = passed_parts Malformed (not (well_named name)) ((Full when (not (is_known page name) && not (roomy limit page name))) ∷ []) a.1 in
         let d = passed_parts Full (not (is_known page name) && not (roomy limit page name)) [] b.1 in

@@ -1,6 +1,6 @@
 -- Tests on bytes, names and pages, one law for each return. Assumes nothing.
 use mathlib.Core.Path.{◌≡◌, refl, sym}
-use mathlib.Core.Bool.{Bool, true, false, ◌||◌}
+use mathlib.Core.Bool.{Bool, true, false}
 use mathlib.Core.List.{List}
 use mathlib.Core.Logic.{⊎_elim}
 use Prim.Native.Nat.{ℕ, zero, suc, ◌+◌, ◌-◌, ◌<◌, ◌≤◌}
@@ -9,71 +9,16 @@ use native.Mathlib.Omega.{arith}
 use native.Mathlib.Nat.{not-suc-le-zero, le_of_suc-le-suc, eq-or-lt_of_le}
 use lib.ListN.{length, get_or, take, drop}
 use lib.Dec.{leb}
-use borrow.Author.Tests.{ne_eqb, le-leb, lt-leb}
+use borrow.Author.Tests.{le-leb, lt-leb}
 use Rattle.pages.specs.Quant.{all_to}
 use Rattle.pages.specs.Bytes.{eqs, zeros, count_bytes, count_of}
 use Rattle.pages.proofs.Quant.{all_failed}
-use Rattle.names.specs.Table.{names_max, name_max, digit, name_byte, name_byte_at, well_named, offset, name_at, named, number_of, good_at, formed}
-
--- ---- bytes
-
-pub digit_low : (b : ℕ) → b < 48 → false ≡ digit b
-unfolding digit
-digit_low b h = rw (lt-leb 48 b h)
-
-pub digit_high : (b : ℕ) → 48 ≤ b → leb b 57 ≡ digit b
-unfolding digit
-digit_high b h = rw (le-leb 48 b h)
-
-or_self : (x : Bool) → x ≡ (x || false)
-or_self true = refl
-or_self false = refl
-
-module _ (b : ℕ) where
-  pub byte_1 : b < 48 → false ≡ name_byte b
-  unfolding name_byte digit
-  byte_1 h = rw (lt-leb 65 b (omega arith), lt-leb 97 b (omega arith), ne_eqb b 95 (λ e. omega arith), lt-leb 48 b h)
-
-  pub byte_2 : 48 ≤ b → b ≤ 57 → true ≡ name_byte b
-  unfolding name_byte digit
-  byte_2 h k = rw (lt-leb 65 b (omega arith), lt-leb 97 b (omega arith), ne_eqb b 95 (λ e. omega arith), le-leb 48 b h, le-leb b 57 k)
-
-  pub byte_3 : 57 < b → b < 65 → false ≡ name_byte b
-  unfolding name_byte digit
-  byte_3 h k = rw (lt-leb 65 b (omega arith), lt-leb 97 b (omega arith), ne_eqb b 95 (λ e. omega arith), le-leb 48 b (omega arith), lt-leb b 57 h)
-
-  pub byte_4 : 65 ≤ b → b ≤ 90 → true ≡ name_byte b
-  unfolding name_byte digit
-  byte_4 h k = rw (le-leb 65 b h, le-leb b 90 k)
-
-  pub byte_5 : b ≡ 95 → true ≡ name_byte b
-  unfolding name_byte digit
-  byte_5 e = rw e
-
-  pub byte_6 : 90 < b → b < 97 → (b ≡ 95 → ⊥) → false ≡ name_byte b
-  unfolding name_byte digit
-  byte_6 h k n = rw (le-leb 65 b (omega arith), lt-leb b 90 h, lt-leb 97 b k, ne_eqb b 95 n, le-leb 48 b (omega arith), lt-leb b 57 (omega arith))
-
-  pub byte_7 : 97 ≤ b → leb b 122 ≡ name_byte b
-  unfolding name_byte digit
-  byte_7 h = rw (le-leb 65 b (omega arith), lt-leb b 90 (omega arith), le-leb 97 b h, ne_eqb b 95 (λ e. omega arith), le-leb 48 b (omega arith), lt-leb b 57 (omega arith)) (or_self (leb b 122))
+use Rattle.names.specs.Table.{names_max, name_max, digit, name_byte_at, well_named, offset, name_at, named, number_of, good_at, formed}
 
 -- ---- names
 
 module _ (name : List ℕ) where
-  pub named_short : length name < 1 → false ≡ well_named name
-  unfolding well_named
-  named_short h = rw (lt-leb 1 (length name) h)
-
-  pub named_long : 1 ≤ length name → name_max < length name → false ≡ well_named name
-  unfolding well_named
-  named_long h k = rw (le-leb 1 (length name) h, lt-leb (length name) name_max k)
-
   module _ (h : 1 ≤ length name) (k : length name ≤ name_max) where
-    pub named_digit : digit (get_or name 0 0) ≡ true → false ≡ well_named name
-    unfolding well_named
-    named_digit d = rw (le-leb 1 (length name) h, le-leb (length name) name_max k, d)
-
     pub named_all : digit (get_or name 0 0) ≡ false → all_to (length name) (name_byte_at name) ≡ well_named name
     unfolding well_named
     named_all d = rw (le-leb 1 (length name) h, le-leb (length name) name_max k, d)

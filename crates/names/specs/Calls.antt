@@ -1,16 +1,13 @@
 -- What the calls on a table of names answer, and leave in the page (document 01, "Names" and the table of refusals).
-use Rattle.std.specs.Prelude.{Bool, ◌&&◌, not, cond, List, [], ◌∷◌, ℕ, ◌+◌, length, replicate, ltb, leb}
-use Rattle.refusals.specs.Lowest.{◌when◌, lowest, unless_refused}
+use Rattle.std.specs.Prelude.{Bool, ◌&&◌, not, cond, List, [], ◌∷◌, ℕ, ◌+◌, length, replicate, ltb, leb, Option, Some, None, Result}
+use Rattle.refusals.specs.Lowest.{◌when◌, lowest, unless_refused, answer_of}
 use Rattle.refusals.specs.declared.Refusal.{Refusal}
 use Rattle.refusals.specs.declared.Refusal.TheVariants.{Broken, Unused, Malformed, Full}
-use Rattle.refusals.specs.declared.Verdict.{Verdict}
-use Rattle.refusals.specs.declared.Verdict.TheVariants.{Passed, Refused}
+use Rattle.refusals.specs.Numbers.{Verdict}
 use Rattle.pages.specs.Bytes.{count_bytes, count_of, bytes_of, put}
-use Rattle.pages.specs.Pad.{pad}
+use Rattle.pages.specs.Pad.{padded}
 use Rattle.names.specs.Table.{names_max, name_max, well_named, offset, name_at, number_of, formed}
-use Rattle.names.specs.declared.Added.{Added}
-use Rattle.names.specs.declared.Found.{Found}
-use Rattle.names.specs.declared.Name.{Name}
+use Rattle.pages.specs.declared.Padded.{Padded}
 
 -- ---- names that are lent or not: a page, beside a yes or a no
 
@@ -60,14 +57,9 @@ add_verdict limit page name =
     ∷ (Full when (not (is_known page name) && not (roomy limit page name)))
     ∷ [])
 
--- a number, or the refusal
-abbrev pub numbered : Verdict → ℕ → Added
-numbered Passed n = Added.At n
-numbered (Refused r) n = Added.Refused r
-
 -- "An existing name gets its old number", and a new one the next
-unfoldable pub add_answer : ℕ → List ℕ → List ℕ → Added
-add_answer limit page name = numbered (add_verdict limit page name) (number_of page (count_of page) name)
+unfoldable pub add_answer : ℕ → List ℕ → List ℕ → Result ℕ Refusal
+add_answer limit page name = answer_of (add_verdict limit page name) (number_of page (count_of page) name)
 
 -- the page afterwards: changed only by a new name that is not refused
 unfoldable pub page_after : ℕ → List ℕ → List ℕ → List ℕ
@@ -79,14 +71,9 @@ page_after limit page name = unless_refused (add_verdict limit page name) (cond 
 unfoldable pub find_verdict : List ℕ → List ℕ → Verdict
 find_verdict page name = lowest ((Broken when not (formed page)) ∷ (Malformed when not (well_named name)) ∷ [])
 
--- a number if the name is known, else its absence, or the refusal
-abbrev pub found : Verdict → Bool → ℕ → Found
-found Passed known n = cond known (Found.At n) Found.Absent
-found (Refused r) known n = Found.Refused r
-
 -- the name's number, if the table has the name
-unfoldable pub find_answer : List ℕ → List ℕ → Found
-find_answer page name = found (find_verdict page name) (is_known page name) (number_of page (count_of page) name)
+unfoldable pub find_answer : List ℕ → List ℕ → Result (Option ℕ) Refusal
+find_answer page name = answer_of (find_verdict page name) (cond (is_known page name) (Some (number_of page (count_of page) name)) None)
 
 -- ---- reading a name
 
@@ -94,19 +81,6 @@ find_answer page name = found (find_verdict page name) (is_known page name) (num
 unfoldable pub read_verdict : List ℕ → ℕ → Verdict
 read_verdict page k = lowest ((Broken when not (formed page)) ∷ (Unused when not (is_used (count_of page) k)) ∷ [])
 
--- a name by value
-abbrev pub name_of : List ℕ → Name
-name_of name = record { verdict = Passed; size = length name; bytes = pad name_max 0 name }
-
--- no name, beside the refusal
-abbrev pub no_name : Refusal → Name
-no_name r = record { verdict = Refused r; size = 0; bytes = pad name_max 0 [] }
-
--- a name, or none beside the refusal
-abbrev pub given_name : Verdict → List ℕ → Name
-given_name Passed name = name_of name
-given_name (Refused r) name = no_name r
-
 -- the name with number k
-unfoldable pub read_answer : List ℕ → ℕ → Name
-read_answer page k = given_name (read_verdict page k) (name_at page k)
+unfoldable pub read_answer : List ℕ → ℕ → Result (Padded name_max) Refusal
+read_answer page k = answer_of (read_verdict page k) (padded name_max (name_at page k))

@@ -8,10 +8,10 @@ ghost use Rattle.chains.specs.Last.{last_below};
 ghost use Rattle.chains.specs.Prints.{print_of};
 ghost use Rattle.names.specs.Table.{digit, name_byte, well_named, names_max, name_max, offset, name_at, named, number_of, formed};
 ghost use Rattle.names.specs.Prints.{print_at, Chained};
-ghost use Rattle.names.specs.Calls.{lent_broken, used_of, is_used, empty_verdict, empty_page, add_answer, page_after, find_answer, read_answer, name_of, no_name};
+ghost use Rattle.names.specs.Calls.{lent_broken, used_of, is_used, empty_verdict, empty_page, add_answer, page_after, find_answer, read_answer};
 
-use pages::index;
-use refusals::{Refusal, Verdict};
+use pages::{Padded, index};
+use refusals::Refusal;
 
 // A name's number, as units, pairs and types hold it. In pages and records it takes one byte.
 pub type Symbol = u16;
@@ -36,67 +36,29 @@ pub fn is_used(used: usize, s: usize) -> bool
 // How many bytes a name has at most.
 pub const NAME_BYTES: usize = 31;
 
-// What adding a name answers.
-#[derive(Clone, Copy)]
-pub enum Added {
-    At(usize),
-    Refused(Refusal),
-}
+// A name by value.
+pub type Name = Padded<NAME_BYTES>;
 
-// What looking for a name answers.
-#[derive(Clone, Copy)]
-pub enum Found {
-    At(usize),
-    Absent,
-    Refused(Refusal),
-}
-
-// A name by value: its bytes from place 0 on, and zeros after them.
-#[derive(Clone, Copy)]
-pub struct Name {
-    pub verdict: Verdict,
-    pub size: usize,
-    pub bytes: [u8; NAME_BYTES],
-}
-
+#[tactic(auto, unfolding(crate::specs::Table::digit))]
 fn is_digit(b: u8) -> bool
     ensures { result ≡ digit b }
 {
-    if b < b'0' {
-        return false;
-    }
-    b <= b'9'
+    matches!(b, b'0'..=b'9')
 }
 
+#[tactic(auto, unfolding(crate::specs::Table::digit, crate::specs::Table::name_byte))]
 fn is_name_byte(b: u8) -> bool
     ensures { result ≡ name_byte b }
 {
-    if b < b'0' {
-        return false;
-    }
-    if b <= b'9' {
-        return true;
-    }
-    if b < b'A' {
-        return false;
-    }
-    if b <= b'Z' {
-        return true;
-    }
-    if b == b'_' {
-        return true;
-    }
-    if b < b'a' {
-        return false;
-    }
-    b <= b'z'
+    matches!(b, b'0'..=b'9' | b'A'..=b'Z' | b'_' | b'a'..=b'z')
 }
 
 // Whether the bytes are those of a name.
+#[tactic(auto, using(pages::proofs::Quant::all_none, pages::proofs::Quant::all_more, pages::proofs::Quant::all_failed), unfolding(crate::specs::Table::well_named))]
 pub fn is_name(name: &[u8]) -> bool
     ensures { result ≡ well_named name.now }
 {
-    if name.len() < 1 {
+    if name.is_empty() {
         return false;
     }
     if name.len() > NAME_BYTES {
@@ -105,11 +67,8 @@ pub fn is_name(name: &[u8]) -> bool
     if is_digit(name[0]) {
         return false;
     }
-    let mut i: usize = 0;
-    while i < name.len() {
-        if is_name_byte(name[i]) {
-            i += 1;
-        } else {
+    for b in name {
+        if !is_name_byte(*b) {
             return false;
         }
     }
@@ -121,40 +80,16 @@ fn find(page: &[u8], n: usize, name: &[u8]) -> usize
     requires { offset page.now n ≤ length page.now }
     ensures { result ≡ number_of page.now n name.now }
 {
-    let mut i: usize = 0;
     let mut at: usize = pages::COUNT_BYTES;
-    while i < n {
+    for i in 0..n {
         let start = at + 1;
         let end = start + index(page[at]);
         if pages::same(&page[start..end], name) {
             return i;
         }
         at = end;
-        i += 1;
     }
     n
-}
-
-// Places for what is before each name in its chain.
-fn no_links() -> [u16; NAMES]
-    ensures { result ≡ replicate names_max 0 }
-{
-    [0; NAMES]
-}
-
-// Places for where each name stands.
-fn no_offsets() -> [usize; NAMES]
-    ensures { result ≡ replicate names_max 0 }
-{
-    [0; NAMES]
-}
-
-// Notes where name i stands.
-fn note(offsets: &mut [usize], i: usize, at: usize)
-    requires { i < length offsets.old }
-    ensures { offsets.new ≡ set offsets.old i at }
-{
-    offsets[i] = at;
 }
 
 // Whether a name is among the first n, where `head` is one more than the last of them with its print, or 0.
@@ -195,11 +130,10 @@ pub fn is_formed(page: &[u8]) -> bool
         return false;
     }
     let mut heads = chains::no_heads();
-    let mut links = no_links();
-    let mut offsets = no_offsets();
-    let mut i: usize = 0;
+    let mut links = [0u16; NAMES];
+    let mut offsets = [0usize; NAMES];
     let mut at: usize = pages::COUNT_BYTES;
-    while i < n {
+    for i in 0..n {
         if at >= page.len() {
             return false;
         }
@@ -216,10 +150,9 @@ pub fn is_formed(page: &[u8]) -> bool
         if is_among(page, &offsets, &links, i, head, &page[start..end]) {
             return false;
         }
-        note(&mut offsets, i, at);
+        offsets[i] = at;
         chains::link(&mut heads, &mut links, print, i);
         at = end;
-        i += 1;
     }
     pages::zeros_from(page, at)
 }
@@ -251,11 +184,9 @@ fn offset_of(page: &[u8], n: usize) -> usize
     requires { offset page.now n ≤ length page.now }
     ensures { result ≡ offset page.now n }
 {
-    let mut i: usize = 0;
     let mut at: usize = pages::COUNT_BYTES;
-    while i < n {
+    for i in 0..n {
         at = at + 1 + index(page[at]);
-        i += 1;
     }
     at
 }
@@ -272,7 +203,7 @@ pub fn name_of(page: &[u8], k: usize) -> &[u8]
 }
 
 // Adds a name to a table that an entry call found in form (`add_name` tests it), where there can be `limit` names.
-pub fn insert_name(page: &mut [u8], limit: usize, name: &[u8]) -> Added
+pub fn insert_name(page: &mut [u8], limit: usize, name: &[u8]) -> Result<usize, Refusal>
     requires { (formed page.old ≡ true) × (limit ≤ names_max) }
     ensures { (result ≡ add_answer limit page.old name.now) × (page.new ≡ page_after limit page.old name.now) }
 {
@@ -280,99 +211,74 @@ pub fn insert_name(page: &mut [u8], limit: usize, name: &[u8]) -> Added
         let n = pages::count(page);
         let k = find(page, n, name);
         if k < n {
-            return Added::At(k);
+            return Ok(k);
         }
         if n >= limit {
-            return Added::Refused(Refusal::Full);
+            return Err(Refusal::Full);
         }
         let end = offset_of(page, n);
         if page.len() < end + 1 + name.len() {
-            return Added::Refused(Refusal::Full);
+            return Err(Refusal::Full);
         }
         let size = [name.len() as u8];
         let number = pages::count_bytes(n + 1);
         pages::put_bytes(page, end + 1, name);
         pages::put_bytes(page, end, &size);
         pages::put_bytes(page, 0, &number);
-        Added::At(n)
+        Ok(n)
     } else {
-        Added::Refused(Refusal::Malformed)
+        Err(Refusal::Malformed)
     }
 }
 
 // Makes the page an empty table.
-pub fn empty_names(page: &mut [u8]) -> Verdict
+pub fn empty_names(page: &mut [u8]) -> Result<(), Refusal>
     ensures { (result ≡ empty_verdict page.old) × (page.new ≡ empty_page page.old) }
 {
     if page.len() < pages::COUNT_BYTES {
-        return Verdict::Refused(Refusal::Broken);
+        return Err(Refusal::Broken);
     }
     pages::clear(page);
-    Verdict::Passed
+    Ok(())
 }
 
 // The number of a name, which is added if it is new.
-pub fn add_name(page: &mut [u8], name: &[u8]) -> Added
+pub fn add_name(page: &mut [u8], name: &[u8]) -> Result<usize, Refusal>
     ensures { (result ≡ add_answer names_max page.old name.now) × (page.new ≡ page_after names_max page.old name.now) }
 {
     if is_formed(page) {
         return insert_name(page, NAMES, name);
     }
-    Added::Refused(Refusal::Broken)
+    Err(Refusal::Broken)
 }
 
 // The number of a name, if the table has it.
-pub fn find_name(page: &[u8], name: &[u8]) -> Found
+pub fn find_name(page: &[u8], name: &[u8]) -> Result<Option<usize>, Refusal>
     ensures { result ≡ find_answer page.now name.now }
 {
     if !is_formed(page) {
-        return Found::Refused(Refusal::Broken);
+        return Err(Refusal::Broken);
     }
     if !is_name(name) {
-        return Found::Refused(Refusal::Malformed);
+        return Err(Refusal::Malformed);
     }
     let n = pages::count(page);
     let k = find(page, n, name);
     if k < n {
-        return Found::At(k);
+        return Ok(Some(k));
     }
-    Found::Absent
-}
-
-// No name, and why.
-fn no_name(refusal: Refusal) -> Name
-    ensures { result ≡ no_name refusal }
-{
-    Name {
-        verdict: Verdict::Refused(refusal),
-        size: 0,
-        bytes: [0; NAME_BYTES],
-    }
-}
-
-// The bytes of a name, by value.
-fn copied(name: &[u8]) -> Name
-    requires { length name.now ≤ name_max }
-    ensures { result ≡ name_of name.now }
-{
-    let mut bytes = [0u8; NAME_BYTES];
-    pages::put_bytes(&mut bytes, 0, name);
-    Name {
-        verdict: Verdict::Passed,
-        size: name.len(),
-        bytes,
-    }
+    Ok(None)
 }
 
 // The name with number k.
-pub fn read_name(page: &[u8], k: usize) -> Name
+pub fn read_name(page: &[u8], k: usize) -> Result<Name, Refusal>
     ensures { result ≡ read_answer page.now k }
 {
     if !is_formed(page) {
-        return no_name(Refusal::Broken);
+        return Err(Refusal::Broken);
     }
     if !is_used(pages::count(page), k) {
-        return no_name(Refusal::Unused);
+        return Err(Refusal::Unused);
     }
-    copied(name_of(page, k))
+    Ok(Padded::of(name_of(page, k)))
 }

@@ -1,6 +1,12 @@
 -- The operators and the table of their rules: "Operator codes 1 to 13: + − × / < > <= >= == != and or !" (document 01, "Answers").
-use Rattle.std.specs.Prelude.{Bool, ◌&&◌, ◌||◌, not, cond, ℕ, suc, ◌-◌, ◌%◌, eqb}
+use Rattle.std.specs.Prelude.{Bool, true, false, ◌&&◌, ◌||◌, not, cond, ℕ, suc, ◌-◌, ◌%◌, eqb}
 use Rattle.pages.specs.Bytes.{within}
+use Rattle.operators.specs.declared.Class.{Class}
+use Rattle.operators.specs.declared.Class.TheVariants.{NotBinary, Arithmetic, Ordering, Equality, Logic}
+use Rattle.operators.specs.declared.UnitRule.{UnitRule}
+use Rattle.operators.specs.declared.UnitRule.TheVariants.{Ignored, Adopted, Multiplied, Divided, Compared}
+use Rattle.operators.specs.declared.ResultRule.{ResultRule}
+use Rattle.operators.specs.declared.ResultRule.TheVariants.{Nothing, Operands, Truth}
 use Rattle.operators.specs.declared.Row.{Row}
 
 -- the last code
@@ -21,57 +27,18 @@ bang = 13
 -- ---- the table: of each operator its class, its unit rule and its result rule
 
 -- classes: not binary; + − × /; < > <= >=; == !=; and, or
-abbrev pub not_binary : ℕ
-not_binary = 0
-
-abbrev pub arithmetic : ℕ
-arithmetic = 1
-
-abbrev pub ordering : ℕ
-ordering = 2
-
-abbrev pub equality : ℕ
-equality = 3
-
-abbrev pub logic : ℕ
-logic = 4
-
-unfoldable pub class_of : ℕ → ℕ
+unfoldable pub class_of : ℕ → Class
 class_of op =
-    cond (within 1 4 op) arithmetic (cond (within 5 8 op) ordering (cond (within 9 10 op) equality (cond (within 11 12 op) logic not_binary)))
+    cond (within 1 4 op) Arithmetic (cond (within 5 8 op) Ordering (cond (within 9 10 op) Equality (cond (within 11 12 op) Logic NotBinary)))
 
 -- unit rules: units are not looked at; a unitless side adopts the other's; they are multiplied; divided; compared
-abbrev pub ignored : ℕ
-ignored = 0
-
-abbrev pub adopted : ℕ
-adopted = 1
-
-abbrev pub multiplied : ℕ
-multiplied = 2
-
-abbrev pub divided : ℕ
-divided = 3
-
-abbrev pub compared : ℕ
-compared = 4
-
-unfoldable pub unit_rule : ℕ → ℕ
+unfoldable pub unit_rule : ℕ → UnitRule
 unit_rule op =
-    cond (within 1 2 op) adopted (cond (eqb op 3) multiplied (cond (eqb op 4) divided (cond (within 5 10 op) compared ignored)))
+    cond (within 1 2 op) Adopted (cond (eqb op 3) Multiplied (cond (eqb op 4) Divided (cond (within 5 10 op) Compared Ignored)))
 
 -- result rules: none; the operands' family; Bool
-abbrev pub nothing : ℕ
-nothing = 0
-
-abbrev pub operands : ℕ
-operands = 1
-
-abbrev pub truth : ℕ
-truth = 2
-
-unfoldable pub result_rule : ℕ → ℕ
-result_rule op = cond (within 1 4 op) operands (cond (within 5 12 op) truth nothing)
+unfoldable pub result_rule : ℕ → ResultRule
+result_rule op = cond (within 1 4 op) Operands (cond (within 5 12 op) Truth Nothing)
 
 abbrev pub row_of : ℕ → Row
 row_of op = record { class = class_of op; unit = unit_rule op; result = result_rule op }
@@ -105,20 +72,43 @@ is_number k = within 1 6 k || within 11 12 k
 
 -- ---- binary operators on two families f and g
 
--- does the operator take two operands of family f
+-- does an operator of a class take two operands of family f
+abbrev pub class_takes : Class → ℕ → Bool
+class_takes NotBinary f = false
+class_takes Arithmetic f = is_number f
+class_takes Ordering f = is_number f
+class_takes Equality f = not (eqb f no_family)
+class_takes Logic f = eqb f bool
+
 unfoldable pub takes : ℕ → ℕ → Bool
-takes op f =
-    cond (eqb (class_of op) logic) (eqb f bool)
-    (cond (eqb (class_of op) equality) (not (eqb f no_family)) (not (eqb (class_of op) not_binary) && is_number f))
+takes op f = class_takes (class_of op) f
 
 -- does it look at their units: < > <= >= only at those of Int and Float, == and != at all
+abbrev pub is_equality : Class → Bool
+is_equality NotBinary = false
+is_equality Arithmetic = false
+is_equality Ordering = false
+is_equality Equality = true
+is_equality Logic = false
+
+abbrev pub rule_looks : UnitRule → Class → ℕ → Bool
+rule_looks Ignored c f = false
+rule_looks Adopted c f = true
+rule_looks Multiplied c f = false
+rule_looks Divided c f = false
+rule_looks Compared c f = is_equality c || (eqb f int || eqb f float)
+
 unfoldable pub looks : ℕ → ℕ → Bool
-looks op f =
-    eqb (unit_rule op) adopted || (eqb (unit_rule op) compared && (eqb (class_of op) equality || (eqb f int || eqb f float)))
+looks op f = rule_looks (unit_rule op) (class_of op) f
 
 -- the kind of its answer: the operands' family or Bool
+abbrev pub rule_gives : ResultRule → ℕ → ℕ
+rule_gives Nothing f = bool
+rule_gives Operands f = f
+rule_gives Truth f = bool
+
 unfoldable pub gives : ℕ → ℕ → ℕ
-gives op f = cond (eqb (result_rule op) operands) f bool
+gives op f = rule_gives (result_rule op) f
 
 -- are the operands of one family, which it takes
 unfoldable pub suits : ℕ → ℕ → ℕ → Bool

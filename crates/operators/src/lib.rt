@@ -2,8 +2,8 @@
 #![tactic(auto)]
 
 ghost use Rattle.std.specs.Prelude.{◌≡◌, true, ◌<◌};
-ghost use Rattle.operators.specs.Operators.{is_operator, row_of, family_of, is_number, takes, looks, gives, suits, fits, taker_of};
-ghost use Rattle.operators.specs.Outcome.{no_error, one_error, two_errors, some_fail, outcome, number_of, passes, not_bools, misfit, plain_binary, unary_reason, plain_unary};
+ghost use Rattle.operators.specs.Operators.{is_operator, row_of, family_of, is_number, class_takes, rule_looks, rule_gives, taker_of};
+ghost use Rattle.operators.specs.Outcome.{count_of, first_of, second_of, failing_of, left_of, right_of, no_error, some_fail, outcome, number_of, passes, not_bools, class_misfit, plain_binary, unary_reason, plain_unary};
 
 use kinds::{CENUM, INT, Kind, RECORD};
 use matching::Checked;
@@ -17,82 +17,86 @@ pub const MINUS: usize = 2;
 const BANG: usize = 13;
 
 // Classes of operators.
-const NOT_BINARY: u8 = 0;
+#[derive(Clone, Copy, Debug, PartialEq, Eq)]
+pub enum Class {
+    NotBinary,
+    // + − × /
+    Arithmetic,
+    // < > <= >=
+    Ordering,
+    // == !=
+    Equality,
+    // and, or
+    Logic,
+}
 
-const ARITHMETIC: u8 = 1;
-
-const ORDERING: u8 = 2;
-
-const EQUALITY: u8 = 3;
-
-const LOGIC: u8 = 4;
-
-// What operators do with units: nothing, or a unitless side adopts the other's, or they multiply, divide, compare them.
-const IGNORED: u8 = 0;
-
-pub const ADOPTED: u8 = 1;
-
-pub const MULTIPLIED: u8 = 2;
-
-pub const DIVIDED: u8 = 3;
-
-const COMPARED: u8 = 4;
+// What operators do with units.
+#[derive(Clone, Copy, Debug, PartialEq, Eq)]
+pub enum UnitRule {
+    Ignored,
+    // A unitless side adopts the other's.
+    Adopted,
+    Multiplied,
+    Divided,
+    Compared,
+}
 
 // What operators answer: nothing, the operands' family, or Bool.
-const NOTHING: u8 = 0;
-
-const OPERANDS: u8 = 1;
-
-const TRUTH: u8 = 2;
+#[derive(Clone, Copy, Debug, PartialEq, Eq)]
+pub enum ResultRule {
+    Nothing,
+    Operands,
+    Truth,
+}
 
 // An operator's class, unit rule and result rule.
-#[derive(Clone, Copy)]
+#[derive(Clone, Copy, Debug, PartialEq, Eq)]
 pub struct Row {
-    pub class: u8,
-    pub unit: u8,
-    pub result: u8,
+    pub class: Class,
+    pub unit: UnitRule,
+    pub result: ResultRule,
 }
 
 const SUM: Row = Row {
-    class: ARITHMETIC,
-    unit: ADOPTED,
-    result: OPERANDS,
+    class: Class::Arithmetic,
+    unit: UnitRule::Adopted,
+    result: ResultRule::Operands,
 };
 
 const PRODUCT: Row = Row {
-    class: ARITHMETIC,
-    unit: MULTIPLIED,
-    result: OPERANDS,
+    class: Class::Arithmetic,
+    unit: UnitRule::Multiplied,
+    result: ResultRule::Operands,
 };
 
 const QUOTIENT: Row = Row {
-    class: ARITHMETIC,
-    unit: DIVIDED,
-    result: OPERANDS,
+    class: Class::Arithmetic,
+    unit: UnitRule::Divided,
+    result: ResultRule::Operands,
 };
 
 const ORDER: Row = Row {
-    class: ORDERING,
-    unit: COMPARED,
-    result: TRUTH,
+    class: Class::Ordering,
+    unit: UnitRule::Compared,
+    result: ResultRule::Truth,
 };
 
 const EQUAL: Row = Row {
-    class: EQUALITY,
-    unit: COMPARED,
-    result: TRUTH,
+    class: Class::Equality,
+    unit: UnitRule::Compared,
+    result: ResultRule::Truth,
 };
 
 const BOTH: Row = Row {
-    class: LOGIC,
-    unit: IGNORED,
-    result: TRUTH,
+    class: Class::Logic,
+    unit: UnitRule::Ignored,
+    result: ResultRule::Truth,
 };
 
 const UNARY: Row = Row {
-    class: NOT_BINARY,
-    unit: IGNORED,
-    result: NOTHING,
+    class: Class::NotBinary,
+    unit: UnitRule::Ignored,
+    result: ResultRule::Nothing,
 };
 
 // + − × / < > <= >= == != and or !
@@ -100,7 +104,7 @@ const ROWS: [Row; OPERATORS] = [
     SUM, SUM, PRODUCT, QUOTIENT, ORDER, ORDER, ORDER, ORDER, EQUAL, EQUAL, BOTH, BOTH, UNARY,
 ];
 
-// Families: the plain one of a kind and its const form.
+// Families: the plain one of a kind and its const form. None is Null's code and no Option, as callers lend any kind for a family.
 pub const NO_FAMILY: Kind = 0;
 
 const UINT: Kind = 3;
@@ -115,16 +119,86 @@ const CFLOAT: Kind = 6;
 // The last of the fixed kinds that have a family.
 const CCHAR: Kind = 14;
 
-// The errors of a check in order: how many, their reasons (0 where there is none), and for reason 7 how many members fail and the
-// first of them, a pair or one member with 0 beside it.
-#[derive(Clone, Copy)]
-pub struct Errors {
-    pub count: usize,
-    pub first: usize,
-    pub second: usize,
-    pub failing: usize,
-    pub left: usize,
-    pub right: usize,
+// Why a check fails, with document 01's numbers. Reason 7, that some members fail, has more beside it.
+#[derive(Clone, Copy, Debug, PartialEq, Eq)]
+pub enum Reason {
+    BadTypes = 1,
+    BadUnits = 2,
+    LeftNotBool = 3,
+    RightNotBool = 4,
+    UnknownHere = 5,
+    UintNegated = 6,
+    NoMember = 8,
+    BadKey = 9,
+    NotIndexable = 10,
+}
+
+// The number of reason 7.
+const MEMBERS_FAIL: usize = 7;
+
+// The errors of a check in order.
+#[derive(Clone, Copy, Debug, PartialEq, Eq)]
+pub enum Errors {
+    None,
+    One(Reason),
+    Two(Reason, Reason),
+    // How many members fail, and the first of them: a pair, or one member with 0 beside it.
+    SomeFail {
+        failing: usize,
+        left: usize,
+        right: usize,
+    },
+}
+
+impl Errors {
+    // How many errors there are.
+    pub fn count(self) -> usize
+        ensures { result ≡ count_of self }
+    {
+        match self {
+            Errors::None => 0,
+            Errors::One(_) => 1,
+            Errors::Two(_, _) => 2,
+            Errors::SomeFail { .. } => 1,
+        }
+    }
+
+    // The numbers of their reasons, 0 where there is none.
+    pub fn reasons(self) -> (usize, usize)
+        ensures { (result.0 ≡ first_of self) × (result.1 ≡ second_of self) }
+    {
+        match self {
+            Errors::None => (0, 0),
+            Errors::One(r) => (r as usize, 0),
+            Errors::Two(r, s) => (r as usize, s as usize),
+            Errors::SomeFail { .. } => (MEMBERS_FAIL, 0),
+        }
+    }
+
+    // How many members fail and the first of them, 0 where no members were tried or there is none.
+    pub fn failing(self) -> (usize, usize, usize)
+        ensures { (result.0 ≡ failing_of self) × (result.1 ≡ left_of self) × (result.2 ≡ right_of self) }
+    {
+        match self {
+            Errors::SomeFail {
+                failing,
+                left,
+                right,
+            } => (failing, left, right),
+            _ => (0, 0, 0),
+        }
+    }
+}
+
+// Reason 7.
+pub fn some_fail(n: usize, x: usize, y: usize) -> Errors
+    ensures { result ≡ some_fail n x y }
+{
+    Errors::SomeFail {
+        failing: n,
+        left: x,
+        right: y,
+    }
 }
 
 // What a check comes to, but for the unit.
@@ -134,90 +208,20 @@ pub struct Outcome {
     pub errors: Errors,
 }
 
-// The reasons of errors.
-const BAD_TYPES: usize = 1;
-
-const BAD_UNITS: usize = 2;
-
-const LEFT_NOT_BOOL: usize = 3;
-
-const RIGHT_NOT_BOOL: usize = 4;
-
-const UNKNOWN_HERE: usize = 5;
-
-const UINT_NEGATED: usize = 6;
-
-const MEMBERS_FAIL: usize = 7;
-
-pub const NO_MEMBER: usize = 8;
-
-pub const BAD_KEY: usize = 9;
-
-pub const NOT_INDEXABLE: usize = 10;
-
-// No error.
-pub fn no_error() -> Errors
-    ensures { result ≡ no_error }
-{
-    Errors {
-        count: 0,
-        first: 0,
-        second: 0,
-        failing: 0,
-        left: 0,
-        right: 0,
-    }
-}
-
-// One error.
-pub fn one_error(reason: usize) -> Errors
-    ensures { result ≡ one_error reason }
-{
-    Errors {
-        count: 1,
-        first: reason,
-        second: 0,
-        failing: 0,
-        left: 0,
-        right: 0,
-    }
-}
-
-// Two errors.
-fn two_errors(reason: usize, next: usize) -> Errors
-    ensures { result ≡ two_errors reason next }
-{
-    Errors {
-        count: 2,
-        first: reason,
-        second: next,
-        failing: 0,
-        left: 0,
-        right: 0,
-    }
-}
-
-// Reason 7.
-pub fn some_fail(n: usize, x: usize, y: usize) -> Errors
-    ensures { result ≡ some_fail n x y }
-{
-    Errors {
-        count: 1,
-        first: MEMBERS_FAIL,
-        second: 0,
-        failing: n,
-        left: x,
-        right: y,
-    }
-}
-
 // A Known type without an error.
 pub fn known(t: usize) -> Outcome
     ensures { result ≡ outcome (Checked.Known t) no_error }
 {
+    known_with(t, Errors::None)
+}
+
+// A Known type, with these errors.
+fn known_with(t: usize, errors: Errors) -> Outcome
+    ensures { result ≡ outcome (Checked.Known t) errors }
+{
     Outcome {
         checked: Checked::Known(t),
-        errors: no_error(),
+        errors,
     }
 }
 
@@ -235,13 +239,7 @@ pub fn unknown(errors: Errors) -> Outcome
 pub fn does_pass(o: Outcome) -> bool
     ensures { result ≡ passes o }
 {
-    let checked = o.checked;
-    let errors = o.errors;
-    match checked {
-        Checked::Known(_) => errors.count == 0,
-        Checked::Unknown => false,
-        Checked::Function(_) => false,
-    }
+    matches!((o.checked, o.errors), (Checked::Known(_), Errors::None))
 }
 
 // The number of a Known type, 0 where it is none.
@@ -250,8 +248,7 @@ pub fn number_of(c: Checked) -> usize
 {
     match c {
         Checked::Known(t) => t,
-        Checked::Unknown => 0,
-        Checked::Function(_) => 0,
+        _ => 0,
     }
 }
 
@@ -259,7 +256,7 @@ pub fn number_of(c: Checked) -> usize
 pub fn is_operator(op: usize) -> bool
     ensures { result ≡ is_operator op }
 {
-    (1 <= op) & (op <= OPERATORS)
+    matches!(op, 1..=OPERATORS)
 }
 
 // The row of an operator.
@@ -274,93 +271,18 @@ pub fn row_of(op: usize) -> Row
 pub fn family_of(k: Kind) -> Kind
     ensures { result ≡ family_of k }
 {
-    if (INT <= k) & (k <= CCHAR) {
-        return k - (k + 1) % 2;
+    match k {
+        INT..=CCHAR => k - (k + 1) % 2,
+        RECORD..=CENUM => k - k % 2,
+        _ => NO_FAMILY,
     }
-    if (RECORD <= k) & (k <= CENUM) {
-        return k - k % 2;
-    }
-    NO_FAMILY
 }
 
 // Whether a kind is a number's.
 fn is_number(k: Kind) -> bool
     ensures { result ≡ is_number k }
 {
-    ((INT <= k) & (k <= CFLOAT)) | kinds::is_byte(k)
-}
-
-// Whether an operator takes two operands of that family.
-fn does_take(op: usize, f: Kind) -> bool
-    requires { is_operator op ≡ true }
-    ensures { result ≡ takes op f }
-{
-    let row = row_of(op);
-    if row.class == LOGIC {
-        return f == BOOL;
-    }
-    if row.class == EQUALITY {
-        return f != NO_FAMILY;
-    }
-    if row.class == NOT_BINARY {
-        return false;
-    }
-    is_number(f)
-}
-
-// Whether it looks at the units of two operands of that family.
-fn does_look(op: usize, f: Kind) -> bool
-    requires { is_operator op ≡ true }
-    ensures { result ≡ looks op f }
-{
-    let row = row_of(op);
-    if row.unit == ADOPTED {
-        return true;
-    }
-    if row.unit != COMPARED {
-        return false;
-    }
-    if row.class == EQUALITY {
-        return true;
-    }
-    (f == INT) | (f == FLOAT)
-}
-
-// The kind of its answer for operands of that family.
-fn given(op: usize, f: Kind) -> usize
-    requires { is_operator op ≡ true }
-    ensures { result ≡ gives op f }
-{
-    let row = row_of(op);
-    if row.result == OPERANDS {
-        return f as usize;
-    }
-    BOOL as usize
-}
-
-// Whether two operands are of one family, which the operator takes.
-fn does_suit(op: usize, f: Kind, g: Kind) -> bool
-    requires { is_operator op ≡ true }
-    ensures { result ≡ suits op f g }
-{
-    if f != g {
-        return false;
-    }
-    does_take(op, f)
-}
-
-// Whether there is no error.
-fn does_fit(op: usize, clash: bool, f: Kind, g: Kind) -> bool
-    requires { is_operator op ≡ true }
-    ensures { result ≡ fits op clash f g }
-{
-    if !does_suit(op, f, g) {
-        return false;
-    }
-    if !clash {
-        return true;
-    }
-    !does_look(op, f)
+    matches!(k, INT..=CFLOAT) || kinds::is_byte(k)
 }
 
 // An error for each side that is no Bool, of `and` and `or`.
@@ -368,42 +290,60 @@ fn not_bools(f: Kind, g: Kind) -> Errors
     ensures { result ≡ not_bools f g }
 {
     if f == BOOL {
-        return one_error(RIGHT_NOT_BOOL);
+        return Errors::One(Reason::RightNotBool);
     }
     if g == BOOL {
-        return one_error(LEFT_NOT_BOOL);
+        return Errors::One(Reason::LeftNotBool);
     }
-    two_errors(LEFT_NOT_BOOL, RIGHT_NOT_BOOL)
+    Errors::Two(Reason::LeftNotBool, Reason::RightNotBool)
 }
 
-// What a binary operator answers with an error.
-fn misfit_of(op: usize, f: Kind, g: Kind) -> Outcome
-    requires { is_operator op ≡ true }
-    ensures { result ≡ misfit op f g }
-{
-    let row = row_of(op);
-    if row.class == NOT_BINARY {
-        return unknown(one_error(UNKNOWN_HERE));
+impl Row {
+    // Whether the operator takes two operands of that family.
+    fn does_take(self, f: Kind) -> bool
+        ensures { result ≡ class_takes self.class f }
+    {
+        match self.class {
+            Class::NotBinary => false,
+            Class::Arithmetic | Class::Ordering => is_number(f),
+            Class::Equality => f != NO_FAMILY,
+            Class::Logic => f == BOOL,
+        }
     }
-    if row.class == LOGIC {
-        return Outcome {
-            checked: Checked::Known(BOOL as usize),
-            errors: not_bools(f, g),
-        };
+
+    // Whether it looks at the units of two operands of that family.
+    fn does_look(self, f: Kind) -> bool
+        ensures { result ≡ rule_looks self.unit self.class f }
+    {
+        match self.unit {
+            UnitRule::Adopted => true,
+            UnitRule::Compared => self.class == Class::Equality || f == INT || f == FLOAT,
+            UnitRule::Ignored | UnitRule::Multiplied | UnitRule::Divided => false,
+        }
     }
-    if does_suit(op, f, g) {
-        return Outcome {
-            checked: Checked::Known(given(op, f)),
-            errors: one_error(BAD_UNITS),
-        };
+
+    // The kind of its answer for operands of that family.
+    fn given(self, f: Kind) -> usize
+        ensures { result ≡ rule_gives self.result f }
+    {
+        match self.result {
+            ResultRule::Operands => f as usize,
+            ResultRule::Nothing | ResultRule::Truth => BOOL as usize,
+        }
     }
-    if row.class == EQUALITY {
-        return Outcome {
-            checked: Checked::Known(BOOL as usize),
-            errors: one_error(BAD_TYPES),
-        };
+
+    // What it answers with an error; the operands are of one family, which it takes, or not.
+    fn misfit(self, suit: bool, f: Kind, g: Kind) -> Outcome
+        ensures { result ≡ class_misfit self.class suit (rule_gives self.result f) (not_bools f g) }
+    {
+        match self.class {
+            Class::NotBinary => unknown(Errors::One(Reason::UnknownHere)),
+            Class::Logic => known_with(BOOL as usize, not_bools(f, g)),
+            _ if suit => known_with(self.given(f), Errors::One(Reason::BadUnits)),
+            Class::Equality => known_with(BOOL as usize, Errors::One(Reason::BadTypes)),
+            Class::Arithmetic | Class::Ordering => unknown(Errors::One(Reason::BadTypes)),
+        }
     }
-    unknown(one_error(BAD_TYPES))
 }
 
 // A binary operator's own rule on two families; the operands' units clash or not.
@@ -411,40 +351,36 @@ pub fn plain_binary(op: usize, clash: bool, f: Kind, g: Kind) -> Outcome
     requires { is_operator op ≡ true }
     ensures { result ≡ plain_binary op clash f g }
 {
-    if does_fit(op, clash, f, g) {
-        return known(given(op, f));
+    let row = row_of(op);
+    let suit = f == g && row.does_take(f);
+    if suit && !(clash && row.does_look(f)) {
+        known(row.given(f))
+    } else {
+        row.misfit(suit, f, g)
     }
-    misfit_of(op, f, g)
 }
 
-// The operator with one operand that takes a kind, 0 for none.
+// The operator with one operand that takes a kind; 0 for none and no Option, as the leaves of unions are told apart by this number or by
+// a family's alike.
 pub fn taker_of(k: Kind) -> usize
     ensures { result ≡ taker_of k }
 {
-    let f = family_of(k);
-    if (f == INT) | (f == FLOAT) {
-        return MINUS;
+    match family_of(k) {
+        INT | FLOAT => MINUS,
+        BOOL => BANG,
+        _ => 0,
     }
-    if f == BOOL {
-        return BANG;
-    }
-    0
 }
 
 // Why an operator does not take a kind as its one operand.
-fn unary_reason(op: usize, k: Kind) -> usize
+fn unary_reason(op: usize, k: Kind) -> Reason
     ensures { result ≡ unary_reason op k }
 {
-    if op == MINUS {
-        if family_of(k) == UINT {
-            return UINT_NEGATED;
-        }
-        return BAD_TYPES;
+    match op {
+        MINUS if family_of(k) == UINT => Reason::UintNegated,
+        MINUS | BANG => Reason::BadTypes,
+        _ => Reason::UnknownHere,
     }
-    if op == BANG {
-        return BAD_TYPES;
-    }
-    UNKNOWN_HERE
 }
 
 // An operator's own rule on one operand.
@@ -455,5 +391,5 @@ pub fn plain_unary(op: usize, k: Kind) -> Outcome
     if taker_of(k) == op {
         return known(family_of(k) as usize);
     }
-    unknown(one_error(unary_reason(op, k)))
+    unknown(Errors::One(unary_reason(op, k)))
 }

@@ -1,7 +1,7 @@
 -- Terms placed one after another: what is out, with what is left, comes to the whole. Assumes nothing.
 use mathlib.Core.Path.{◌≡◌, refl, sym, ap, ◌∙◌}
 use mathlib.Core.Bool.{Bool, true, false, cond}
-use mathlib.Core.List.{List, [], ◌∷◌, ◌++◌, append_assoc, append-nil}
+use mathlib.Core.List.{List, [], ◌∷◌, ◌++◌, append_assoc}
 use Prim.Native.Nat.{ℕ, zero, suc, ◌+◌, ◌≤◌, ◌<◌}
 use native.Mathlib.Nat.{zero-add, add-zero, add-suc, suc-add, not-suc-le-zero, le_of_suc-le-suc}
 use native.Mathlib.Numerals.{add-one}
@@ -29,38 +29,18 @@ pub record Resting (v w : Unit) (j : ℕ) (out : Unit) (i : ℕ) : Type 0 where
   pub middle : List Term
   pub held : (l : List Term) → v ≡ unit_of l → out ≡ unit_of (l ++ middle)
   pub whole : middle ++ terms_from w i ≡ terms_from w j
-  pub i_in : i ≤ w.count
-  pub i_past : j ≤ i
   pub size : out.count + j ≡ v.count + i
-
-pub resting_start : (v w : Unit) (j : ℕ) → j ≤ w.count → Resting v w j v j
-resting_start v w j h = record {
-  middle = [];
-  held = λ l e. e ∙ ap unit_of (sym (append-nil l));
-  whole = refl;
-  i_in = h;
-  i_past = omega arith;
-  size = refl;
-}
 
 module _ (v w : Unit) (j : ℕ) (out : Unit) (i : ℕ) (st : Resting v w j out i) where
   pub resting_next : i < w.count → (r : Unit) → r.count ≡ out.count + 1 → ((l : List Term) → out ≡ unit_of l → r ≡ unit_of (l ++ (term_at w i ∷ []))) → Resting v w j r (i + 1)
   resting_next h r n f =
       let s = st.size in
-      let p = st.i_past in
       record {
         middle = st.middle ++ (term_at w i ∷ []);
         held = λ l e. f (l ++ st.middle) (st.held l e) ∙ ap unit_of (append_assoc l st.middle (term_at w i ∷ []));
         whole = append_assoc st.middle (term_at w i ∷ []) (terms_from w (i + 1)) ∙ ap (λ t. st.middle ++ t) (sym (from_step (places_of w) i h)) ∙ st.whole;
-        i_in = omega arith;
-        i_past = omega arith;
         size = omega arith;
       }
-
-  pub resting_end : w.count ≤ i → (l : List Term) → v ≡ unit_of l → out ≡ unit_of (l ++ terms_from w j)
-  resting_end h l e =
-      st.held l e
-      ∙ ap (λ t. unit_of (l ++ t)) (sym (append-nil st.middle) ∙ ap (λ t. st.middle ++ t) (sym (from_end (places_of w) i h)) ∙ st.whole)
 
 -- ---- one term at its place
 
@@ -70,22 +50,9 @@ pub record Placing (page : List ℕ) (w : Unit) (x : Term) (v : Unit) (j : ℕ) 
   pub held : v ≡ unit_of out
   pub size : length out ≡ j
   pub whole : out ++ place page x (terms_from w j) ≡ place page x (terms_of w)
-  pub j_in : j ≤ w.count
 
 module _ (page : List ℕ) (w : Unit) (x : Term) where
-  pub placing_start : (v : Unit) → v ≡ unit_of [] → Placing page w x v 0
-  placing_start v e = record {
-    out = [];
-    held = e;
-    size = refl;
-    whole = ap (place page x) (from_start (places_of w));
-    j_in = omega arith;
-  }
-
   module _ (v : Unit) (j : ℕ) (st : Placing page w x v j) where
-    pub placing_count : v.count ≡ j
-    placing_count = ap (λ (u : Unit). u.count) st.held ∙ st.size
-
     -- behind the last
     pub placing_end : w.count ≤ j → (r : Unit) → ((l : List Term) → v ≡ unit_of l → r ≡ unit_of (l ++ (x ∷ []))) → r ≡ unit_of (place page x (terms_of w))
     unfolding place
@@ -112,7 +79,6 @@ module _ (page : List ℕ) (w : Unit) (x : Term) where
         held = f st.out st.held;
         size = length-append st.out (term_at w j ∷ []) ∙ ap (λ k. k + 1) st.size;
         whole = append_assoc st.out (term_at w j ∷ []) (place page x (terms_from w (j + 1))) ∙ ap (λ t. st.out ++ t) (sym here) ∙ st.whole;
-        j_in = omega arith;
       }
         where
           here : place page x (terms_from w j) ≡ term_at w j ∷ place page x (terms_from w (j + 1))
@@ -159,7 +125,6 @@ pub record Sorting (page : List ℕ) (n : ℕ) (u w : Unit) (i : ℕ) : Type 0 w
   pub whole : placed page done (terms_from u i) ≡ by_name page (terms_of u)
   pub used : in_use n done ≡ true
   pub coming : in_use n (terms_from u i) ≡ true
-  pub i_in : i ≤ u.count
 
 module _ (page : List ℕ) (n : ℕ) (u : Unit) where
   pub sorting_start : (w : Unit) → w ≡ unit_of [] → in_use n (terms_of u) ≡ true → Sorting page n u w 0
@@ -171,7 +136,6 @@ module _ (page : List ℕ) (n : ℕ) (u : Unit) where
     whole = ap (placed page []) (from_start (places_of u));
     used = refl;
     coming = ap (in_use n) (from_start (places_of u)) ∙ h;
-    i_in = omega arith;
   }
 
   module _ (w : Unit) (i : ℕ) (st : Sorting page n u w i) where
@@ -198,5 +162,4 @@ module _ (page : List ℕ) (n : ℕ) (u : Unit) where
         whole = ap (placed page st.done) (sym (from_step (places_of u) i h)) ∙ st.whole;
         used = place_in_use n page (term_at u i) st.done sorting_used st.used;
         coming = in_use_tail n (term_at u i) (terms_from u (i + 1)) ahead;
-        i_in = omega arith;
       }

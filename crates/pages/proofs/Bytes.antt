@@ -1,45 +1,28 @@
 -- Bytes compared and tested from an index on, one step at a time. Assumes nothing.
 use mathlib.Core.Path.{◌≡◌, refl, sym, ◌∙◌, ap}
-use mathlib.Core.Bool.{Bool, true, false, ◌&&◌}
+pub use mathlib.Core.Bool.{and-false as and_false}
+use mathlib.Core.Bool.{true, ◌&&◌, and-true, and_assoc}
 use mathlib.Core.Logic.{⊎_elim}
 use mathlib.Core.List.{List, [], ◌∷◌, ◌++◌}
 use Prim.Native.Nat.{ℕ, zero, suc, ◌+◌, ◌-◌, ◌*◌, ◌/◌, ◌%◌, ◌^◌, ◌<◌, ◌≤◌}
 use native.Mathlib.Nat.{add-zero, pow-suc, div-one, div-eq_of_lt, div-div-eq-div-mul, sub-zero, not-suc-le-zero, le_of_suc-le-suc, eq-or-lt_of_le}
-use native.Mathlib.Numerals.{add-one}
 use native.Mathlib.Omega.{arith}
-use lib.ListN.{length, get_or, take, drop, replicate, length-drop, drop_of_length-le, take-append-drop}
-use lib.Seq.{take_all, drop-cons, drop-drop}
+use lib.ListN.{length, get_or, drop, replicate}
 use lib.Bits.{bit_or, or_zero_l, or_add_and, and_le_r}
 use lib.Dec.{eqb}
-use borrow.Author.Tests.{eq-eqb, ne_eqb, eqb-true}
-use Rattle.pages.specs.Bytes.{eqs, zeros, word_at, big_endian, number_at, long_bytes}
+use lib.Pointwise.{pointwise, bytes_decides}
+use Rattle.std.specs.List.{fold}
+use borrow.Author.Tests.{ne_eqb, eqb-true}
+use Rattle.pages.specs.Bytes.{eqs, zeros, word_at, big_endian, number_at}
 use Rattle.pages.proofs.Quant.{and_true}
 
-module _ (l m : List ℕ) (i : ℕ) (il : i < length l) (im : i < length m) where
-  at_i : eqs (drop i l) (drop i m) ≡ (eqb (get_or l i 0) (get_or m i 0) && eqs (drop (i + 1) l) (drop (i + 1) m))
-  unfolding eqs
-  at_i = rw (drop-cons l i 0 il, drop-cons m i 0 im, add-one i)
-
-  pub eqs_on : get_or l i 0 ≡ get_or m i 0 → eqs (drop i l) (drop i m) ≡ eqs (drop (i + 1) l) (drop (i + 1) m)
-  eqs_on e = at_i ∙ rw (eq-eqb (get_or l i 0) (get_or m i 0) e)
-
-  pub eqs_off : (get_or l i 0 ≡ get_or m i 0 → ⊥) → eqs (drop i l) (drop i m) ≡ false
-  eqs_off e = at_i ∙ rw (ne_eqb (get_or l i 0) (get_or m i 0) e)
-
-pub eqs_end : (l m : List ℕ) (i : ℕ) → length l ≤ i → length m ≤ i → eqs (drop i l) (drop i m) ≡ true
+-- what `==` answers at slices of numbers
+pub eqs_is : (l m : List ℕ) → pointwise eqb l m ≡ eqs l m
 unfolding eqs
-eqs_end l m i hl hm = rw (drop_of_length-le l hl, drop_of_length-le m hm)
-
-pub and_false : (a : Bool) → (a && false) ≡ false
-and_false true = refl
-and_false false = refl
-
-pub eqs_length : (l m : List ℕ) → (length l ≡ length m → ⊥) → eqs l m ≡ false
-unfolding eqs
-eqs_length [] [] h = absurd (h refl)
-eqs_length [] (y ∷ m) h = refl
-eqs_length (x ∷ l) [] h = refl
-eqs_length (x ∷ l) (y ∷ m) h = rw (eqs_length l m (λ e. h (ap suc e))) (and_false (eqb x y))
+eqs_is [] [] = refl
+eqs_is [] (y ∷ m) = refl
+eqs_is (x ∷ l) [] = refl
+eqs_is (x ∷ l) (y ∷ m) = rw (eqs_is l m) refl
 
 -- an OR is 0 where both numbers are
 bits_zero : (a b : ℕ) → eqb (bit_or a b) 0 ≡ (eqb a 0 && eqb b 0)
@@ -48,67 +31,26 @@ bits_zero (suc a) b =
     let more : bit_or (suc a) b ≡ 0 → ⊥ = λ e. omega (arith, or_add_and (suc a) b, and_le_r (suc a) b) in
     rw (ne_eqb (bit_or (suc a) b) 0 more, ne_eqb (suc a) 0 (λ e. omega arith))
 
-and_assoc : (a b c : Bool) → ((a && b) && c) ≡ (a && (b && c))
-and_assoc true b c = refl
-and_assoc false b c = refl
-
-and_self : (a : Bool) → (a && true) ≡ a
-and_self true = refl
-and_self false = refl
-
-module _ (l : List ℕ) (i : ℕ) (il : i < length l) where
-  zero_at : zeros (drop i l) ≡ (eqb (get_or l i 0) 0 && zeros (drop (i + 1) l))
-  unfolding zeros
-  zero_at = rw (drop-cons l i 0 il, add-one i)
-
-  -- the bits of one more byte
-  pub bits_more : (a : ℕ) → (eqb a 0 && zeros (drop i l)) ≡ (eqb (bit_or a (get_or l i 0)) 0 && zeros (drop (i + 1) l))
-  bits_more a = rw (zero_at, bits_zero a (get_or l i 0)) (sym (and_assoc (eqb a 0) (eqb (get_or l i 0) 0) (zeros (drop (i + 1) l))))
-
--- the bits of every byte
-pub bits_all : (a : ℕ) (l : List ℕ) (i : ℕ) → length l ≤ i → eqb a 0 ≡ (eqb a 0 && zeros (drop i l))
+-- the bits of all bytes together
+bits_more_of : (a : ℕ) (l : List ℕ) → eqb (fold bit_or a l) 0 ≡ (eqb a 0 && zeros l)
 unfolding zeros
-bits_all a l i h = rw (drop_of_length-le l h) (sym (and_self (eqb a 0)))
+bits_more_of a [] = sym (and-true (eqb a 0))
+bits_more_of a (x ∷ l) = bits_more_of (bit_or a x) l ∙ rw (bits_zero a x) (and_assoc (eqb a 0) (eqb x 0) (zeros l))
 
-zeros_append : (l m : List ℕ) → zeros (l ++ m) ≡ (zeros l && zeros m)
+pub bits_of_all : (l : List ℕ) → eqb (fold bit_or 0 l) 0 ≡ zeros l
+bits_of_all = bits_more_of 0
+
+pub zeros_append : (l m : List ℕ) → zeros (l ++ m) ≡ (zeros l && zeros m)
 unfolding zeros
 zeros_append [] m = refl
 zeros_append (x ∷ l) m = rw (zeros_append l m) (sym (and_assoc (eqb x 0) (zeros l) (zeros m)))
 
--- a block of n bytes, and what is after it
-module _ (l : List ℕ) (i n : ℕ) where
-  zero_block : zeros (drop i l) ≡ (zeros (take n (drop i l)) && zeros (drop (i + n) l))
-  zero_block = ap zeros (sym (take-append-drop n (drop i l))) ∙ zeros_append (take n (drop i l)) (drop n (drop i l)) ∙ rw (drop-drop n i l)
-
-  part : i + n - i ≡ n
-  part = omega arith
-
-  pub zeros_on : zeros (take (i + n - i) (drop i l)) ≡ true → zeros (drop i l) ≡ zeros (drop (i + n) l)
-  zeros_on e = zero_block ∙ rw (rw part at e)
-
-  pub zeros_off : zeros (take (i + n - i) (drop i l)) ≡ false → zeros (drop i l) ≡ false
-  zeros_off e = zero_block ∙ rw (rw part at e)
-
--- the bytes that are left
-pub zeros_rest : (l : List ℕ) (i : ℕ) → zeros (take (length l - i) (drop i l)) ≡ zeros (drop i l)
-zeros_rest l i = rw (take_all (length l - i) (drop i l) (omega (arith, length-drop i l)))
-
 -- lists that are equal byte for byte are equal
 pub eqs_true : (l m : List ℕ) → eqs l m ≡ true → l ≡ m
-unfolding eqs
-eqs_true [] [] e = refl
-eqs_true [] (y ∷ ys) e = let z : ◌≡◌ {A = ℕ} 0 1 = cc in absurd (omega arith)
-eqs_true (x ∷ xs) [] e = let z : ◌≡◌ {A = ℕ} 0 1 = cc in absurd (omega arith)
-eqs_true (x ∷ xs) (y ∷ ys) e =
-    let both = and_true (eqb x y) (eqs xs ys) e in
-    let h : x ≡ y = eqb-true x y both.0 in
-    let t : xs ≡ ys = eqs_true xs ys both.1 in
-    cc
+eqs_true l m e = (bytes_decides l m).0 (eqs_is l m ∙ e)
 
 pub eqs_refl : (l : List ℕ) → eqs l l ≡ true
-unfolding eqs
-eqs_refl [] = refl
-eqs_refl (x ∷ xs) = rw (eq-eqb x x refl) (eqs_refl xs)
+eqs_refl l = sym (eqs_is l l) ∙ (bytes_decides l l).1 refl
 
 -- a page of zeros
 pub zeros_made : (n : ℕ) → zeros (replicate n 0) ≡ true
@@ -120,6 +62,18 @@ pub made_at : (n i : ℕ) → get_or {A = ℕ} (replicate n 0) i 0 ≡ 0
 made_at zero i = refl
 made_at (suc n) zero = refl
 made_at (suc n) (suc i) = made_at n i
+
+-- a list is zeros where each byte is 0
+pub zeros_each : (l : List ℕ) → ((i : ℕ) → i < length l → get_or l i 0 ≡ 0) → zeros l ≡ true
+unfolding zeros
+zeros_each [] h = refl
+zeros_each (x ∷ l) h = rw (h 0 (omega arith)) (zeros_each l (λ i k. h (suc i) (omega arith)))
+
+pub zeros_get : (l : List ℕ) (i : ℕ) → zeros l ≡ true → get_or l i 0 ≡ 0
+unfolding zeros
+zeros_get [] i h = refl
+zeros_get (x ∷ l) zero h = eqb-true x 0 (and_true (eqb x 0) (zeros l) h).0
+zeros_get (x ∷ l) (suc i) h = zeros_get l i (and_true (eqb x 0) (zeros l) h).1
 
 -- zeros stay zeros from a later index on
 pub zeros_drop : (l : List ℕ) (k : ℕ) → zeros l ≡ true → zeros (drop k l) ≡ true
@@ -185,12 +139,3 @@ number_two bytes at = rw add-zero (omega arith)
 
 pub big_one : (n : ℕ) → big_endian 1 n ≡ n % 256 ∷ []
 big_one n = rw (div-one n) refl
-
--- eight bytes are four words
-pub four_words : (bytes : List ℕ) (at : ℕ)
-    → ((word_at bytes at * 65536 + word_at bytes (at + 2)) * 65536 + word_at bytes (at + 4)) * 65536 + word_at bytes (at + 6) ≡ number_at bytes at long_bytes
-four_words bytes at =
-    let a : at + 2 + 1 ≡ at + 3 = omega arith in
-    let b : at + 4 + 1 ≡ at + 5 = omega arith in
-    let c : at + 6 + 1 ≡ at + 7 = omega arith in
-    rw (a, b, c, add-zero) (omega arith)

@@ -1,6 +1,7 @@
 -- Laws that the proofs of every page cite.
 pub mod Quant
 pub mod Bytes
+pub mod Blocks
 pub mod Put
 pub mod Words
 pub mod Pad

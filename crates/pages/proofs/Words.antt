@@ -7,12 +7,12 @@ use native.Mathlib.Nat.{not-suc-le-zero, le_of_suc-le-suc, div-add-mod'}
 use native.Mathlib.Numerals.{add-one}
 use native.Mathlib.Omega.{arith}
 use lib.Dec.{ltb}
-use lib.ListN.{length, get_or, set, take}
-use lib.Seq.{take-suc, take-length, length-take-le, paste, paste-suc, ext_get_or}
+use lib.ListN.{length, get_or, take}
+use lib.Seq.{take-suc, length-take-le, ext_get_or}
 use borrow.Author.Tests.{ltb-true, ltb-false}
 use Rattle.pages.specs.Bytes.{word_bytes, word_at, bytes_of, words, words_at, put}
 use Rattle.pages.proofs.Bytes.{number_same, number_two}
-use Rattle.pages.proofs.Put.{put_none, put_append, put_in, put_whole}
+use Rattle.pages.proofs.Put.{put_none, put_append, put_in}
 
 -- ---- in bytes
 
@@ -69,9 +69,6 @@ module _ (l : List ℕ) (at : ℕ) (ns : List ℕ) (room : at + word_bytes * len
       let f : words (take (i + 1) ns) ≡ words (take i ns) ++ bytes_of (get_or ns i 0) = ap words e ∙ words_append (take i ns) (get_or ns i 0 ∷ []) in
       rw (f, ← k) (put_append l at (words (take i ns)) (bytes_of (get_or ns i 0)) (omega (arith, k)))
 
-  pub words_all : (i : ℕ) → i ≡ length ns → put l at (words (take i ns)) ≡ put l at (words ns)
-  words_all i e = rw (e, take-length ns) refl
-
 -- ---- read from an index on
 
 pub read_length : (l : List ℕ) (at n : ℕ) → length (words_at l at n) ≡ n
@@ -86,25 +83,6 @@ read_each l at (suc n) zero h = let e : at + word_bytes * 0 ≡ at = omega arith
 read_each l at (suc n) (suc i) h =
     let e : at + word_bytes * suc i ≡ at + word_bytes + word_bytes * i = omega arith in
     rw e (read_each l (at + word_bytes) n i (le_of_suc-le-suc h))
-
--- into places, one after another
-
-module _ (l : List ℕ) (at : ℕ) (ns : List ℕ) where
-  pub reading_more : (i : ℕ) → i < length ns
-      → set (paste ns 0 (words_at l at (length ns)) i) i (word_at l (at + word_bytes * i)) ≡ paste ns 0 (words_at l at (length ns)) (i + 1)
-  reading_more i h =
-      let ws = words_at l at (length ns) in
-      let k = read_length l at (length ns) in
-      let z : i ≡ 0 + i = omega arith in
-      ap (set (paste ns 0 ws i) i) (sym (read_each l at (length ns) i h))
-      ∙ ap (λ (x : ℕ). set (paste ns 0 ws i) x (get_or ws i 0)) z
-      ∙ rw add-one (paste-suc ns 0 ws i 0 (omega (arith, k)) (omega (arith, k)))
-
-  pub reading_all : (i : ℕ) → i ≡ length ns → paste ns 0 (words_at l at (length ns)) i ≡ words_at l at (length ns)
-  reading_all i e =
-      let k = read_length l at (length ns) in
-      let f : i ≡ length (words_at l at (length ns)) = e ∙ sym k in
-      rw f (put_whole ns (words_at l at (length ns)) k)
 
 -- numbers that were written are read again
 

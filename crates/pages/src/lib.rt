@@ -2,6 +2,7 @@
 #![tactic(auto)]
 
 ghost use Rattle.std.specs.Prelude.{◌≡◌, ◌+◌, ◌*◌, ◌≤◌, ◌<◌, length, take, drop, replicate, eqb};
+ghost use Rattle.pages.specs.Pad.{padded};
 ghost use Rattle.pages.specs.Bytes.{eqs, zeros, word_bytes, count_bytes, word_at, count_of, bytes_of, words, words_at, big_endian, number_at, long_bytes, low_bytes, put};
 
 // How many bytes a word, a number below 65,536, takes.
@@ -14,37 +15,21 @@ pub const COUNT_BYTES: usize = WORD_BYTES;
 pub fn index(b: u8) -> usize
     ensures { (result ≡ b) × (result < 256) }
 {
-    b as usize
+    usize::from(b)
 }
 
 // Whether two slices have the same bytes.
 pub fn same(a: &[u8], b: &[u8]) -> bool
     ensures { result ≡ eqs a.now b.now }
 {
-    if a.len() != b.len() {
-        return false;
-    }
-    let mut i: usize = 0;
-    while i < a.len() {
-        if a[i] != b[i] {
-            return false;
-        }
-        i += 1;
-    }
-    true
+    a == b
 }
 
 // The bits that the bytes have together.
 fn bits_of(bytes: &[u8]) -> u8
     ensures { eqb result 0 ≡ zeros bytes.now }
 {
-    let mut bits: u8 = 0;
-    let mut i: usize = 0;
-    while i < bytes.len() {
-        bits = bits | bytes[i];
-        i += 1;
-    }
-    bits
+    bytes.iter().fold(0, |bits, b| bits | b)
 }
 
 // How many bytes are tested for zeros at once.
@@ -55,15 +40,8 @@ pub fn zeros_from(page: &[u8], at: usize) -> bool
     requires { at ≤ length page.now }
     ensures { result ≡ zeros (drop at page.now) }
 {
-    let mut i = at;
-    while page.len() - i >= BLOCK {
-        let end = i + BLOCK;
-        if bits_of(&page[i..end]) != 0 {
-            return false;
-        }
-        i = end;
-    }
-    bits_of(&page[i..]) == 0
+    let (blocks, rest) = page[at..].as_chunks::<BLOCK>();
+    blocks.iter().all(|block| bits_of(block) == 0) && bits_of(rest) == 0
 }
 
 // The number that two bytes from index at on say.
@@ -71,7 +49,7 @@ pub fn word_at(page: &[u8], at: usize) -> usize
     requires { at + word_bytes ≤ length page.now }
     ensures { (result ≡ word_at page.now at) × (result < 65536) }
 {
-    index(page[at]) * 256 + index(page[at + 1])
+    word_index(u16::from_be_bytes([page[at], page[at + 1]]))
 }
 
 // The count that the page's first two bytes say.
@@ -90,7 +68,7 @@ pub fn count_bytes(n: usize) -> Word
     requires { n < 65536 }
     ensures { result ≡ bytes_of n }
 {
-    [(n / 256) as u8, (n % 256) as u8]
+    (n as u16).to_be_bytes()
 }
 
 // How many bytes a number of 64 bits takes.
@@ -103,16 +81,7 @@ pub type Long = [u8; LONG_BYTES];
 pub fn long_bytes(n: u64) -> Long
     ensures { result ≡ big_endian long_bytes n }
 {
-    [
-        (n / 72057594037927936 % 256) as u8,
-        (n / 281474976710656 % 256) as u8,
-        (n / 1099511627776 % 256) as u8,
-        (n / 4294967296 % 256) as u8,
-        (n / 16777216 % 256) as u8,
-        (n / 65536 % 256) as u8,
-        (n / 256 % 256) as u8,
-        (n % 256) as u8,
-    ]
+    n.to_be_bytes()
 }
 
 // The number that the eight bytes from index at on say.
@@ -120,11 +89,7 @@ pub fn long(page: &[u8], at: usize) -> u64
     requires { at + long_bytes ≤ length page.now }
     ensures { result ≡ number_at page.now at long_bytes }
 {
-    let a = word_at(page, at) as u64;
-    let b = word_at(page, at + 2) as u64;
-    let c = word_at(page, at + 4) as u64;
-    let d = word_at(page, at + 6) as u64;
-    ((a * 65536 + b) * 65536 + c) * 65536 + d
+    u64::from_be_bytes(page[at..at + LONG_BYTES].try_into().unwrap())
 }
 
 // Writes bytes into the page from index at on.
@@ -132,18 +97,14 @@ pub fn put_bytes(page: &mut [u8], at: usize, bytes: &[u8])
     requires { at + length bytes.now ≤ length page.old }
     ensures { page.new ≡ put page.old at bytes.now }
 {
-    let mut i = 0;
-    while i < bytes.len() {
-        page[at + i] = bytes[i];
-        i += 1;
-    }
+    page[at..at + bytes.len()].copy_from_slice(bytes);
 }
 
 // A word as an index.
 pub fn word_index(n: u16) -> usize
     ensures { (result ≡ n) × (result < 65536) }
 {
-    n as usize
+    usize::from(n)
 }
 
 // Writes numbers into the page from index at on, two bytes each.
@@ -151,11 +112,8 @@ pub fn put_words(page: &mut [u8], at: usize, numbers: &[u16])
     requires { at + word_bytes * length numbers.now ≤ length page.old }
     ensures { page.new ≡ put page.old at (words numbers.now) }
 {
-    let mut i: usize = 0;
-    while i < numbers.len() {
-        let word = count_bytes(word_index(numbers[i]));
-        put_bytes(page, at + WORD_BYTES * i, &word);
-        i += 1;
+    for (i, number) in numbers.iter().enumerate() {
+        put_bytes(page, at + WORD_BYTES * i, &number.to_be_bytes());
     }
 }
 
@@ -164,10 +122,8 @@ pub fn read_words(page: &[u8], at: usize, numbers: &mut [u16])
     requires { at + word_bytes * length numbers.old ≤ length page.now }
     ensures { numbers.new ≡ words_at page.now at (length numbers.old) }
 {
-    let mut i: usize = 0;
-    while i < numbers.len() {
-        numbers[i] = word_at(page, at + WORD_BYTES * i) as u16;
-        i += 1;
+    for (i, number) in numbers.iter_mut().enumerate() {
+        *number = word_at(page, at + WORD_BYTES * i) as u16;
     }
 }
 
@@ -175,33 +131,47 @@ pub fn read_words(page: &[u8], at: usize, numbers: &mut [u16])
 pub fn clear(page: &mut [u8])
     ensures { page.new ≡ replicate (length page.old) 0 }
 {
-    let mut i: usize = 0;
-    while i < page.len() {
-        page[i] = 0;
-        i += 1;
-    }
+    page.fill(0);
 }
 
-// Writes the lowest byte of each number from index at on.
+// Writes the lowest byte of each number from index at on. A width shared with `put_words` would make both bodies longer.
 pub fn put_low_bytes(page: &mut [u8], at: usize, numbers: &[u16])
     requires { at + length numbers.now ≤ length page.old }
     ensures { page.new ≡ put page.old at (low_bytes numbers.now) }
 {
-    let mut i: usize = 0;
-    while i < numbers.len() {
-        page[at + i] = (numbers[i] % 256) as u8;
-        i += 1;
+    for (i, number) in numbers.iter().enumerate() {
+        page[at + i] = (number % 256) as u8;
     }
 }
 
-// Reads a byte for each place, from index at on.
+// Reads a byte for each place, from index at on; apart from `read_words` for the same reason.
 pub fn read_bytes(page: &[u8], at: usize, numbers: &mut [u16])
     requires { at + length numbers.old ≤ length page.now }
     ensures { numbers.new ≡ take (length numbers.old) (drop at page.now) }
 {
-    let mut i: usize = 0;
-    while i < numbers.len() {
-        numbers[i] = index(page[at + i]) as u16;
-        i += 1;
+    for (i, number) in numbers.iter_mut().enumerate() {
+        *number = u16::from(page[at + i]);
+    }
+}
+
+// Bytes by value: they stand from place 0 on, zeros after them, and `size` is how many they are.
+#[derive(Clone, Copy)]
+pub struct Padded<const N: usize> {
+    pub size: usize,
+    pub bytes: [u8; N],
+}
+
+impl<const N: usize> Padded<N> {
+    // The same bytes in N places.
+    pub fn of(bytes: &[u8]) -> Padded<N>
+        requires { length bytes.now ≤ N }
+        ensures { result ≡ padded N bytes.now }
+    {
+        let mut places = [0; N];
+        put_bytes(&mut places, 0, bytes);
+        Padded {
+            size: bytes.len(),
+            bytes: places,
+        }
     }
 }

@@ -1,4 +1,5 @@
 -- What the calls on a page of pairs come to, one law for each return. Assumes nothing.
+use Rattle.std.proofs.Common.{Some, None, Ok, Err}
 use mathlib.Core.Path.{◌≡◌, refl, sym, ◌∙◌, ap, subst}
 use mathlib.Core.Bool.{Bool, true, false, not, cond}
 use mathlib.Core.List.{List, [], ◌∷◌}
@@ -7,13 +8,11 @@ use native.Mathlib.Omega.{arith}
 use lib.Dec.{T, leb, ltb}
 use lib.ListN.{length, take, drop, replicate}
 use borrow.Author.Tests.{lt-ltb, le-ltb, leb-false, not-false}
-use Rattle.refusals.specs.Numbers.{is_refused}
 use Rattle.refusals.specs.Lowest.{◌when◌, lowest}
 use Rattle.refusals.specs.declared.Refusal.{Refusal}
 use Rattle.refusals.specs.declared.Refusal.TheVariants.{Broken, Unused, Full}
-use Rattle.refusals.specs.declared.Verdict.{Verdict}
-use Rattle.refusals.specs.declared.Verdict.TheVariants.{Passed, Refused}
-use Rattle.refusals.proofs.Lowest.{first_holds, passed_parts, passed_is}
+use Rattle.refusals.specs.Numbers.{Verdict}
+use Rattle.refusals.proofs.Lowest.{first_holds, passed_parts, answer_of_ok, answer_of_err}
 use Rattle.pages.specs.Quant.{first_to}
 use Rattle.pages.specs.Bytes.{count_bytes, count_of, put}
 use Rattle.pages.proofs.Pad.{length_pad}
@@ -21,14 +20,11 @@ use Rattle.names.specs.Table.{names_max}
 use Rattle.names.specs.Calls.{lent_broken, used_of, is_used}
 use Rattle.names.proofs.Used.{used_below}
 use Rattle.groups.specs.Groups.{pair, selves, walk, root_of, Below}
-use Rattle.pairs.specs.Table.{pairs_max, pair_bytes, both_used, insert_verdict, with_pair, insertion}
+use Rattle.pairs.specs.Table.{pairs_max, pair_bytes, both_used, insert_verdict, with_pair, insertion, after_insertion}
 use Rattle.pairs.specs.Table as tables
 use Rattle.pairs.specs.Page.{parents_at, size_of, bodies_in, parents_in, table_in, listed_in, holds, formed, with_table}
 use Rattle.pairs.specs.Calls.{table_broken, empty_verdict, empty_page, pair_verdict, page_after, symbol_verdict, root_answer, is_of, factor_of, factor_answer}
 use Rattle.pairs.specs.declared.ConversionTable.{ConversionTable}
-use Rattle.pairs.specs.declared.Outcome.{Outcome}
-use Rattle.pairs.specs.declared.Root.{Root}
-use Rattle.pairs.specs.declared.Factor.{Factor}
 use Rattle.pairs.proofs.Table.{length_pairs, Form, form}
 use Rattle.pairs.proofs.Page.{form_held, form_unheld, formed_parts, count_in}
 use Rattle.pairs.proofs.Grown.{form_below, form_more}
@@ -36,11 +32,11 @@ use Rattle.pairs.proofs.Grown.{form_below, form_more}
 -- ---- making a table
 
 module _ (page : List ℕ) where
-  pub empty_short : length page < size_of 0 → (Refused Broken ≡ empty_verdict page) × (page ≡ empty_page page)
+  pub empty_short : length page < size_of 0 → (Err Broken ≡ empty_verdict page) × (page ≡ empty_page page)
   unfolding empty_verdict empty_page
   empty_short h = (rw (lt-ltb (length page) (size_of 0) h), rw (lt-ltb (length page) (size_of 0) h))
 
-  pub empty_made : size_of 0 ≤ length page → (Passed ≡ empty_verdict page) × (put (replicate (length page) 0) count_bytes (selves 0 names_max) ≡ empty_page page)
+  pub empty_made : size_of 0 ≤ length page → (Ok tt ≡ empty_verdict page) × (put (replicate (length page) 0) count_bytes (selves 0 names_max) ≡ empty_page page)
   unfolding empty_verdict empty_page
   empty_made h = (rw (le-ltb (length page) (size_of 0) h), rw (le-ltb (length page) (size_of 0) h))
 
@@ -68,13 +64,13 @@ module _ (page names : List ℕ) (lent : Bool) where
 
 -- a verdict, or 10 where nothing else is refused and there is no room
 roomed : Verdict → Bool → Verdict
-roomed Passed cramped = cond cramped (Refused Full) Passed
-roomed (Refused r) cramped = Refused r
+roomed (Ok _) cramped = cond cramped (Err Full) (Ok tt)
+roomed (Err r) cramped = Err r
 
 roomy : (v : Verdict) → roomed v false ≡ v
 unfolding roomed
-roomy Passed = refl
-roomy (Refused r) = refl
+roomy (Ok _) = refl
+roomy (Err r) = refl
 
 lowest_room : (a b c d : Bool)
     → lowest ((Broken when a) ∷ (Unused when b) ∷ (Full when c) ∷ (Full when d) ∷ []) ≡ roomed (lowest ((Broken when a) ∷ (Unused when b) ∷ (Full when c) ∷ [])) d
@@ -88,8 +84,8 @@ lowest_room false false true d = first_holds Full ((Full when d) ∷ []) refl
 lowest_room false false false d = refl
 
 -- a table that was not full has one more pair
-insert_count : (t : ConversionTable) (n s f b : ℕ) → insert_verdict t n (pair s b) ≡ Passed → (t.count < pairs_max) × ((insertion t n s f b).table ≡ with_pair t s f b)
-unfolding insert_verdict insertion
+insert_count : (t : ConversionTable) (n s f b : ℕ) → insert_verdict t n (pair s b) ≡ Ok tt → (t.count < pairs_max) × (after_insertion t n s f b ≡ with_pair t s f b)
+unfolding insert_verdict after_insertion
 insert_count t n s f b v =
     let x = passed_parts Broken (not (tables.formed t n)) ((Unused when not (both_used n (pair s b))) ∷ (Full when leb pairs_max t.count) ∷ []) v in
     let y = passed_parts Unused (not (both_used n (pair s b))) ((Full when leb pairs_max t.count) ∷ []) x.1 in
@@ -97,7 +93,7 @@ insert_count t n s f b v =
     (leb-false pairs_max t.count z.0, rw v)
 
 -- a table that takes a pair was in form, and the pair's symbols are in use
-insert_form : (t : ConversionTable) (n s b : ℕ) → insert_verdict t n (pair s b) ≡ Passed → Form t n × (both_used n (pair s b) ≡ true)
+insert_form : (t : ConversionTable) (n s b : ℕ) → insert_verdict t n (pair s b) ≡ Ok tt → Form t n × (both_used n (pair s b) ≡ true)
 unfolding insert_verdict
 insert_form t n s b v =
     let x = passed_parts Broken (not (tables.formed t n)) ((Unused when not (both_used n (pair s b))) ∷ (Full when leb pairs_max t.count) ∷ []) v in
@@ -105,24 +101,24 @@ insert_form t n s b v =
     (form t n (not-false (tables.formed t n) x.0), not-false (both_used n (pair s b)) y.0)
 
 module _ (page names : List ℕ) (lent : Bool) (s f b : ℕ) where
-  refused : (r : Refusal) → pair_verdict page names lent (pair s b) ≡ Refused r → (Refused r ≡ pair_verdict page names lent (pair s b))
+  refused : (r : Refusal) → pair_verdict page names lent (pair s b) ≡ Err r → (Err r ≡ pair_verdict page names lent (pair s b))
       × (page ≡ page_after page names lent s f b)
   unfolding page_after
   refused r v = (sym v, rw v)
 
-  pub pair_broken : table_broken page names lent ≡ true → (Refused Broken ≡ pair_verdict page names lent (pair s b)) × (page ≡ page_after page names lent s f b)
+  pub pair_broken : table_broken page names lent ≡ true → (Err Broken ≡ pair_verdict page names lent (pair s b)) × (page ≡ page_after page names lent s f b)
   unfolding pair_verdict
   pair_broken t = refused Broken v
     where
-      v : pair_verdict page names lent (pair s b) ≡ Refused Broken
+      v : pair_verdict page names lent (pair s b) ≡ Err Broken
       v =
           rw t (first_holds Broken ((Unused when not (both_used (used_of names lent) (pair s b))) ∷ (Full when leb pairs_max (count_of page)) ∷ (Full when ltb (length page) (size_of (count_of page + 1))) ∷ []) refl)
 
-  pub pair_unnamed : lent_broken names lent ≡ true → (Refused Broken ≡ pair_verdict page names lent (pair s b)) × (page ≡ page_after page names lent s f b)
+  pub pair_unnamed : lent_broken names lent ≡ true → (Err Broken ≡ pair_verdict page names lent (pair s b)) × (page ≡ page_after page names lent s f b)
   pair_unnamed l = pair_broken (sym (broken_names page names lent l))
 
   module _ (l : lent_broken names lent ≡ false) where
-    pub pair_unheld : holds page ≡ false → (Refused Broken ≡ pair_verdict page names lent (pair s b)) × (page ≡ page_after page names lent s f b)
+    pub pair_unheld : holds page ≡ false → (Err Broken ≡ pair_verdict page names lent (pair s b)) × (page ≡ page_after page names lent s f b)
     pair_unheld h = pair_broken (sym (broken_rest page names lent l) ∙ rw (← form_unheld page (used_of names lent) h))
 
     module _ (h : holds page ≡ true) where
@@ -136,89 +132,80 @@ module _ (page names : List ℕ) (lent : Bool) (s f b : ℕ) where
 
       -- where the page has room for one more pair, it is that of the insertion by value of the page's table
       pub page_verdict : size_of (count_of page + 1) ≤ length page
-          → pair_verdict page names lent (pair s b) ≡ (insertion (table_in page) (used_of names lent) s f b).verdict
-      unfolding insertion
+          → pair_verdict page names lent (pair s b) ≡ insert_verdict (table_in page) (used_of names lent) (pair s b)
       page_verdict room = by_value ∙ rw (le-ltb (length page) (size_of (count_of page + 1)) room) (roomy (insert_verdict (table_in page) (used_of names lent) (pair s b)))
 
-      module _ (o : Outcome) (is : o ≡ insertion (table_in page) (used_of names lent) s f b) where
-        verdict_is : o.verdict ≡ insert_verdict (table_in page) (used_of names lent) (pair s b)
+      pub pair_refused : (r : Refusal) → Err r ≡ insertion (table_in page) (used_of names lent) s f b
+          → (Err r ≡ pair_verdict page names lent (pair s b)) × (page ≡ page_after page names lent s f b)
+      unfolding roomed insertion
+      pair_refused r e =
+          let w = answer_of_err (insert_verdict (table_in page) (used_of names lent) (pair s b)) (with_pair (table_in page) s f b) r e in
+          refused r (by_value ∙ rw w)
+
+      module _ (o : ConversionTable) (is : Ok o ≡ insertion (table_in page) (used_of names lent) s f b) where
+        was : insert_verdict (table_in page) (used_of names lent) (pair s b) ≡ Ok tt
         unfolding insertion
-        verdict_is = ap (λ (x : Outcome). x.verdict) is
+        was = (answer_of_ok (insert_verdict (table_in page) (used_of names lent) (pair s b)) (with_pair (table_in page) s f b) o is).0
 
-        pub pair_refused : is_refused o.verdict ≡ true → (o.verdict ≡ pair_verdict page names lent (pair s b)) × (page ≡ page_after page names lent s f b)
+        pub pair_few : count_of page < pairs_max
+        pair_few = rw (count_in page (used_of names lent)) at (insert_count (table_in page) (used_of names lent) s f b was).0
+
+        pub table_grown : o ≡ with_pair (table_in page) s f b
+        unfolding insertion
+        table_grown = (answer_of_ok (insert_verdict (table_in page) (used_of names lent) (pair s b)) (with_pair (table_in page) s f b) o is).1
+
+        pub count_grown : o.count ≡ count_of page + 1
+        unfolding with_pair table_in
+        count_grown = ap (λ (t : ConversionTable). t.count) table_grown
+
+        -- its parents are symbols that a page can hold
+        pub grown_below : Below names_max o.parents
+        grown_below =
+            let n = used_of names lent in
+            let k = insert_form (table_in page) n s b was in
+            let sized : length (table_in page).pairs ≡ pair_bytes * pairs_max = unfold table_in in (length_pad (pair_bytes * pairs_max) 0 (bodies_in page)) in
+            let few : (table_in page).count < pairs_max = (insert_count (table_in page) n s f b was).0 in
+            subst (λ (t : ConversionTable). Below names_max t.parents) (sym table_grown)
+            (form_below (with_pair (table_in page) s f b) n (form_more (table_in page) s f b sized few n k.0 k.1))
+
+        pub pair_cramped : length page < size_of o.count → (Err Full ≡ pair_verdict page names lent (pair s b))
+            × (page ≡ page_after page names lent s f b)
         unfolding roomed
-        pair_refused r = go o.verdict refl r
-          where
-            go : (v : Verdict) → o.verdict ≡ v → is_refused v ≡ true → (o.verdict ≡ pair_verdict page names lent (pair s b))
-                × (page ≡ page_after page names lent s f b)
-            go Passed e k = let z : ◌≡◌ {A = ℕ} 0 1 = cc in absurd (omega arith)
-            go (Refused x) e k =
-                let w : insert_verdict (table_in page) (used_of names lent) (pair s b) ≡ Refused x = sym verdict_is ∙ e in
-                let p = refused x (by_value ∙ rw w) in
-                (e ∙ p.0, p.1)
+        pair_cramped k =
+            let m : length page < size_of (count_of page + 1) = rw count_grown at k in
+            refused Full (by_value ∙ rw (was, lt-ltb (length page) (size_of (count_of page + 1)) m))
 
-        module _ (passed : is_refused o.verdict ≡ false) where
-          was : insert_verdict (table_in page) (used_of names lent) (pair s b) ≡ Passed
-          was = sym verdict_is ∙ passed_is o.verdict passed
-
-          pub pair_few : count_of page < pairs_max
-          pair_few = rw (count_in page (used_of names lent)) at (insert_count (table_in page) (used_of names lent) s f b was).0
-
-          pub table_grown : o.table ≡ with_pair (table_in page) s f b
-          table_grown = ap (λ (x : Outcome). x.table) is ∙ (insert_count (table_in page) (used_of names lent) s f b was).1
-
-          pub count_grown : o.table.count ≡ count_of page + 1
-          unfolding with_pair table_in
-          count_grown = ap (λ (t : ConversionTable). t.count) table_grown
-
-          -- its parents are symbols that a page can hold
-          pub grown_below : Below names_max o.table.parents
-          grown_below =
-              let n = used_of names lent in
-              let k = insert_form (table_in page) n s b was in
-              let sized : length (table_in page).pairs ≡ pair_bytes * pairs_max = unfold table_in in (length_pad (pair_bytes * pairs_max) 0 (bodies_in page)) in
-              let few : (table_in page).count < pairs_max = (insert_count (table_in page) n s f b was).0 in
-              subst (λ (t : ConversionTable). Below names_max t.parents) (sym table_grown)
-              (form_below (with_pair (table_in page) s f b) n (form_more (table_in page) s f b sized few n k.0 k.1))
-
-          pub pair_cramped : length page < size_of o.table.count → (Refused Full ≡ pair_verdict page names lent (pair s b))
-              × (page ≡ page_after page names lent s f b)
-          unfolding roomed
-          pair_cramped k =
-              let m : length page < size_of (count_of page + 1) = rw count_grown at k in
-              refused Full (by_value ∙ rw (was, lt-ltb (length page) (size_of (count_of page + 1)) m))
-
-          pub pair_done : size_of o.table.count ≤ length page → (Passed ≡ pair_verdict page names lent (pair s b))
-              × (with_table page o.table ≡ page_after page names lent s f b)
-          unfolding roomed page_after
-          pair_done k =
-              let m : size_of (count_of page + 1) ≤ length page = rw count_grown at k in
-              let v : pair_verdict page names lent (pair s b) ≡ Passed = by_value ∙ rw (was, le-ltb (length page) (size_of (count_of page + 1)) m) in
-              (sym v, rw (v, table_grown))
+        pub pair_done : size_of o.count ≤ length page → (Ok tt ≡ pair_verdict page names lent (pair s b))
+            × (with_table page o ≡ page_after page names lent s f b)
+        unfolding roomed page_after
+        pair_done k =
+            let m : size_of (count_of page + 1) ≤ length page = rw count_grown at k in
+            let v : pair_verdict page names lent (pair s b) ≡ (Ok tt) = by_value ∙ rw (was, le-ltb (length page) (size_of (count_of page + 1)) m) in
+            (sym v, rw (v, table_grown))
 
 -- ---- looking up a symbol
 
 module _ (page names : List ℕ) (lent : Bool) (s : ℕ) where
-  pub symbol_broken : table_broken page names lent ≡ true → Refused Broken ≡ symbol_verdict page names lent s
+  pub symbol_broken : table_broken page names lent ≡ true → Err Broken ≡ symbol_verdict page names lent s
   unfolding symbol_verdict
   symbol_broken t = sym (rw t (first_holds Broken ((Unused when not (is_used (used_of names lent) s)) ∷ []) refl))
 
   module _ (t : table_broken page names lent ≡ false) where
-    pub symbol_unused : is_used (used_of names lent) s ≡ false → Refused Unused ≡ symbol_verdict page names lent s
+    pub symbol_unused : is_used (used_of names lent) s ≡ false → Err Unused ≡ symbol_verdict page names lent s
     unfolding symbol_verdict
     symbol_unused h = rw (t, h)
 
-    pub symbol_used_lem : is_used (used_of names lent) s ≡ true → Passed ≡ symbol_verdict page names lent s
+    pub symbol_used_lem : is_used (used_of names lent) s ≡ true → Ok tt ≡ symbol_verdict page names lent s
     unfolding symbol_verdict
     symbol_used_lem h = rw (t, h)
 
   -- a symbol that is looked up is looked up in a page in form
-  pub passed_formed : Passed ≡ symbol_verdict page names lent s → formed page (used_of names lent) ≡ true
+  pub passed_formed : Ok tt ≡ symbol_verdict page names lent s → formed page (used_of names lent) ≡ true
   unfolding symbol_verdict
   passed_formed v = (unbroken page names lent (passed_parts Broken (table_broken page names lent) ((Unused when not (is_used (used_of names lent) s)) ∷ []) (sym v)).0).1
 
 -- it is the number of a name
-pub symbol_below : (page names : List ℕ) (lent : Bool) (s : ℕ) → symbol_verdict page names lent s ≡ Passed → s < names_max
+pub symbol_below : (page names : List ℕ) (lent : Bool) (s : ℕ) → symbol_verdict page names lent s ≡ Ok tt → s < names_max
 unfolding symbol_verdict
 symbol_below page names lent s v =
     let x = passed_parts Broken (table_broken page names lent) ((Unused when not (is_used (used_of names lent) s)) ∷ []) v in
@@ -240,26 +227,26 @@ root_in page n k s e is =
     rw (l, is) (ap (λ (p : List ℕ). walk (count_of page) p s) f.given)
 
 module _ (page names : List ℕ) (lent : Bool) (s : ℕ) where
-  pub root_refused : (r : Refusal) → Refused r ≡ symbol_verdict page names lent s → Root.Refused r ≡ root_answer page names lent s
+  pub root_refused : (r : Refusal) → Err r ≡ symbol_verdict page names lent s → Err r ≡ root_answer page names lent s
   unfolding root_answer
   root_refused r v = rw (← v)
 
-  pub root_given : Passed ≡ symbol_verdict page names lent s → (x : ℕ) → x ≡ root_of names_max (listed_in page) s → Root.At x ≡ root_answer page names lent s
+  pub root_given : Ok tt ≡ symbol_verdict page names lent s → (x : ℕ) → x ≡ root_of names_max (listed_in page) s → Ok x ≡ root_answer page names lent s
   unfolding root_answer
   root_given v x e = rw (← v, e)
 
-  pub factor_refused : (r : Refusal) → Refused r ≡ symbol_verdict page names lent s → Factor.Refused r ≡ factor_answer page names lent s
+  pub factor_refused : (r : Refusal) → Err r ≡ symbol_verdict page names lent s → Err r ≡ factor_answer page names lent s
   unfolding factor_answer
   factor_refused r v = rw (← v)
 
-  module _ (v : Passed ≡ symbol_verdict page names lent s) (k : ℕ) (is : k ≡ count_of page) (i : ℕ) (at : i ≡ first_to k (is_of (bodies_in page) s)) where
-    pub factor_found : i < k → factor_of (bodies_in page) i ≡ factor_answer page names lent s
+  module _ (v : Ok tt ≡ symbol_verdict page names lent s) (k : ℕ) (is : k ≡ count_of page) (i : ℕ) (at : i ≡ first_to k (is_of (bodies_in page) s)) where
+    pub factor_found : i < k → Ok (Some (factor_of (bodies_in page) i)) ≡ factor_answer page names lent s
     unfolding factor_answer
     factor_found h =
         let e : i ≡ first_to (count_of page) (is_of (bodies_in page) s) = at ∙ rw is in
         rw (← v, ← e, lt-ltb i (count_of page) (rw is at h))
 
-    pub factor_absent : k ≤ i → Factor.Absent ≡ factor_answer page names lent s
+    pub factor_absent : k ≤ i → Ok None ≡ factor_answer page names lent s
     unfolding factor_answer
     factor_absent h =
         let e : i ≡ first_to (count_of page) (is_of (bodies_in page) s) = at ∙ rw is in

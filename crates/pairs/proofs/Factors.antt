@@ -1,6 +1,7 @@
 -- "The first factor of a symbol stays": an insertion that is not refused changes no factor that there was (`factor_stays`) nor
 -- that of another symbol (`factor_others`), and gives a symbol without one the factor that came, bit for bit, with its base
 -- (`factor_comes`). Assumes nothing.
+use Rattle.std.proofs.Common.{Some, None}
 use mathlib.Core.Path.{◌≡◌, refl, sym, ◌∙◌, ap, ap₂}
 use mathlib.Core.Bool.{Bool, true, false, cond}
 use mathlib.Core.List.{List}
@@ -34,7 +35,7 @@ module _ (l m : List ℕ) (k s : ℕ) (agree : (i : ℕ) → i < pair_bytes * k 
 
   factor_same : (i : ℕ) → i < k → factor_of l i ≡ factor_of m i
   factor_same i lt =
-      ap₂ Factor.Of (number_alike l m (pair_bytes * i + factor_at) (pair_bytes * i + factor_at) long_bytes (λ j o. agree (pair_bytes * i + factor_at + j) (omega arith)))
+      ap₂ (λ (x y : ℕ). let z : Factor = record { factor = x; base = y } in z) (number_alike l m (pair_bytes * i + factor_at) (pair_bytes * i + factor_at) long_bytes (λ j o. agree (pair_bytes * i + factor_at + j) (omega arith)))
       (agree (pair_bytes * i + base_at) (omega arith))
 
   -- a symbol that was found is found where it was
@@ -50,7 +51,7 @@ module _ (l m : List ℕ) (k s : ℕ) (agree : (i : ℕ) → i < pair_bytes * k 
   found_stays h =
       let i = first_to k (is_of l s) in
       let o : i < k + 1 = omega arith in
-      rw (first_stays h, lt-ltb i (k + 1) o, lt-ltb i k h) (sym (factor_same i h))
+      rw (first_stays h, lt-ltb i (k + 1) o, lt-ltb i k h) (ap Some (sym (factor_same i h)))
 
   -- one that was not is found at the new pair
   first_comes : k ≤ first_to k (is_of l s) → is_of m s k ≡ true → first_to (k + 1) (is_of m s) ≡ k
@@ -63,7 +64,7 @@ module _ (l m : List ℕ) (k s : ℕ) (agree : (i : ℕ) → i < pair_bytes * k 
           rw (← any_cong (is_of l s) (is_of m s) k is_same, f) (omega (arith, x, first_le (is_of m s) k))
       go false f = rw (← any_cong (is_of l s) (is_of m s) k is_same, f, e)
 
-  pub found_new : k ≤ first_to k (is_of l s) → is_of m s k ≡ true → first_factor m (k + 1) s ≡ factor_of m k
+  pub found_new : k ≤ first_to k (is_of l s) → is_of m s k ≡ true → first_factor m (k + 1) s ≡ Some (factor_of m k)
   found_new h e =
       let o : k < k + 1 = omega arith in
       rw (first_comes h e, lt-ltb k (k + 1) o)
@@ -113,17 +114,17 @@ module _ (page : List ℕ) (r : Request) (e : accepts page r ≡ true) where
   first = rw add-zero at (new 0)
 
   -- a symbol has a factor exactly where a pair has the symbol
-  absent : (s : ℕ) → factor_in page s ≡ Factor.Absent → count_of page ≤ first_to (count_of page) (is_of (bodies_in page) s)
+  absent : (s : ℕ) → factor_in page s ≡ None → count_of page ≤ first_to (count_of page) (is_of (bodies_in page) s)
   absent s f = go (ltb (first_to (count_of page) (is_of (bodies_in page) s)) (count_of page)) refl f
     where
       go : (b : Bool) → ltb (first_to (count_of page) (is_of (bodies_in page) s)) (count_of page) ≡ b
-          → cond b (factor_of (bodies_in page) (first_to (count_of page) (is_of (bodies_in page) s))) Factor.Absent ≡ Factor.Absent
+          → cond b (Some (factor_of (bodies_in page) (first_to (count_of page) (is_of (bodies_in page) s)))) None ≡ None
           → count_of page ≤ first_to (count_of page) (is_of (bodies_in page) s)
       go true t c = let z : ◌≡◌ {A = ℕ} 0 1 = cc in absurd (omega arith)
       go false t c = ltb-false (first_to (count_of page) (is_of (bodies_in page) s)) (count_of page) t
 
   -- the factor of a symbol that had one is what it was
-  pub factor_stays : (s : ℕ) → (factor_in page s ≡ Factor.Absent → ⊥) → factor_in (after page r) s ≡ factor_in page s
+  pub factor_stays : (s : ℕ) → (factor_in page s ≡ None → ⊥) → factor_in (after page r) s ≡ factor_in page s
   factor_stays s had = go (dec_lt (first_to (count_of page) (is_of (bodies_in page) s)) (count_of page))
     where
       go : Dec (first_to (count_of page) (is_of (bodies_in page) s) < count_of page) → factor_in (after page r) s ≡ factor_in page s
@@ -142,7 +143,7 @@ module _ (page : List ℕ) (r : Request) (e : accepts page r ≡ true) where
           counted s ∙ found_none (bodies_in page) (bodies_in (after page r)) (count_of page) s old (omega arith) no_match
 
   -- that of the request's symbol, where it had none, is the factor that came, any 64 bits, with its base
-  pub factor_comes : r.factor < 256 ^ long_bytes → factor_in page r.symbol ≡ Factor.Absent → factor_in (after page r) r.symbol ≡ Factor.Of r.factor r.base
+  pub factor_comes : r.factor < 256 ^ long_bytes → factor_in page r.symbol ≡ None → factor_in (after page r) r.symbol ≡ Some (record { factor = r.factor; base = r.base })
   factor_comes f had =
       let at = pair_bytes * count_of page in
       let m = bodies_in (after page r) in
@@ -150,7 +151,7 @@ module _ (page : List ℕ) (r : Request) (e : accepts page r ≡ true) where
       let bits : number_at m (at + factor_at) long_bytes ≡ r.factor =
       number_back m (at + factor_at) r.factor long_bytes f
       (λ i l. let s : at + factor_at + i ≡ at + (factor_at + i) = omega arith in rw s (new (factor_at + i) ∙ shift i)) in
-      counted r.symbol ∙ found_new (bodies_in page) m (count_of page) r.symbol old (absent r.symbol had) found ∙ ap₂ Factor.Of bits (new base_at)
+      counted r.symbol ∙ found_new (bodies_in page) m (count_of page) r.symbol old (absent r.symbol had) found ∙ ap₂ (λ (x y : ℕ). let z : Factor = record { factor = x; base = y } in Some z) bits (new base_at)
     where
       shift : (i : ℕ) → get_or (body_asked r) (factor_at + i) 0 ≡ get_or (big_endian long_bytes r.factor) i 0
       shift i = let c : factor_at + i ≡ suc (suc i) = omega arith in rw c

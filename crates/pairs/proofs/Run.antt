@@ -1,6 +1,8 @@
 -- After any list of insertions, refused ones among them, into any table in form: the table is in form, it lists the pairs of the
 -- start and then the accepted ones, and its groups are theirs. Of a table by value, each insertion saying at most 256
 -- names in use (`table_groups`), and in a page (`page_groups`). Assumes nothing.
+use Rattle.std.proofs.Common.{Result, Ok}
+use Rattle.refusals.specs.declared.Refusal.{Refusal}
 use mathlib.Core.Path.{◌≡◌, refl, sym, ◌∙◌, ap, subst}
 use mathlib.Core.Logic.{◌↔◌}
 use mathlib.Core.Bool.{Bool, true, false, not, cond}
@@ -11,10 +13,9 @@ use lib.Dec.{leb, ltb}
 use lib.ListN.{length, drop}
 use lib.Seq.{drop-drop}
 use borrow.Author.Tests.{leb-false, ltb-false, not-true, not-false}
-use Rattle.refusals.specs.Numbers.{is_refused}
+use Rattle.std.proofs.Common.{is_err}
 use Rattle.refusals.specs.Lowest.{◌when◌}
 use Rattle.refusals.specs.declared.Refusal.TheVariants.{Broken, Unused, Full}
-use Rattle.refusals.specs.declared.Verdict.TheVariants.{Passed}
 use Rattle.refusals.proofs.Lowest.{passed_parts, passed_is, kept}
 use Rattle.pages.specs.Quant.{Every}
 use Rattle.pages.specs.Bytes.{zeros, count_of}
@@ -26,14 +27,12 @@ use Rattle.names.specs.Calls.{lent_broken, used_of}
 use Rattle.names.proofs.Calls.{used_few}
 use Rattle.groups.specs.Groups.{Pair, Within, Joined, Joining, walk, parents_of, root_of}
 use Rattle.groups.proofs.UnionFind.{groups, walk_short}
-use Rattle.pairs.specs.Table.{pairs_max, pair_bytes, pair_at, listed, both_used, used_at, insert_verdict, with_pair, insertion}
+use Rattle.pairs.specs.Table.{pairs_max, pair_bytes, pair_at, listed, both_used, used_at, insert_verdict, with_pair, after_insertion}
 use Rattle.pairs.specs.Table as tables
 use Rattle.pairs.specs.Page.{size_of, bodies_in, parents_in, table_in, listed_in, holds, formed, with_table}
 use Rattle.pairs.specs.Calls.{table_broken, pair_verdict, page_after, symbol_verdict, root_answer}
 use Rattle.pairs.specs.Runs.{after_all, taken_by, Request, asked, body_asked, UsesAtMost, accepts, after, page_after_all, accepted_pairs, TableRequest, table_asked, table_accepts, table_after, table_after_all, table_accepted_pairs}
 use Rattle.pairs.specs.declared.ConversionTable.{ConversionTable}
-use Rattle.pairs.specs.declared.Root.{Root}
-use Rattle.pairs.specs.declared.Root.TheVariants as root
 use Rattle.pairs.proofs.Table.{Form, form}
 use Rattle.pairs.proofs.Page.{held_zeros, formed_parts, formed_held}
 use Rattle.pairs.proofs.Calls.{unbroken, symbol_below}
@@ -68,16 +67,16 @@ abbrev Whole : ℕ → ConversionTable → Type 0
 Whole n t = (tables.formed t n ≡ true) × (length t.pairs ≡ pair_bytes * pairs_max)
 
 table_stays : (t : ConversionTable) (r : TableRequest) → table_accepts t r ≡ false → table_after t r ≡ t
-unfolding insertion
+unfolding after_insertion
 table_stays t r e =
-    sym (kept (insert_verdict t r.used (table_asked r)) (with_pair t r.symbol r.factor r.base) t (not-false (is_refused (insert_verdict t r.used (table_asked r))) e))
+    sym (kept (insert_verdict t r.used (table_asked r)) (with_pair t r.symbol r.factor r.base) t (not-false (is_err (insert_verdict t r.used (table_asked r))) e))
 
 table_grows : (n : ℕ) (t : ConversionTable) (r : TableRequest) → Whole n t → r.used ≤ n → table_accepts t r ≡ true → Whole n (table_after t r)
     × (listed (table_after t r) ≡ listed t ++ (table_asked r ∷ []))
-unfolding insert_verdict insertion
+unfolding insert_verdict after_insertion
 table_grows n t r g most e =
-    let v : insert_verdict t r.used (table_asked r) ≡ Passed =
-    passed_is (insert_verdict t r.used (table_asked r)) (not-true (is_refused (insert_verdict t r.used (table_asked r))) e) in
+    let v : insert_verdict t r.used (table_asked r) ≡ (Ok tt) =
+    passed_is (insert_verdict t r.used (table_asked r)) (not-true (is_err (insert_verdict t r.used (table_asked r))) e) in
     let x =
     passed_parts Broken (not (tables.formed t r.used)) ((Unused when not (both_used r.used (table_asked r))) ∷ (Full when leb pairs_max t.count) ∷ []) v in
     let y = passed_parts Unused (not (both_used r.used (table_asked r))) ((Full when leb pairs_max t.count) ∷ []) x.1 in
@@ -128,7 +127,7 @@ form_all page n few e =
 page_stays : (page : List ℕ) (r : Request) → accepts page r ≡ false → after page r ≡ page
 unfolding page_after
 page_stays page r e =
-    sym (kept (pair_verdict page r.names r.lent (asked r)) (with_table page (with_pair (table_in page) r.symbol r.factor r.base)) page (not-false (is_refused (pair_verdict page r.names r.lent (asked r))) e))
+    sym (kept (pair_verdict page r.names r.lent (asked r)) (with_table page (with_pair (table_in page) r.symbol r.factor r.base)) page (not-false (is_err (pair_verdict page r.names r.lent (asked r))) e))
 
 -- what holds where no refusal applies
 record Taken (page : List ℕ) (r : Request) : Type 0 where
@@ -143,8 +142,8 @@ taken : (page : List ℕ) (r : Request) → accepts page r ≡ true → Taken pa
 unfolding pair_verdict page_after
 taken page r e =
     let n = used_of r.names r.lent in
-    let v : pair_verdict page r.names r.lent (asked r) ≡ Passed =
-    passed_is (pair_verdict page r.names r.lent (asked r)) (not-true (is_refused (pair_verdict page r.names r.lent (asked r))) e) in
+    let v : pair_verdict page r.names r.lent (asked r) ≡ (Ok tt) =
+    passed_is (pair_verdict page r.names r.lent (asked r)) (not-true (is_err (pair_verdict page r.names r.lent (asked r))) e) in
     let last = (Full when ltb (length page) (size_of (count_of page + 1))) ∷ [] in
     let x =
     passed_parts Broken (table_broken page r.names r.lent) ((Unused when not (both_used n (asked r))) ∷ (Full when leb pairs_max (count_of page)) ∷ last) v in
@@ -275,20 +274,16 @@ page_short page j g c s l =
 
 -- ---- what the call for a root answers
 
-root_inside : {x y : ℕ} → Root.At x ≡ Root.At y → x ≡ y
-root_inside {x} {y} e = ap (λ (r : Root). inside r) e
-  where
-    inside : Root → ℕ
-    inside (root.At s) = s
-    inside (root.Refused r) = 0
+root_inside : {x y : ℕ} → ◌≡◌ {A = Result ℕ Refusal} (Ok x) (Ok y) → x ≡ y
+root_inside e = cc
 
 -- two symbols that are not refused have one root exactly if they are in one group of the accepted pairs
 pub run_roots : (rs : List Request) (page names : List ℕ) (lent : Bool) (a b : ℕ) → formed page names_max ≡ true
-    → symbol_verdict (page_after_all page rs) names lent a ≡ Passed → symbol_verdict (page_after_all page rs) names lent b ≡ Passed
+    → symbol_verdict (page_after_all page rs) names lent a ≡ Ok tt → symbol_verdict (page_after_all page rs) names lent b ≡ Ok tt
     → (root_answer (page_after_all page rs) names lent a ≡ root_answer (page_after_all page rs) names lent b) ↔ Joined (accepted_pairs page rs) a b
 unfolding root_answer
 run_roots rs page names lent a b g va vb =
     let end = page_after_all page rs in
-    let below : (s : ℕ) → symbol_verdict end names lent s ≡ Passed → s < names_max = λ s v. symbol_below end names lent s v in
+    let below : (s : ℕ) → symbol_verdict end names lent s ≡ Ok tt → s < names_max = λ s v. symbol_below end names lent s v in
     let law = page_groups rs page g a b (below a va) (below b vb) in
-    rw (va, vb) (λ e. law.0 (root_inside e), λ j. ap Root.At (law.1 j))
+    rw (va, vb) (λ e. law.0 (root_inside e), λ j. ap Ok (law.1 j))

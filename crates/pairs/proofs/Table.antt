@@ -1,4 +1,5 @@
 -- The table by value: its form and insertion, one law for each return. Assumes nothing.
+use Rattle.std.proofs.Common.{Ok, Err}
 use mathlib.Core.Path.{◌≡◌, refl, sym, ◌∙◌, ap}
 use mathlib.Core.Bool.{true, false, not}
 use mathlib.Core.List.{List, [], ◌∷◌, ◌++◌}
@@ -9,9 +10,8 @@ use lib.ListN.{length, length-append}
 use borrow.Author.Tests.{le-leb, lt-leb, leb-true}
 use Rattle.refusals.specs.declared.Refusal.{Refusal}
 use Rattle.refusals.specs.declared.Refusal.TheVariants.{Broken, Unused, Full}
-use Rattle.refusals.specs.declared.Verdict.TheVariants.{Passed, Refused}
 use Rattle.refusals.specs.Lowest.{◌when◌}
-use Rattle.refusals.proofs.Lowest.{first_holds}
+use Rattle.refusals.proofs.Lowest.{first_holds, answer_of_ok, answer_of_err}
 use Rattle.pages.specs.Quant.{all_to}
 use Rattle.pages.specs.Bytes.{eqs, big_endian, long_bytes, put}
 use Rattle.pages.proofs.Quant.{and_true}
@@ -22,9 +22,8 @@ use Rattle.names.specs.Calls.{is_used}
 use Rattle.names.proofs.Used.{used_below}
 use Rattle.groups.specs.Groups.{Pair, pair, enter, enter_all, selves, parents_of}
 use Rattle.groups.proofs.Walks.{parents_snoc}
-use Rattle.pairs.specs.Table.{pairs_max, pair_bytes, factor_at, body_of, pair_at, pairs_in, listed, both_used, used_at, formed, insert_verdict, with_pair, insertion}
+use Rattle.pairs.specs.Table.{pairs_max, pair_bytes, factor_at, body_of, pair_at, pairs_in, listed, both_used, used_at, formed, insert_verdict, with_pair, insertion, after_insertion}
 use Rattle.pairs.specs.declared.ConversionTable.{ConversionTable}
-use Rattle.pairs.specs.declared.Outcome.{Outcome}
 
 -- ---- pairs
 
@@ -110,37 +109,50 @@ module _ (t : ConversionTable) (s f b : ℕ) (k : ℕ) (is : k ≡ t.count) (fit
 -- ---- insertion
 
 module _ (t : ConversionTable) (n s f b : ℕ) where
-  refused : (r : Refusal) → insert_verdict t n (pair s b) ≡ Refused r → ◌≡◌ {A = Outcome} (record { verdict = Refused r; table = t }) (insertion t n s f b)
+  refused : (r : Refusal) → insert_verdict t n (pair s b) ≡ Err r → Err r ≡ insertion t n s f b
   unfolding insertion
   refused r v = rw v
 
-  pub insert_broken : formed t n ≡ false → ◌≡◌ {A = Outcome} (record { verdict = Refused Broken; table = t }) (insertion t n s f b)
+  pub insert_broken : formed t n ≡ false → Err Broken ≡ insertion t n s f b
   unfolding insert_verdict
   insert_broken e = refused Broken v
     where
-      v : insert_verdict t n (pair s b) ≡ Refused Broken
+      v : insert_verdict t n (pair s b) ≡ Err Broken
       v = rw e (first_holds Broken ((Unused when not (both_used n (pair s b))) ∷ (Full when leb pairs_max t.count) ∷ []) refl)
 
   module _ (e : formed t n ≡ true) where
-    pub insert_unused : both_used n (pair s b) ≡ false → ◌≡◌ {A = Outcome} (record { verdict = Refused Unused; table = t }) (insertion t n s f b)
+    pub insert_unused : both_used n (pair s b) ≡ false → Err Unused ≡ insertion t n s f b
     unfolding insert_verdict
     insert_unused u = refused Unused v
       where
-        v : insert_verdict t n (pair s b) ≡ Refused Unused
+        v : insert_verdict t n (pair s b) ≡ Err Unused
         v = rw (e, u) (first_holds Unused ((Full when leb pairs_max t.count) ∷ []) refl)
 
     module _ (u : both_used n (pair s b) ≡ true) where
-      pub insert_full : pairs_max ≤ t.count → ◌≡◌ {A = Outcome} (record { verdict = Refused Full; table = t }) (insertion t n s f b)
+      pub insert_full : pairs_max ≤ t.count → Err Full ≡ insertion t n s f b
       unfolding insert_verdict
       insert_full h = refused Full v
         where
-          v : insert_verdict t n (pair s b) ≡ Refused Full
+          v : insert_verdict t n (pair s b) ≡ Err Full
           v = rw (e, u, le-leb pairs_max t.count h)
 
-      insert_passed : t.count < pairs_max → insert_verdict t n (pair s b) ≡ Passed
+      insert_passed : t.count < pairs_max → insert_verdict t n (pair s b) ≡ Ok tt
       unfolding insert_verdict
       insert_passed h = rw (e, u, lt-leb pairs_max t.count h)
 
-      pub insert_done : t.count < pairs_max → ◌≡◌ {A = Outcome} (record { verdict = Passed; table = with_pair t s f b }) (insertion t n s f b)
+      pub insert_done : t.count < pairs_max → Ok (with_pair t s f b) ≡ insertion t n s f b
       unfolding insertion
       insert_done h = rw (insert_passed h)
+
+  -- what `insert` answers and leaves, where the insertion by value is refused or not
+  pub insert_err : (r : Refusal) → Err r ≡ insertion t n s f b → (Err r ≡ insert_verdict t n (pair s b)) × (t ≡ after_insertion t n s f b)
+  unfolding insertion after_insertion
+  insert_err r e =
+      let v = answer_of_err (insert_verdict t n (pair s b)) (with_pair t s f b) r e in
+      (sym v, rw v)
+
+  pub insert_ok : (x : ConversionTable) → Ok x ≡ insertion t n s f b → (Ok tt ≡ insert_verdict t n (pair s b)) × (x ≡ after_insertion t n s f b)
+  unfolding insertion after_insertion
+  insert_ok x e =
+      let v = answer_of_ok (insert_verdict t n (pair s b)) (with_pair t s f b) x e in
+      (sym v.0, v.1 ∙ rw v.0)

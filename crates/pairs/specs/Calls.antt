@@ -1,10 +1,10 @@
 -- What the calls on a page of pairs answer, and leave in the page (document 01, "Units and pairs" and the table of refusals).
 -- Names are lent where `lent` is true.
-use Rattle.std.specs.Prelude.{Bool, ◌||◌, not, cond, List, [], ◌∷◌, ℕ, ◌+◌, ◌*◌, ltb, leb, eqb, length, replicate}
-use Rattle.refusals.specs.Lowest.{◌when◌, lowest, unless_refused}
+use Rattle.refusals.specs.declared.Refusal.{Refusal}
+use Rattle.std.specs.Prelude.{Bool, ◌||◌, not, cond, List, [], ◌∷◌, ℕ, ◌+◌, ◌*◌, ltb, leb, eqb, length, replicate, Option, Some, None, Result}
+use Rattle.refusals.specs.Lowest.{◌when◌, lowest, unless_refused, answer_of}
 use Rattle.refusals.specs.declared.Refusal.TheVariants.{Broken, Unused, Full}
-use Rattle.refusals.specs.declared.Verdict.{Verdict}
-use Rattle.refusals.specs.declared.Verdict.TheVariants.{Passed, Refused}
+use Rattle.refusals.specs.Numbers.{Verdict}
 use Rattle.pages.specs.Quant.{first_to}
 use Rattle.pages.specs.Bytes.{count_bytes, count_of, number_at, long_bytes, put}
 use Rattle.names.specs.Table.{names_max}
@@ -12,7 +12,6 @@ use Rattle.names.specs.Calls.{lent_broken, used_of, is_used}
 use Rattle.groups.specs.Groups.{Pair, pair, selves, root_of}
 use Rattle.pairs.specs.Table.{pairs_max, pair_bytes, factor_at, pair_at, both_used, with_pair}
 use Rattle.pairs.specs.Page.{size_of, bodies_in, table_in, listed_in, formed, with_table}
-use Rattle.pairs.specs.declared.Root.{Root}
 use Rattle.pairs.specs.declared.Factor.{Factor}
 
 -- do the names that are lent, or the table, break their form
@@ -51,36 +50,26 @@ page_after page names lent s f b = unless_refused (pair_verdict page names lent 
 unfoldable pub symbol_verdict : List ℕ → List ℕ → Bool → ℕ → Verdict
 symbol_verdict page names lent s = lowest ((Broken when table_broken page names lent) ∷ (Unused when not (is_used (used_of names lent) s)) ∷ [])
 
--- a root, or the refusal
-abbrev pub given_root : Verdict → ℕ → Root
-given_root Passed s = Root.At s
-given_root (Refused r) s = Root.Refused r
-
 -- the root of a symbol (`canonical`)
-unfoldable pub root_answer : List ℕ → List ℕ → Bool → ℕ → Root
-root_answer page names lent s = given_root (symbol_verdict page names lent s) (root_of names_max (listed_in page) s)
+unfoldable pub root_answer : List ℕ → List ℕ → Bool → ℕ → Result ℕ Refusal
+root_answer page names lent s = answer_of (symbol_verdict page names lent s) (root_of names_max (listed_in page) s)
 
 -- has pair i of bodies this symbol
 abbrev pub is_of : List ℕ → ℕ → ℕ → Bool
 is_of bodies s i = eqb (pair_at bodies i).symbol s
 
--- the factor and the base of pair i of bodies
+-- the factor of pair i of the bodies, with its base
 abbrev pub factor_of : List ℕ → ℕ → Factor
-factor_of bodies i = Factor.Of (number_at bodies (pair_bytes * i + factor_at) long_bytes) (pair_at bodies i).base
+factor_of bodies i = record { factor = number_at bodies (pair_bytes * i + factor_at) long_bytes; base = (pair_at bodies i).base }
 
--- "the first factor of a symbol stays": that of the first of k pairs that has the symbol, if one has it
-abbrev pub first_factor : List ℕ → ℕ → ℕ → Factor
-first_factor bodies k s = cond (ltb (first_to k (is_of bodies s)) k) (factor_of bodies (first_to k (is_of bodies s))) Factor.Absent
+-- that of the first of k pairs that has the symbol, if one has
+abbrev pub first_factor : List ℕ → ℕ → ℕ → Option Factor
+first_factor bodies k s = cond (ltb (first_to k (is_of bodies s)) k) (Some (factor_of bodies (first_to k (is_of bodies s)))) None
 
--- the first factor of a symbol in a page
-abbrev pub factor_in : List ℕ → ℕ → Factor
+-- the first factor of a symbol in a page that holds a table
+abbrev pub factor_in : List ℕ → ℕ → Option Factor
 factor_in page s = first_factor (bodies_in page) (count_of page) s
 
--- a factor, or the refusal
-abbrev pub given_factor : Verdict → Factor → Factor
-given_factor Passed f = f
-given_factor (Refused r) f = Factor.Refused r
-
--- the first factor of a symbol, with its base
-unfoldable pub factor_answer : List ℕ → List ℕ → Bool → ℕ → Factor
-factor_answer page names lent s = given_factor (symbol_verdict page names lent s) (factor_in page s)
+-- a symbol's first factor, if a pair has the symbol
+unfoldable pub factor_answer : List ℕ → List ℕ → Bool → ℕ → Result (Option Factor) Refusal
+factor_answer page names lent s = answer_of (symbol_verdict page names lent s) (factor_in page s)

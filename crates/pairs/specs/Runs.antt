@@ -1,9 +1,8 @@
 -- Lists of insertions, "refused ones included", each into the table "as the last one left it" (document 01, "Formulas and sheets").
-use Rattle.std.specs.Prelude.{◌≡◌, Bool, false, not, cond, List, [], ◌∷◌, ◌++◌, ℕ, ◌≤◌}
-use Rattle.refusals.specs.Numbers.{is_refused}
+use Rattle.std.specs.Prelude.{◌≡◌, Bool, false, not, cond, List, [], ◌∷◌, ◌++◌, ℕ, ◌≤◌, is_err}
 use Rattle.names.specs.Calls.{lent_broken, used_of}
 use Rattle.groups.specs.Groups.{Pair, pair}
-use Rattle.pairs.specs.Table.{body_of, listed, insert_verdict, insertion}
+use Rattle.pairs.specs.Table.{body_of, listed, insert_verdict, after_insertion}
 use Rattle.pairs.specs.Page.{listed_in}
 use Rattle.pairs.specs.Calls.{pair_verdict, page_after}
 use Rattle.pairs.specs.declared.ConversionTable.{ConversionTable}
@@ -44,7 +43,7 @@ UsesAtMost n r = lent_broken r.names r.lent ≡ false → used_of r.names r.lent
 
 -- does no refusal apply
 abbrev pub accepts : List ℕ → Request → Bool
-accepts page r = not (is_refused (pair_verdict page r.names r.lent (asked r)))
+accepts page r = not (is_err (pair_verdict page r.names r.lent (asked r)))
 
 -- the page after one request
 abbrev pub after : List ℕ → Request → List ℕ
@@ -73,11 +72,11 @@ table_asked r = pair r.symbol r.base
 
 -- does no refusal apply
 abbrev pub table_accepts : ConversionTable → TableRequest → Bool
-table_accepts t r = not (is_refused (insert_verdict t r.used (table_asked r)))
+table_accepts t r = not (is_err (insert_verdict t r.used (table_asked r)))
 
 -- the table after one request
 abbrev pub table_after : ConversionTable → TableRequest → ConversionTable
-table_after t r = (insertion t r.used r.symbol r.factor r.base).table
+table_after t r = after_insertion t r.used r.symbol r.factor r.base
 
 -- the table after a list of requests
 abbrev pub table_after_all : ConversionTable → List TableRequest → ConversionTable

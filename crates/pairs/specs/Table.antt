@@ -1,16 +1,16 @@
 -- The table of conversion pairs by value, and insertion (document 01, "Units and pairs"). How many name numbers are in use is
 -- the parameter n: every number that a table can have where no names are lent.
-use Rattle.std.specs.Prelude.{Bool, ◌&&◌, not, List, [], ◌∷◌, ◌++◌, ℕ, zero, suc, ◌+◌, ◌*◌, leb, get_or, replicate}
-use Rattle.refusals.specs.Lowest.{◌when◌, lowest, unless_refused}
+use Rattle.std.specs.Prelude.{Bool, ◌&&◌, not, List, [], ◌∷◌, ◌++◌, ℕ, zero, suc, ◌+◌, ◌*◌, leb, get_or, replicate, Result}
+use Rattle.refusals.specs.Lowest.{◌when◌, lowest, unless_refused, answer_of}
+use Rattle.refusals.specs.declared.Refusal.{Refusal}
 use Rattle.refusals.specs.declared.Refusal.TheVariants.{Broken, Unused, Full}
-use Rattle.refusals.specs.declared.Verdict.{Verdict}
+use Rattle.refusals.specs.Numbers.{Verdict}
 use Rattle.pages.specs.Quant.{all_to}
 use Rattle.pages.specs.Bytes.{eqs, big_endian, long_bytes, put}
 use Rattle.names.specs.Table.{names_max}
 use Rattle.names.specs.Calls.{is_used}
 use Rattle.groups.specs.Groups.{Pair, pair, selves, parents_of}
 use Rattle.pairs.specs.declared.ConversionTable.{ConversionTable}
-use Rattle.pairs.specs.declared.Outcome.{Outcome}
 
 -- "512 at most": how many pairs a table has
 abbrev pub pairs_max : ℕ
@@ -80,7 +80,10 @@ with_pair t s f b = record {
   parents = parents_of names_max (listed t ++ (pair s b ∷ []));
 }
 
--- the verdict on a pair (s, b) with factor f, and the table afterwards: as it was where the insertion is refused
-unfoldable pub insertion : ConversionTable → ℕ → ℕ → ℕ → ℕ → Outcome
-insertion t n s f b =
-    record { verdict = insert_verdict t n (pair s b); table = unless_refused (insert_verdict t n (pair s b)) (with_pair t s f b) t }
+-- what the insertion of a pair (s, b) with factor f answers: the table with it, or the refusal
+unfoldable pub insertion : ConversionTable → ℕ → ℕ → ℕ → ℕ → Result ConversionTable Refusal
+insertion t n s f b = answer_of (insert_verdict t n (pair s b)) (with_pair t s f b)
+
+-- the table afterwards: as it was where the insertion is refused
+unfoldable pub after_insertion : ConversionTable → ℕ → ℕ → ℕ → ℕ → ConversionTable
+after_insertion t n s f b = unless_refused (insert_verdict t n (pair s b)) (with_pair t s f b) t

@@ -3,12 +3,10 @@
 #![tactic(auto)]
 
 ghost use Rattle.std.specs.Prelude.{◌≡◌, true, ◌+◌, ◌*◌, ◌≤◌, ◌<◌, length, get_or, replicate};
-ghost use Rattle.refusals.specs.declared.Verdict.{Verdict};
 ghost use Rattle.pages.specs.Quant.{all_to, first_to};
-ghost use Rattle.pages.specs.Bytes.{eqs};
 ghost use Rattle.names.specs.Table.{names_max};
 ghost use Rattle.groups.specs.Groups.{pair, parents_of, Below};
-ghost use Rattle.pairs.specs.Table.{pairs_max, pair_bytes, pairs_in, fresh_table, both_used, used_at, insertion, with_pair};
+ghost use Rattle.pairs.specs.Table.{pairs_max, pair_bytes, pairs_in, fresh_table, both_used, used_at, insert_verdict, insertion, after_insertion, with_pair};
 ghost use Rattle.pairs.specs.Table as tables;
 ghost use Rattle.pairs.specs.Page.{parents_at, size_of, parents_in, table_in, holds, Held, formed, with_table};
 ghost use Rattle.pairs.specs.Calls.{table_broken, empty_verdict, empty_page, pair_verdict, page_after, symbol_verdict, root_answer, is_of, factor_answer};
@@ -16,7 +14,7 @@ ghost use Rattle.pairs.specs.Calls.{table_broken, empty_verdict, empty_page, pai
 use groups::Parents;
 use names::{NAMES, Symbol, symbol_index};
 use pages::COUNT_BYTES;
-use refusals::{Refusal, Verdict};
+use refusals::Refusal;
 
 // How many pairs a table has at most.
 pub const PAIRS: usize = 512;
@@ -41,26 +39,11 @@ pub struct ConversionTable {
     pub parents: Parents,
 }
 
-// What an insertion answers, and the table afterwards.
+// A symbol's factor, and the base that it leads to.
 #[derive(Clone, Copy)]
-pub struct Outcome {
-    pub verdict: Verdict,
-    pub table: ConversionTable,
-}
-
-// What asking for a symbol's root answers.
-#[derive(Clone, Copy)]
-pub enum Root {
-    At(Symbol),
-    Refused(Refusal),
-}
-
-// What asking for a symbol's first factor answers.
-#[derive(Clone, Copy)]
-pub enum Factor {
-    Of { factor: u64, base: Symbol },
-    Absent,
-    Refused(Refusal),
+pub struct Factor {
+    pub factor: u64,
+    pub base: Symbol,
 }
 
 // Whether both symbols of a pair are numbers in use.
@@ -86,13 +69,11 @@ fn all_used(pairs: &[u8], k: usize, n: usize) -> bool
     requires { pair_bytes * k ≤ length pairs.now }
     ensures { result ≡ all_to k (used_at pairs.now n) }
 {
-    let mut i: usize = 0;
-    while i < k {
+    for i in 0..k {
         let at = PAIR_BYTES * i;
         if !are_used(symbol_at(pairs, at), symbol_at(pairs, at + BASE_AT), n) {
             return false;
         }
-        i += 1;
     }
     true
 }
@@ -103,32 +84,13 @@ fn replayed(pairs: &[u8], k: usize) -> Parents
     ensures { result ≡ parents_of names_max (pairs_in pairs.now k) }
 {
     let mut parents = groups::own_parents();
-    let mut i: usize = 0;
-    while i < k {
+    for i in 0..k {
         let at = PAIR_BYTES * i;
         let symbol = symbol_at(pairs, at);
         let base = symbol_at(pairs, at + BASE_AT);
         groups::join(&mut parents, i, symbol, base);
-        i += 1;
     }
     parents
-}
-
-// Whether two lists of parents are the same.
-fn are_same(a: &[Symbol], b: &[Symbol]) -> bool
-    ensures { result ≡ eqs a.now b.now }
-{
-    if a.len() != b.len() {
-        return false;
-    }
-    let mut i: usize = 0;
-    while i < a.len() {
-        if a[i] != b[i] {
-            return false;
-        }
-        i += 1;
-    }
-    true
 }
 
 // Whether a table is in form, with n name numbers in use.
@@ -144,8 +106,7 @@ fn is_table(t: ConversionTable, n: usize) -> bool
         return false;
     }
     let parents = t.parents;
-    let given = replayed(&pairs, k);
-    are_same(&parents, &given)
+    parents == replayed(&pairs, k)
 }
 
 // A table in form with one more pair.
@@ -170,16 +131,6 @@ fn with_pair(t: ConversionTable, symbol: Symbol, factor: u64, base: Symbol) -> C
     }
 }
 
-// A table that is handed back as it came, and why.
-fn kept(t: ConversionTable, refusal: Refusal) -> Outcome
-    ensures { result ≡ record { verdict = Verdict.Refused refusal; table = t } }
-{
-    Outcome {
-        verdict: Verdict::Refused(refusal),
-        table: t,
-    }
-}
-
 // A table without pairs.
 pub fn fresh_table() -> ConversionTable
     ensures { result ≡ fresh_table }
@@ -193,24 +144,28 @@ pub fn fresh_table() -> ConversionTable
     }
 }
 
-// The insertion, by value, with n name numbers in use.
-pub fn inserted(t: ConversionTable, n: usize, symbol: Symbol, factor: u64, base: Symbol) -> Outcome
+// The insertion, by value, with n name numbers in use: the table with one more pair.
+#[tactic(auto, using(crate::proofs::Table::insert_broken, crate::proofs::Table::insert_unused, crate::proofs::Table::insert_full, crate::proofs::Table::insert_done, crate::proofs::Table::form, crate::proofs::Table::both_below))]
+pub fn inserted(
+    t: ConversionTable,
+    n: usize,
+    symbol: Symbol,
+    factor: u64,
+    base: Symbol,
+) -> Result<ConversionTable, Refusal>
     ensures { result ≡ insertion t n symbol factor base }
 {
     if !is_table(t, n) {
-        return kept(t, Refusal::Broken);
+        return Err(Refusal::Broken);
     }
     if !are_used(symbol, base, n) {
-        return kept(t, Refusal::Unused);
+        return Err(Refusal::Unused);
     }
     let k = t.count;
     if PAIRS <= k {
-        return kept(t, Refusal::Full);
+        return Err(Refusal::Full);
     }
-    Outcome {
-        verdict: Verdict::Passed,
-        table: with_pair(t, symbol, factor, base),
-    }
+    Ok(with_pair(t, symbol, factor, base))
 }
 
 // The insertion, in the lent table: `insert` of the source.
@@ -220,12 +175,12 @@ pub fn insert(
     symbol: Symbol,
     factor: u64,
     base: Symbol,
-) -> Verdict
-    ensures { (result ≡ (insertion table.old n symbol factor base).verdict) × (table.new ≡ (insertion table.old n symbol factor base).table) }
+) -> Result<(), Refusal>
+    ensures verdict { result ≡ insert_verdict table.old n (pair symbol base) }
+    ensures table_after { table.new ≡ after_insertion table.old n symbol factor base }
 {
-    let out = inserted(*table, n, symbol, factor, base);
-    *table = out.table;
-    out.verdict
+    *table = inserted(*table, n, symbol, factor, base)?;
+    Ok(())
 }
 
 // Where the parents stand in a page, behind k pairs.
@@ -323,16 +278,16 @@ fn write_table(page: &mut [u8], t: ConversionTable)
 }
 
 // Makes the page a table without pairs.
-pub fn empty_pairs(page: &mut [u8]) -> Verdict
+pub fn empty_pairs(page: &mut [u8]) -> Result<(), Refusal>
     ensures { (result ≡ empty_verdict page.old) × (page.new ≡ empty_page page.old) }
 {
     if page.len() < size_of(0) {
-        return Verdict::Refused(Refusal::Broken);
+        return Err(Refusal::Broken);
     }
     let parents = groups::own_parents();
     pages::clear(page);
     pages::put_low_bytes(page, COUNT_BYTES, &parents);
-    Verdict::Passed
+    Ok(())
 }
 
 // The insertion, in the lent page. Names are looked at where `lent` is true.
@@ -343,26 +298,22 @@ pub fn insert_pair(
     symbol: Symbol,
     factor: u64,
     base: Symbol,
-) -> Verdict
+) -> Result<(), Refusal>
     ensures { (result ≡ pair_verdict page.old names.now lent (pair symbol base)) × (page.new ≡ page_after page.old names.now lent symbol factor base) }
 {
     if names::is_broken(names, lent) {
-        return Verdict::Refused(Refusal::Broken);
+        return Err(Refusal::Broken);
     }
     if !holds_table(page) {
-        return Verdict::Refused(Refusal::Broken);
+        return Err(Refusal::Broken);
     }
     let n = names::in_use(names, lent);
-    let mut t = table_in(page);
-    let verdict = insert(&mut t, n, symbol, factor, base);
-    if refusals::is_refused(verdict) {
-        return verdict;
-    }
+    let t = inserted(table_in(page), n, symbol, factor, base)?;
     if page.len() < size_of(t.count) {
-        return Verdict::Refused(Refusal::Full);
+        return Err(Refusal::Full);
     }
     write_table(page, t);
-    Verdict::Passed
+    Ok(())
 }
 
 // Whether the names that are lent, or the table, break their form, for crates above.
@@ -376,28 +327,25 @@ pub fn is_broken(page: &[u8], names: &[u8], lent: bool) -> bool
 }
 
 // Whether a symbol can be looked up in a page of pairs.
-fn symbol_verdict(page: &[u8], names: &[u8], lent: bool, symbol: Symbol) -> Verdict
+fn symbol_verdict(page: &[u8], names: &[u8], lent: bool, symbol: Symbol) -> Result<(), Refusal>
     ensures { result ≡ symbol_verdict page.now names.now lent symbol }
 {
     if is_broken(page, names, lent) {
-        return Verdict::Refused(Refusal::Broken);
+        return Err(Refusal::Broken);
     }
     if !names::is_used(names::in_use(names, lent), symbol_index(symbol)) {
-        return Verdict::Refused(Refusal::Unused);
+        return Err(Refusal::Unused);
     }
-    Verdict::Passed
+    Ok(())
 }
 
 // The root of a symbol: `canonical` of the source.
-pub fn canonical(page: &[u8], names: &[u8], lent: bool, symbol: Symbol) -> Root
+pub fn canonical(page: &[u8], names: &[u8], lent: bool, symbol: Symbol) -> Result<Symbol, Refusal>
     ensures { result ≡ root_answer page.now names.now lent symbol }
 {
-    let verdict = symbol_verdict(page, names, lent, symbol);
-    if let Verdict::Refused(r) = verdict {
-        return Root::Refused(r);
-    }
+    symbol_verdict(page, names, lent, symbol)?;
     let parents = parents_of(page);
-    Root::At(groups::root(&parents, pages::count(page), symbol))
+    Ok(groups::root(&parents, pages::count(page), symbol))
 }
 
 // The first of k pairs that has the symbol, or k.
@@ -405,33 +353,33 @@ fn find_symbol(bodies: &[u8], k: usize, symbol: Symbol) -> usize
     requires { pair_bytes * k ≤ length bodies.now }
     ensures { result ≡ first_to k (is_of bodies.now symbol) }
 {
-    let mut i: usize = 0;
-    while i < k {
+    for i in 0..k {
         if symbol_at(bodies, PAIR_BYTES * i) == symbol {
             return i;
         }
-        i += 1;
     }
     k
 }
 
-// The first factor of a symbol, with its base.
-pub fn first_factor(page: &[u8], names: &[u8], lent: bool, symbol: Symbol) -> Factor
+// The first factor of a symbol, with its base, if a pair has the symbol.
+pub fn first_factor(
+    page: &[u8],
+    names: &[u8],
+    lent: bool,
+    symbol: Symbol,
+) -> Result<Option<Factor>, Refusal>
     ensures { result ≡ factor_answer page.now names.now lent symbol }
 {
-    let verdict = symbol_verdict(page, names, lent, symbol);
-    if let Verdict::Refused(r) = verdict {
-        return Factor::Refused(r);
-    }
+    symbol_verdict(page, names, lent, symbol)?;
     let k = pages::count(page);
     let bodies = &page[COUNT_BYTES..parents_at(k)];
     let i = find_symbol(bodies, k, symbol);
     if i < k {
         let at = PAIR_BYTES * i;
-        return Factor::Of {
+        return Ok(Some(Factor {
             factor: pages::long(bodies, at + FACTOR_AT),
             base: symbol_at(bodies, at + BASE_AT),
-        };
+        }));
     }
-    Factor::Absent
+    Ok(None)
 }

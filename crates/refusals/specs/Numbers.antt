@@ -1,9 +1,11 @@
 -- Document 01's numbers for the refusals ("Formulas and sheets", the table).
-use Rattle.std.specs.Prelude.{Bool, true, false, ℕ}
+use Rattle.std.specs.Prelude.{ℕ, Result, Ok, Err, ⊤}
 use Rattle.refusals.specs.declared.Refusal.{Refusal}
 use Rattle.refusals.specs.declared.Refusal.TheVariants.{Undefined, Broken, Unused, Malformed, BadUnit, Width, Depth, Exponent, Symbols, Full, Sheet}
-use Rattle.refusals.specs.declared.Verdict.{Verdict}
-use Rattle.refusals.specs.declared.Verdict.TheVariants.{Passed, Refused}
+
+-- what a call with no result but success answers: that it passed, or why not
+abbrev pub Verdict : Type 0
+Verdict = Result ⊤ Refusal
 
 -- the number of a refusal
 abbrev pub number_of : Refusal → ℕ
@@ -23,12 +25,7 @@ number_of Sheet = 11
 abbrev pub rank_of : Refusal → ℕ
 rank_of r = number_of r
 
--- a verdict as a number: 0 where nothing is refused
-abbrev pub code_of : Verdict → ℕ
-code_of Passed = 0
-code_of (Refused r) = number_of r
-
--- is it a refusal
-abbrev pub is_refused : Verdict → Bool
-is_refused Passed = false
-is_refused (Refused r) = true
+-- an answer as a number: 0 where nothing is refused
+abbrev pub code_of : {A : Type 0} → Result A Refusal → ℕ
+code_of (Ok a) = 0
+code_of (Err r) = number_of r

@@ -2,10 +2,10 @@
 #![tactic(auto)]
 
 ghost use Rattle.std.specs.Prelude.{◌≡◌};
-ghost use Rattle.refusals.specs.Numbers.{number_of, code_of, is_refused};
+ghost use Rattle.refusals.specs.Numbers.{number_of, code_of};
 
 // Why a call gives no result.
-#[derive(Clone, Copy)]
+#[derive(Clone, Copy, Debug, PartialEq, Eq, Hash)]
 pub enum Refusal {
     // A type kind, node form or operator code is undefined.
     Undefined,
@@ -31,56 +31,33 @@ pub enum Refusal {
     Sheet,
 }
 
-// What a call with no result but success answers.
-#[derive(Clone, Copy)]
-pub enum Verdict {
-    Passed,
-    Refused(Refusal),
-}
-
-// What a call with a plain question answers.
-#[derive(Clone, Copy)]
-pub enum Answer {
-    Yes,
-    No,
-    Refused(Refusal),
-}
-
 // The number that document 01 gives a refusal.
-pub fn number(r: Refusal) -> u8
-    ensures { result ≡ number_of r }
-{
-    match r {
-        Refusal::Undefined => 1,
-        Refusal::Broken => 2,
-        Refusal::Unused => 3,
-        Refusal::Malformed => 4,
-        Refusal::BadUnit => 5,
-        Refusal::Width => 6,
-        Refusal::Depth => 7,
-        Refusal::Exponent => 8,
-        Refusal::Symbols => 9,
-        Refusal::Full => 10,
-        Refusal::Sheet => 11,
+impl From<Refusal> for u8 {
+    ghost from_gives = { λ r n. n ≡ number_of r };
+
+    fn from(r: Refusal) -> u8 {
+        match r {
+            Refusal::Undefined => 1,
+            Refusal::Broken => 2,
+            Refusal::Unused => 3,
+            Refusal::Malformed => 4,
+            Refusal::BadUnit => 5,
+            Refusal::Width => 6,
+            Refusal::Depth => 7,
+            Refusal::Exponent => 8,
+            Refusal::Symbols => 9,
+            Refusal::Full => 10,
+            Refusal::Sheet => 11,
+        }
     }
 }
 
-// A verdict as a number: 0 where the call passed, else the refusal's.
-pub fn code(v: Verdict) -> u8
-    ensures { result ≡ code_of v }
+// What a call answers, as a number: 0 where it passed, else the refusal's.
+pub fn code<T: Copy>(answer: Result<T, Refusal>) -> u8
+    ensures { result ≡ code_of answer }
 {
-    match v {
-        Verdict::Passed => 0,
-        Verdict::Refused(r) => number(r),
-    }
-}
-
-// Whether a call was refused.
-pub fn is_refused(v: Verdict) -> bool
-    ensures { result ≡ is_refused v }
-{
-    match v {
-        Verdict::Passed => false,
-        Verdict::Refused(_) => true,
+    match answer {
+        Ok(_) => 0,
+        Err(r) => u8::from(r),
     }
 }

@@ -105,11 +105,9 @@ fn number_at(numbers: &[u8], at: usize) -> u32
 fn put_children(children: &mut [u16], n: usize, body: &[u8])
     requires { (n ≤ length children.old) × (1 + 2 * n ≤ length body.now) }
 {
-    let mut i: usize = 0;
-    while i < n {
+    for i in 0..n {
         let child = word_at(body, NAME_BYTES + CHILD_BYTES * i);
         types::set_type(children, i, child);
-        i += 1;
     }
 }
 

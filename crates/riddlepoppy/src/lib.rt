@@ -3,7 +3,6 @@
 #![tactic(auto)]
 
 ghost use Rattle.std.specs.Prelude.{◌≡◌};
-ghost use Rattle.refusals.specs.Lowest.{unless_refused};
 ghost use Rattle.names.specs.Table.{names_max};
 ghost use Rattle.names.specs.Calls.{empty_verdict, empty_page, add_answer, page_after, find_answer, read_answer};
 ghost use Rattle.units.specs.Calls.{form_verdict, exponent_answer};
@@ -13,8 +12,8 @@ ghost use Rattle.pairs.specs.Calls as tables;
 ghost use Rattle.types.specs.Calls.{make_answer, make_page};
 ghost use Rattle.types.specs.Calls as store;
 ghost use Rattle.checked.specs.Calls.{matches_answer, generic_answer, into_const, into_const_page, substitute_answer, substitute_page};
-ghost use Rattle.calls.specs.Types.{made_code, bytes_of_type, checked_of, bindings_in, const_code, bindings_after, unify_in, unify_arg_in};
-ghost use Rattle.calls.specs.Codes.{packed, added_code, found_code, power_code, answer_code, unit_or_broken, unitless_in, product_in, text_in, bytes_of_unit, root_code, factor_code, out_after_factor, group_sums_in, bytes_of_sums, convertible_in};
+ghost use Rattle.calls.specs.Types.{bytes_of_type, checked_of, bindings_in, const_code, bindings_after, unify_in, unify_arg_in};
+ghost use Rattle.calls.specs.Codes.{packed, number_code, found_code, nothing_code, size_code, out_after, out_after_bytes, power_code, answer_code, unit_or_broken, unitless_in, product_in, text_in, bytes_of_unit, factor_code, out_after_factor, group_sums_in, bytes_of_sums, convertible_in};
 ghost use Rattle.calls.specs.Answers.{answered_code, out_after_answer, binary_in, unary_in, unary_page_in, index_in, index_page_in};
 
 use calls::{ANSWER_BYTES, BINDING_BYTES, TYPE_BYTES};
@@ -35,7 +34,7 @@ pub extern "C" fn riddlepoppy_empty_names(page: &mut [u8]) -> u32
 // The number of a name, which is added if it is new.
 #[unsafe(no_mangle)]
 pub extern "C" fn riddlepoppy_add_name(page: &mut [u8], name: &[u8]) -> u32
-    ensures { (result ≡ added_code (add_answer names_max page.old name.now)) × (page.new ≡ page_after names_max page.old name.now) }
+    ensures { (result ≡ number_code (add_answer names_max page.old name.now)) × (page.new ≡ page_after names_max page.old name.now) }
 {
     calls::riddlepoppy_add_name(page, name)
 }
@@ -51,7 +50,7 @@ pub extern "C" fn riddlepoppy_find_name(page: &[u8], name: &[u8]) -> u32
 // The name with number k, and its length.
 #[unsafe(no_mangle)]
 pub extern "C" fn riddlepoppy_read_name(page: &[u8], k: u32, out: &mut [u8; NAME_BYTES]) -> u32
-    ensures { (result ≡ packed (read_answer page.now k).verdict (read_answer page.now k).size) × (out.new ≡ unless_refused (read_answer page.now k).verdict (read_answer page.now k).bytes out.old) }
+    ensures { (result ≡ size_code (read_answer page.now k)) × (out.new ≡ out_after_bytes (read_answer page.now k) out.old) }
 {
     calls::riddlepoppy_read_name(page, k, out)
 }
@@ -72,7 +71,7 @@ pub extern "C" fn riddlepoppy_product(
     quotient: bool,
     out: &mut [u8; UNIT_BYTES],
 ) -> u32
-    ensures { (result ≡ packed (product_in quotient a.now b.now).verdict 0) × (out.new ≡ unless_refused (product_in quotient a.now b.now).verdict (bytes_of_unit (product_in quotient a.now b.now).unit) out.old) }
+    ensures { (result ≡ nothing_code (product_in quotient a.now b.now)) × (out.new ≡ out_after bytes_of_unit (product_in quotient a.now b.now) out.old) }
 {
     calls::riddlepoppy_product(a, b, quotient, out)
 }
@@ -96,7 +95,7 @@ pub extern "C" fn riddlepoppy_is_dimensionless(bytes: &[u8]) -> u32
 // The text of a unit, and its length.
 #[unsafe(no_mangle)]
 pub extern "C" fn riddlepoppy_unit_text(page: &[u8], unit: &[u8], out: &mut [u8; TEXT_BYTES]) -> u32
-    ensures { (result ≡ packed (text_in page.now unit.now).verdict (text_in page.now unit.now).size) × (out.new ≡ unless_refused (text_in page.now unit.now).verdict (text_in page.now unit.now).bytes out.old) }
+    ensures { (result ≡ size_code (text_in page.now unit.now)) × (out.new ≡ out_after_bytes (text_in page.now unit.now) out.old) }
 {
     calls::riddlepoppy_unit_text(page, unit, out)
 }
@@ -132,7 +131,7 @@ pub extern "C" fn riddlepoppy_canonical(
     lent: bool,
     symbol: Symbol,
 ) -> u32
-    ensures { result ≡ root_code (root_answer page.now names.now lent symbol) }
+    ensures { result ≡ number_code (root_answer page.now names.now lent symbol) }
 {
     calls::riddlepoppy_canonical(page, names, lent, symbol)
 }
@@ -160,7 +159,7 @@ pub extern "C" fn riddlepoppy_canonicalize(
     unit: &[u8],
     out: &mut [u8; UNIT_BYTES],
 ) -> u32
-    ensures { (result ≡ packed (group_sums_in page.now names.now lent unit.now).verdict 0) × (out.new ≡ unless_refused (group_sums_in page.now names.now lent unit.now).verdict (bytes_of_sums (group_sums_in page.now names.now lent unit.now).sums) out.old) }
+    ensures { (result ≡ nothing_code (group_sums_in page.now names.now lent unit.now)) × (out.new ≡ out_after bytes_of_sums (group_sums_in page.now names.now lent unit.now) out.old) }
 {
     calls::riddlepoppy_canonicalize(page, names, lent, unit, out)
 }
@@ -197,7 +196,7 @@ pub extern "C" fn riddlepoppy_make_type(
     children: &[u16],
     name: Symbol,
 ) -> u32
-    ensures { (result ≡ made_code (make_answer page.old names.now lent kind children.now name)) × (page.new ≡ make_page page.old names.now lent kind children.now name) }
+    ensures { (result ≡ number_code (make_answer page.old names.now lent kind children.now name)) × (page.new ≡ make_page page.old names.now lent kind children.now name) }
 {
     calls::riddlepoppy_make_type(page, names, lent, kind, children, name)
 }
@@ -211,7 +210,7 @@ pub extern "C" fn riddlepoppy_read_type(
     t: u32,
     out: &mut [u8; TYPE_BYTES],
 ) -> u32
-    ensures { (result ≡ packed (store.read_answer page.now names.now lent t).verdict 0) × (out.new ≡ unless_refused (store.read_answer page.now names.now lent t).verdict (bytes_of_type (store.read_answer page.now names.now lent t).shape) out.old) }
+    ensures { (result ≡ nothing_code (store.read_answer page.now names.now lent t)) × (out.new ≡ out_after bytes_of_type (store.read_answer page.now names.now lent t) out.old) }
 {
     calls::riddlepoppy_read_type(page, names, lent, t, out)
 }
@@ -285,7 +284,7 @@ pub extern "C" fn riddlepoppy_substitute(
     t: u32,
     bindings: &[u8; BINDING_BYTES],
 ) -> u32
-    ensures { (result ≡ made_code (substitute_answer page.old names.now lent (bindings_in bindings.now) t)) × (page.new ≡ substitute_page page.old names.now lent (bindings_in bindings.now) t) }
+    ensures { (result ≡ number_code (substitute_answer page.old names.now lent (bindings_in bindings.now) t)) × (page.new ≡ substitute_page page.old names.now lent (bindings_in bindings.now) t) }
 {
     calls::riddlepoppy_substitute(page, names, lent, t, bindings)
 }

@@ -1,17 +1,13 @@
 -- What the calls for group sums and convertibility come to, one law for each return. Assumes nothing.
+use Rattle.std.proofs.Common.{Ok, Err, Option}
 use mathlib.Core.Path.{◌≡◌, refl, sym, fun_ext}
 use mathlib.Core.Bool.{Bool, true, false, ◌&&◌, not}
 use mathlib.Core.List.{List, [], ◌∷◌}
 use Prim.Native.Nat.{ℕ}
-use native.Mathlib.Omega.{arith}
 use borrow.Author.Tests.{not-false}
-use Rattle.refusals.specs.Numbers.{is_refused}
 use Rattle.refusals.specs.Lowest.{◌when◌}
 use Rattle.refusals.specs.declared.Refusal.{Refusal}
 use Rattle.refusals.specs.declared.Refusal.TheVariants.{Broken, Unused, BadUnit}
-use Rattle.refusals.specs.declared.Verdict.{Verdict}
-use Rattle.refusals.specs.declared.Verdict.TheVariants.{Passed, Refused}
-use Rattle.refusals.specs.declared.Answer.{Answer}
 use Rattle.refusals.proofs.Lowest.{first_holds, passed_parts}
 use Rattle.pages.specs.Bytes.{count_of}
 use Rattle.pages.proofs.Quant.{and_true}
@@ -22,7 +18,6 @@ use Rattle.units.specs.Unit.{places_max, in_use}
 use Rattle.units.specs.Unit as units
 use Rattle.units.specs.Calls.{terms_of, present}
 use Rattle.units.specs.declared.Unit.{Unit}
-use Rattle.units.specs.declared.MaybeUnit.{MaybeUnit}
 use Rattle.groups.specs.Groups.{walk}
 use Rattle.pairs.specs.Page.{parents_in, Held, formed}
 use Rattle.pairs.proofs.Page.{formed_held}
@@ -30,47 +25,46 @@ use Rattle.pairs.specs.Calls.{table_broken}
 use Rattle.pairs.proofs.Calls.{unbroken, root_in}
 use Rattle.pairs.proofs.Run.{form_all}
 use Rattle.sums.specs.Sums.{group_sums, convertible, sums_of}
-use Rattle.sums.specs.Calls.{all_used, all_formed, units_verdict, roots_in, summed, sums_answer, or_empty, convert_answer}
-use Rattle.sums.specs.declared.SumsResult.{SumsResult}
+use Rattle.sums.specs.Calls.{all_used, all_formed, units_verdict, roots_in, sums_answer, or_empty, convert_answer}
 
 -- ---- two units
 
 module _ (page names : List ℕ) (lent : Bool) (a b : Unit) where
-  pub units_broken : table_broken page names lent ≡ true → Refused Broken ≡ units_verdict page names lent (a ∷ b ∷ [])
+  pub units_broken : table_broken page names lent ≡ true → Err Broken ≡ units_verdict page names lent (a ∷ b ∷ [])
   unfolding units_verdict
   units_broken t =
       sym (rw t (first_holds Broken ((Unused when not (all_used (used_of names lent) (a ∷ b ∷ []))) ∷ (BadUnit when not (all_formed (a ∷ b ∷ []))) ∷ []) refl))
 
   module _ (t : table_broken page names lent ≡ false) where
-    unused : all_used (used_of names lent) (a ∷ b ∷ []) ≡ false → Refused Unused ≡ units_verdict page names lent (a ∷ b ∷ [])
+    unused : all_used (used_of names lent) (a ∷ b ∷ []) ≡ false → Err Unused ≡ units_verdict page names lent (a ∷ b ∷ [])
     unfolding units_verdict
     unused u = sym (rw (t, u) (first_holds Unused ((BadUnit when not (all_formed (a ∷ b ∷ []))) ∷ []) refl))
 
-    pub left_unused : in_use (used_of names lent) (present a) ≡ false → Refused Unused ≡ units_verdict page names lent (a ∷ b ∷ [])
+    pub left_unused : in_use (used_of names lent) (present a) ≡ false → Err Unused ≡ units_verdict page names lent (a ∷ b ∷ [])
     left_unused u = unused (rw u)
 
     module _ (ua : in_use (used_of names lent) (present a) ≡ true) where
-      pub right_unused : in_use (used_of names lent) (present b) ≡ false → Refused Unused ≡ units_verdict page names lent (a ∷ b ∷ [])
+      pub right_unused : in_use (used_of names lent) (present b) ≡ false → Err Unused ≡ units_verdict page names lent (a ∷ b ∷ [])
       right_unused u = unused (rw (ua, u))
 
       module _ (ub : in_use (used_of names lent) (present b) ≡ true) where
-        bad : all_formed (a ∷ b ∷ []) ≡ false → Refused BadUnit ≡ units_verdict page names lent (a ∷ b ∷ [])
+        bad : all_formed (a ∷ b ∷ []) ≡ false → Err BadUnit ≡ units_verdict page names lent (a ∷ b ∷ [])
         unfolding units_verdict
         bad f = rw (t, ua, ub, f)
 
-        pub left_bad : units.formed places_max names_max (terms_of a) ≡ false → Refused BadUnit ≡ units_verdict page names lent (a ∷ b ∷ [])
+        pub left_bad : units.formed places_max names_max (terms_of a) ≡ false → Err BadUnit ≡ units_verdict page names lent (a ∷ b ∷ [])
         left_bad f = bad (rw f)
 
         module _ (fa : units.formed places_max names_max (terms_of a) ≡ true) where
-          pub right_bad : units.formed places_max names_max (terms_of b) ≡ false → Refused BadUnit ≡ units_verdict page names lent (a ∷ b ∷ [])
+          pub right_bad : units.formed places_max names_max (terms_of b) ≡ false → Err BadUnit ≡ units_verdict page names lent (a ∷ b ∷ [])
           right_bad f = bad (rw (fa, f))
 
-          pub units_passed : units.formed places_max names_max (terms_of b) ≡ true → Passed ≡ units_verdict page names lent (a ∷ b ∷ [])
+          pub units_passed : units.formed places_max names_max (terms_of b) ≡ true → Ok tt ≡ units_verdict page names lent (a ∷ b ∷ [])
           unfolding units_verdict
           units_passed fb = rw (t, ua, ub, fa, fb)
 
   -- what two units have that are not refused
-  module _ (v : units_verdict page names lent (a ∷ b ∷ []) ≡ Passed) where
+  module _ (v : units_verdict page names lent (a ∷ b ∷ []) ≡ Ok tt) where
     rest : (table_broken page names lent ≡ false) × (all_formed (a ∷ b ∷ []) ≡ true)
     unfolding units_verdict
     rest =
@@ -115,34 +109,26 @@ module _ (page names : List ℕ) (lent : Bool) (u : Unit) where
   unfolding units_verdict
   twice = rw (and_twice (in_use (used_of names lent) (present u)), and_twice (units.formed places_max names_max (terms_of u)))
 
-  module _ (v : Verdict) (is : v ≡ units_verdict page names lent (u ∷ u ∷ [])) where
-    pub sums_refused : is_refused v ≡ true → ◌≡◌ {A = SumsResult} (record { verdict = v; sums = sums_of [] }) (sums_answer page names lent u)
-    unfolding sums_answer
-    sums_refused h = rw (← twice, ← is) (go v h)
-      where
-        go : (v : Verdict) → is_refused v ≡ true
-            → ◌≡◌ {A = SumsResult} (record { verdict = v; sums = sums_of [] }) (summed v (group_sums names_max (roots_in page) (terms_of u)))
-        go Passed h = let z : ◌≡◌ {A = ℕ} 0 1 = cc in absurd (omega arith)
-        go (Refused r) h = refl
+  pub sums_refused : (r : Refusal) → Err r ≡ units_verdict page names lent (u ∷ u ∷ []) → Err r ≡ sums_answer page names lent u
+  unfolding sums_answer
+  sums_refused r is = rw (← twice, ← is)
 
-    pub sums_given : v ≡ Passed → (root : ℕ → ℕ) → ((s : ℕ) → root s ≡ roots_in page s)
-        → ◌≡◌ {A = SumsResult} (record { verdict = v; sums = sums_of (group_sums names_max root (terms_of u)) }) (sums_answer page names lent u)
-    unfolding sums_answer
-    sums_given p root same = let e : root ≡ roots_in page = fun_ext same in rw (← twice, ← is, p, e)
+  pub sums_given : Ok tt ≡ units_verdict page names lent (u ∷ u ∷ []) → (root : ℕ → ℕ) → ((s : ℕ) → root s ≡ roots_in page s)
+      → Ok (sums_of (group_sums names_max root (terms_of u))) ≡ sums_answer page names lent u
+  unfolding sums_answer
+  sums_given is root same = let e : root ≡ roots_in page = fun_ext same in rw (← twice, ← is, e)
 
 -- ---- convertible or not
 
-module _ (page names : List ℕ) (lent : Bool) (left right : MaybeUnit) where
-  pub convert_refused : (r : Refusal) → Refused r ≡ units_verdict page names lent (or_empty left ∷ or_empty right ∷ [])
-      → Answer.Refused r ≡ convert_answer page names lent left right
+module _ (page names : List ℕ) (lent : Bool) (left right : Option Unit) where
+  pub convert_refused : (r : Refusal) → Err r ≡ units_verdict page names lent (or_empty left ∷ or_empty right ∷ [])
+      → Err r ≡ convert_answer page names lent left right
   unfolding convert_answer
   convert_refused r v = rw (← v)
 
-  module _ (v : units_verdict page names lent (or_empty left ∷ or_empty right ∷ []) ≡ Passed) (root : ℕ → ℕ) (same : (s : ℕ) → root s ≡ roots_in page s) where
-    pub convert_yes : convertible names_max root (terms_of (or_empty left)) (terms_of (or_empty right)) ≡ true → Answer.Yes ≡ convert_answer page names lent left right
-    unfolding convert_answer
-    convert_yes h = let e : root ≡ roots_in page = fun_ext same in rw (v, ← e, h)
-
-    pub convert_no : convertible names_max root (terms_of (or_empty left)) (terms_of (or_empty right)) ≡ false → Answer.No ≡ convert_answer page names lent left right
-    unfolding convert_answer
-    convert_no h = let e : root ≡ roots_in page = fun_ext same in rw (v, ← e, h)
+  pub convert_given : Ok tt ≡ units_verdict page names lent (or_empty left ∷ or_empty right ∷ [])
+      → (root : ℕ → ℕ) → ((s : ℕ) → root s ≡ roots_in page s)
+      → (b : Bool) → b ≡ convertible names_max root (terms_of (or_empty left)) (terms_of (or_empty right))
+      → Ok b ≡ convert_answer page names lent left right
+  unfolding convert_answer
+  convert_given v root same b h = let e : root ≡ roots_in page = fun_ext same in rw (← v, ← e, h)

@@ -11,7 +11,7 @@ use Rattle.units.specs.Product.{combine, product_of}
 use Rattle.units.specs.Merge.{turned, merge}
 use Rattle.units.proofs.Tested.{counted, sum_by, merged_sum}
 use Rattle.units.proofs.Si.{merge_product}
-use Rattle.sums.specs.Sums.{rooted, sum_at}
+use Rattle.sums.specs.Sums.{sum_at}
 
 -- a group's sum is the sum at the test that a symbol's root is the group's
 pub sum_by_lem : (root : ℕ → ℕ) (g : ℕ) (xs : List Term) → sum_at root g xs ≡ sum_by (λ s. eqb g (root s)) xs

@@ -1,23 +1,21 @@
 -- What the calls for group sums and convertibility answer, over the pairs of a page (document 01, "Units and pairs" and the
 -- table of refusals). Names are lent where `lent` is true.
-use Rattle.std.specs.Prelude.{Bool, true, ◌&&◌, not, cond, List, [], ◌∷◌, ℕ}
-use Rattle.refusals.specs.Lowest.{◌when◌, lowest, answered}
+use Rattle.refusals.specs.declared.Refusal.{Refusal}
+use Rattle.std.specs.Prelude.{Bool, true, ◌&&◌, not, List, [], ◌∷◌, ℕ, Option, Some, None, Result}
+use Rattle.refusals.specs.Lowest.{◌when◌, lowest, answer_of}
 use Rattle.refusals.specs.declared.Refusal.TheVariants.{Broken, Unused, BadUnit}
-use Rattle.refusals.specs.declared.Verdict.{Verdict}
-use Rattle.refusals.specs.declared.Verdict.TheVariants.{Passed, Refused}
-use Rattle.refusals.specs.declared.Answer.{Answer}
+use Rattle.refusals.specs.Numbers.{Verdict}
 use Rattle.names.specs.Table.{names_max}
 use Rattle.names.specs.Calls.{used_of}
 use Rattle.units.specs.Unit.{places_max, Term, in_use}
 use Rattle.units.specs.Unit as units
 use Rattle.units.specs.Calls.{terms_of, present, unit_of}
 use Rattle.units.specs.declared.Unit.{Unit}
-use Rattle.units.specs.declared.MaybeUnit.{MaybeUnit}
 use Rattle.groups.specs.Groups.{root_of}
 use Rattle.pairs.specs.Page.{listed_in}
 use Rattle.pairs.specs.Calls.{table_broken}
 use Rattle.sums.specs.Sums.{group_sums, convertible, sums_of}
-use Rattle.sums.specs.declared.SumsResult.{SumsResult}
+use Rattle.sums.specs.declared.Sums.{Sums}
 
 -- ---- units that a call is given
 
@@ -46,23 +44,19 @@ roots_in page = root_of names_max (listed_in page)
 
 -- ---- group sums
 
--- group sums, or none beside the refusal
-abbrev pub summed : Verdict → List Term → SumsResult
-summed Passed l = record { verdict = Passed; sums = sums_of l }
-summed (Refused r) l = record { verdict = Refused r; sums = sums_of [] }
-
 -- the group sums of a unit (`canonicalize`)
-unfoldable pub sums_answer : List ℕ → List ℕ → Bool → Unit → SumsResult
-sums_answer page names lent u = summed (units_verdict page names lent (u ∷ [])) (group_sums names_max (roots_in page) (terms_of u))
+unfoldable pub sums_answer : List ℕ → List ℕ → Bool → Unit → Result Sums Refusal
+sums_answer page names lent u = answer_of (units_verdict page names lent (u ∷ [])) (sums_of (group_sums names_max (roots_in page) (terms_of u)))
 
 -- ---- convertible or not
 
 -- "no unit counting as empty"
-abbrev pub or_empty : MaybeUnit → Unit
-or_empty m = cond m.some m.unit (unit_of [])
+abbrev pub or_empty : Option Unit → Unit
+or_empty None = unit_of []
+or_empty (Some u) = u
 
 -- are two units, or none, convertible (`is_convertible_to`)
-unfoldable pub convert_answer : List ℕ → List ℕ → Bool → MaybeUnit → MaybeUnit → Answer
+unfoldable pub convert_answer : List ℕ → List ℕ → Bool → Option Unit → Option Unit → Result Bool Refusal
 convert_answer page names lent left right =
-    answered (units_verdict page names lent (or_empty left ∷ or_empty right ∷ []))
+    answer_of (units_verdict page names lent (or_empty left ∷ or_empty right ∷ []))
     (convertible names_max (roots_in page) (terms_of (or_empty left)) (terms_of (or_empty right)))

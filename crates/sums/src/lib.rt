@@ -14,8 +14,8 @@ ghost use Rattle.sums.specs.Calls.{units_verdict, sums_answer, or_empty, convert
 
 use groups::root;
 use names::{NAMES, Symbol, symbol_index};
-use refusals::{Answer, Refusal, Verdict};
-use units::{MaybeUnit, PLACES, Unit, with_term};
+use refusals::Refusal;
+use units::{PLACES, Unit, with_term};
 
 // The root of each group, ascending by number, with the sum of a unit's exponents in it, none of them zero. Output only: a sum
 // may reach 8,000 either way.
@@ -24,13 +24,6 @@ pub struct Sums {
     pub count: usize,
     pub symbols: [Symbol; PLACES],
     pub exponents: [i16; PLACES],
-}
-
-// What asking for group sums answers; none of them where it is refused.
-#[derive(Clone, Copy)]
-pub struct SumsResult {
-    pub verdict: Verdict,
-    pub sums: Sums,
 }
 
 fn no_sums() -> Sums
@@ -66,11 +59,9 @@ fn rooted(parents: &[Symbol], steps: usize, u: Unit) -> Unit
 {
     let n = u.count;
     let mut v = units::dimensionless();
-    let mut i: usize = 0;
-    while i < n {
+    for i in 0..n {
         let g = root(parents, steps, u.symbols[i]);
         v = with_term(v, g, u.exponents[i]);
-        i += 1;
     }
     v
 }
@@ -89,10 +80,8 @@ fn next_symbol(u: Unit, lo: usize) -> usize
 {
     let n = u.count;
     let mut least = NAMES;
-    let mut i: usize = 0;
-    while i < n {
+    for i in 0..n {
         least = nearer_of(lo, least, symbol_index(u.symbols[i]));
-        i += 1;
     }
     least
 }
@@ -104,12 +93,10 @@ fn sum_of(u: Unit, s: Symbol) -> i16
 {
     let n = u.count;
     let mut sum: i16 = 0;
-    let mut i: usize = 0;
-    while i < n {
+    for i in 0..n {
         if u.symbols[i] == s {
             sum += u.exponents[i];
         }
-        i += 1;
     }
     sum
 }
@@ -151,15 +138,13 @@ fn same_sums(a: Sums, b: Sums) -> bool
     if n != m {
         return false;
     }
-    let mut i: usize = 0;
-    while i < n {
+    for i in 0..n {
         if a.symbols[i] != b.symbols[i] {
             return false;
         }
         if a.exponents[i] != b.exponents[i] {
             return false;
         }
-        i += 1;
     }
     true
 }
@@ -175,52 +160,42 @@ pub fn convertible(parents: &[Symbol], steps: usize, left: Unit, right: Unit) ->
 }
 
 // Whether two units can be judged by the pairs of a page.
-fn units_verdict(page: &[u8], names: &[u8], lent: bool, a: Unit, b: Unit) -> Verdict
+fn units_verdict(page: &[u8], names: &[u8], lent: bool, a: Unit, b: Unit) -> Result<(), Refusal>
     ensures { result ≡ units_verdict page.now names.now lent (a ∷ b ∷ []) }
 {
     if pairs::is_broken(page, names, lent) {
-        return Verdict::Refused(Refusal::Broken);
+        return Err(Refusal::Broken);
     }
     let n = names::in_use(names, lent);
     if !units::is_used(a, n) {
-        return Verdict::Refused(Refusal::Unused);
+        return Err(Refusal::Unused);
     }
     if !units::is_used(b, n) {
-        return Verdict::Refused(Refusal::Unused);
+        return Err(Refusal::Unused);
     }
     if !units::is_formed(a) {
-        return Verdict::Refused(Refusal::BadUnit);
+        return Err(Refusal::BadUnit);
     }
     if !units::is_formed(b) {
-        return Verdict::Refused(Refusal::BadUnit);
+        return Err(Refusal::BadUnit);
     }
-    Verdict::Passed
+    Ok(())
 }
 
 // The group sums of a unit, over the pairs of a page: `canonicalize` of the source. A unit by itself is judged as if given twice.
-pub fn canonicalize(page: &[u8], names: &[u8], lent: bool, u: Unit) -> SumsResult
+pub fn canonicalize(page: &[u8], names: &[u8], lent: bool, u: Unit) -> Result<Sums, Refusal>
     ensures { result ≡ sums_answer page.now names.now lent u }
 {
-    let verdict = units_verdict(page, names, lent, u, u);
-    if refusals::is_refused(verdict) {
-        return SumsResult {
-            verdict,
-            sums: no_sums(),
-        };
-    }
+    units_verdict(page, names, lent, u, u)?;
     let parents = pairs::parents_of(page);
-    let sums = group_sums(&parents, pages::count(page), u);
-    SumsResult { verdict, sums }
+    Ok(group_sums(&parents, pages::count(page), u))
 }
 
 // The unit, or the empty one where there is none. For crates above too.
-pub fn or_empty(m: MaybeUnit) -> Unit
+pub fn or_empty(m: Option<Unit>) -> Unit
     ensures { result ≡ or_empty m }
 {
-    if m.some {
-        return m.unit;
-    }
-    units::dimensionless()
+    m.unwrap_or(units::dimensionless())
 }
 
 // Whether two units, or none, are convertible by the pairs of a page: `is_convertible_to` of the source.
@@ -228,20 +203,14 @@ pub fn is_convertible_to(
     page: &[u8],
     names: &[u8],
     lent: bool,
-    left: MaybeUnit,
-    right: MaybeUnit,
-) -> Answer
+    left: Option<Unit>,
+    right: Option<Unit>,
+) -> Result<bool, Refusal>
     ensures { result ≡ convert_answer page.now names.now lent left right }
 {
     let a = or_empty(left);
     let b = or_empty(right);
-    let verdict = units_verdict(page, names, lent, a, b);
-    if let Verdict::Refused(r) = verdict {
-        return Answer::Refused(r);
-    }
+    units_verdict(page, names, lent, a, b)?;
     let parents = pairs::parents_of(page);
-    if convertible(&parents, pages::count(page), a, b) {
-        return Answer::Yes;
-    }
-    Answer::No
+    Ok(convertible(&parents, pages::count(page), a, b))
 }

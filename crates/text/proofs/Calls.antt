@@ -1,4 +1,5 @@
 -- What the call for a unit's text comes to, one law for each return. Assumes nothing.
+use Rattle.std.proofs.Common.{Ok, Err}
 use mathlib.Core.Path.{◌≡◌, refl, ◌∙◌, ap}
 use mathlib.Core.Bool.{true, false, not}
 use mathlib.Core.List.{List, [], ◌∷◌}
@@ -9,7 +10,6 @@ use borrow.Author.Tests.{le-leb}
 use Rattle.refusals.specs.Lowest.{◌when◌}
 use Rattle.refusals.specs.declared.Refusal.{Refusal}
 use Rattle.refusals.specs.declared.Refusal.TheVariants.{Broken, Unused, BadUnit}
-use Rattle.refusals.specs.declared.Verdict.TheVariants.{Refused}
 use Rattle.refusals.proofs.Lowest.{first_holds}
 use Rattle.pages.specs.Bytes.{count_of}
 use Rattle.names.specs.Table.{names_max}
@@ -23,35 +23,36 @@ use Rattle.units.proofs.Order.{ordered_inside}
 use Rattle.units.proofs.Held.{places_of, terms_unit}
 use Rattle.order.specs.Order.{by_name}
 use Rattle.text.specs.Text.{line_of}
-use Rattle.text.specs.Calls.{Writable, text_verdict, text_of, no_text, text_answer}
+use Rattle.text.specs.Calls.{text_max, Writable, text_verdict, text_answer}
+use Rattle.pages.specs.Pad.{padded}
 use Rattle.text.proofs.Kept.{by_name_length, by_name_used, by_name_inside}
 
 module _ (page : List ℕ) (u : Unit) where
-  refused_text : (r : Refusal) → text_verdict page u ≡ Refused r → no_text r ≡ text_answer page u
+  refused_text : (r : Refusal) → text_verdict page u ≡ Err r → Err r ≡ text_answer page u
   unfolding text_answer
   refused_text r v = rw v
 
-  pub text_broken : names.formed page ≡ false → no_text Broken ≡ text_answer page u
+  pub text_broken : names.formed page ≡ false → Err Broken ≡ text_answer page u
   unfolding text_verdict
   text_broken f = refused_text Broken v
     where
-      v : text_verdict page u ≡ Refused Broken
+      v : text_verdict page u ≡ Err Broken
       v = rw f (first_holds Broken ((Unused when not (in_use (count_of page) (present u))) ∷ (BadUnit when not (units.formed places_max names_max (terms_of u))) ∷ []) refl)
 
   module _ (f : names.formed page ≡ true) (n : ℕ) (e : n ≡ count_of page) where
-    pub text_unused : in_use n (present u) ≡ false → no_text Unused ≡ text_answer page u
+    pub text_unused : in_use n (present u) ≡ false → Err Unused ≡ text_answer page u
     unfolding text_verdict
     text_unused k = refused_text Unused v
       where
-        v : text_verdict page u ≡ Refused Unused
+        v : text_verdict page u ≡ Err Unused
         v = rw (f, ← e, k) (first_holds Unused ((BadUnit when not (units.formed places_max names_max (terms_of u))) ∷ []) refl)
 
     module _ (k : in_use n (present u) ≡ true) where
-      pub text_bad_unit : units.formed places_max names_max (terms_of u) ≡ false → no_text BadUnit ≡ text_answer page u
+      pub text_bad_unit : units.formed places_max names_max (terms_of u) ≡ false → Err BadUnit ≡ text_answer page u
       unfolding text_verdict
       text_bad_unit g = refused_text BadUnit v
         where
-          v : text_verdict page u ≡ Refused BadUnit
+          v : text_verdict page u ≡ Err BadUnit
           v = rw (f, ← e, k, g)
 
       module _ (g : units.formed places_max names_max (terms_of u) ≡ true) where
@@ -78,6 +79,6 @@ module _ (page : List ℕ) (u : Unit) where
             inside = rw sorted (by_name_inside page (terms_of u) (ordered_inside names_max 0 (terms_of u) (formed_ordered places_max names_max (terms_of u) g)));
           }
 
-          pub text_given : text_of (line_of page (terms_of w)) ≡ text_answer page u
+          pub text_given : Ok (padded text_max (line_of page (terms_of w))) ≡ text_answer page u
           unfolding text_answer text_verdict
-          text_given = ap (λ l. text_of (line_of page l)) sorted ∙ rw (f, ← e, k, g)
+          text_given = ap (λ l. Ok (padded text_max (line_of page l))) sorted ∙ rw (f, ← e, k, g)

@@ -7,29 +7,21 @@ use native.Mathlib.Omega.{arith}
 use lib.Dec.{T, eqb}
 use lib.ListN.{length, length-append}
 use lib.IntN.{ℤ, pos, negsuc, neg_ℤ, ◌-ℤ◌, +ℤ_idl}
-use lib.Signed.{le_z, lt_z, non_neg}
+use lib.Signed.{lt_z, non_neg}
 use mir.Syntax.{w16}
 use mir.Val.{SFits, to_z, of_z}
 use mir.Facts.{to_z-of_z}
-use borrow.Author.Tests.{le-leb, le-ltb, ltb-true, eq-eqb, ne_eqb}
+use borrow.Author.Tests.{ltb-true, eq-eqb, ne_eqb}
 use Rattle.names.specs.Table.{name_max}
 use Rattle.units.specs.Unit.{exponent_max, outside}
 use Rattle.units.proofs.Signed.{small, neg_fits}
 use Rattle.digits.specs.Decimal.{decimal_of}
 use Rattle.digits.proofs.Digits.{decimal_short}
 use Rattle.digits.proofs.Wrote.{Wrote, wrote_none, spelled, wrote_both}
-use Rattle.text.specs.Text.{power, stands, separator}
+use Rattle.text.specs.Text.{power, separator}
 use Rattle.text.specs.Calls.{exponent_digits}
 
 -- ---- which side, and how large
-
-pub above_is : (e : ℤ) → le_z (pos 0) e ≡ stands true e
-above_is (pos n) = le-leb 0 n (omega arith)
-above_is (negsuc n) = refl
-
-pub below_is : (e : ℤ) → lt_z e (pos 0) ≡ stands false e
-below_is (pos n) = le-ltb n 0 (omega arith)
-below_is (negsuc n) = refl
 
 -- an exponent turned, as it is read from its bits
 pub turned_back : (e : ℤ) → SFits w16 e → outside e ≡ false → to_z w16 (of_z w16 (pos 0 -ℤ to_z w16 (of_z w16 e))) ≡ neg_ℤ e

@@ -1,19 +1,18 @@
 -- What the call for a unit's text answers (document 01, "Units and pairs" and the table of refusals).
-use Rattle.std.specs.Prelude.{◌≡◌, Bool, true, false, not, cond, List, [], ◌∷◌, ℕ, ◌+◌, ◌*◌, ◌≤◌, length}
-use Rattle.refusals.specs.Lowest.{◌when◌, lowest}
+use Rattle.std.specs.Prelude.{◌≡◌, Bool, true, false, not, cond, List, [], ◌∷◌, ℕ, ◌+◌, ◌*◌, ◌≤◌, Result}
+use Rattle.refusals.specs.Lowest.{◌when◌, lowest, answer_of}
 use Rattle.refusals.specs.declared.Refusal.{Refusal}
 use Rattle.refusals.specs.declared.Refusal.TheVariants.{Broken, Unused, BadUnit}
-use Rattle.refusals.specs.declared.Verdict.{Verdict}
-use Rattle.refusals.specs.declared.Verdict.TheVariants.{Passed, Refused}
+use Rattle.refusals.specs.Numbers.{Verdict}
 use Rattle.pages.specs.Bytes.{count_of}
-use Rattle.pages.specs.Pad.{pad}
+use Rattle.pages.specs.Pad.{padded}
 use Rattle.names.specs.Table as names
 use Rattle.units.specs.Unit as units
 use Rattle.units.specs.Product.{any_outside}
 use Rattle.units.specs.Calls.{terms_of, present}
 use Rattle.units.specs.declared.Unit.{Unit}
 use Rattle.text.specs.Text.{stands, unit_text}
-use Rattle.text.specs.declared.Text.{Text}
+use Rattle.pages.specs.declared.Padded.{Padded}
 
 -- how many digits an exponent has at most
 abbrev pub exponent_digits : ℕ
@@ -48,19 +47,6 @@ text_verdict page u =
     ∷ (BadUnit when not (units.formed units.places_max names.names_max (terms_of u)))
     ∷ [])
 
--- a text by value: its bytes from place 0 on, and zeros after them
-abbrev pub text_of : List ℕ → Text
-text_of bytes = record { verdict = Passed; size = length bytes; bytes = pad text_max 0 bytes }
-
--- no text, beside the refusal
-abbrev pub no_text : Refusal → Text
-no_text r = record { verdict = Refused r; size = 0; bytes = pad text_max 0 [] }
-
--- a text, or none beside the refusal
-abbrev pub told : Verdict → List ℕ → Text
-told Passed bytes = text_of bytes
-told (Refused r) bytes = no_text r
-
 -- the text of a unit, by the names of a page
-unfoldable pub text_answer : List ℕ → Unit → Text
-text_answer page u = told (text_verdict page u) (unit_text page (terms_of u))
+unfoldable pub text_answer : List ℕ → Unit → Result (Padded text_max) Refusal
+text_answer page u = answer_of (text_verdict page u) (padded text_max (unit_text page (terms_of u)))

@@ -3,15 +3,17 @@
 
 ghost use Rattle.std.specs.Prelude.{◌≡◌, false, List, ℕ, ◌+◌, ◌*◌, ◌≤◌, ◌<◌, length, nat_abs};
 ghost use Rattle.pages.specs.Bytes.{put};
+ghost use Rattle.pages.specs.Pad.{padded};
 ghost use Rattle.names.specs.Table.{name_max};
 ghost use Rattle.units.specs.Unit.{exponent_max, outside};
 ghost use Rattle.units.specs.Calls.{terms_of};
 ghost use Rattle.text.specs.Text.{power, stands, separator, side, line_of};
-ghost use Rattle.text.specs.Calls.{exponent_digits, power_max, text_max, count_on, Writable, text_of, no_text, text_answer};
+ghost use Rattle.text.specs.Calls.{exponent_digits, power_max, text_max, count_on, Writable, text_answer};
 
 use digits::push;
 use names::{name_of, symbol_index};
-use refusals::{Refusal, Verdict};
+use pages::Padded;
+use refusals::Refusal;
 use units::{PLACES, Unit};
 
 // How many bytes a text has at most: `1`, and every symbol below the line with `/` or `*`, its name, `^` and four digits.
@@ -20,22 +22,14 @@ pub const TEXT_BYTES: usize = 1 + PLACES * (names::NAME_BYTES + EXPONENT_DIGITS 
 // How many digits an exponent has at most.
 pub const EXPONENT_DIGITS: usize = 4;
 
-// A text by value: its bytes from place 0 on, and zeros after them.
-#[derive(Clone, Copy)]
-pub struct Text {
-    pub verdict: Verdict,
-    pub size: usize,
-    pub bytes: [u8; TEXT_BYTES],
-}
+// A text by value.
+pub type Text = Padded<TEXT_BYTES>;
 
 // Whether a term with this exponent stands above the line or, with false, below it.
 fn is_on(e: i16, above: bool) -> bool
     ensures { result ≡ stands above e }
 {
-    if above {
-        return e >= 0;
-    }
-    e < 0
+    if above { e >= 0 } else { e < 0 }
 }
 
 // How large an exponent is.
@@ -83,16 +77,13 @@ fn write_side(out: &mut [u8], start: usize, page: &[u8], v: Unit, above: bool) -
 {
     let n = v.count;
     let mut at = start;
-    let mut i: usize = 0;
-    while i < n {
+    for i in 0..n {
         let e = v.exponents[i];
-        if is_on(e, above) {
-            let a = write_separator(out, start, at, above);
-            at = write_power(out, a, name_of(page, symbol_index(v.symbols[i])), size(e));
-            i += 1;
-        } else {
-            i += 1;
+        if !is_on(e, above) {
+            continue;
         }
+        let a = write_separator(out, start, at, above);
+        at = write_power(out, a, name_of(page, symbol_index(v.symbols[i])), size(e));
     }
     at
 }
@@ -113,40 +104,25 @@ fn write_line(out: &mut [u8], page: &[u8], v: Unit) -> usize
 // The text of terms in order.
 fn written(page: &[u8], v: Unit) -> Text
     requires { Writable page.now v }
-    ensures { result ≡ text_of (line_of page.now (terms_of v)) }
+    ensures { result ≡ padded text_max (line_of page.now (terms_of v)) }
 {
     let mut bytes = [0u8; TEXT_BYTES];
     let size = write_line(&mut bytes, page, v);
-    Text {
-        verdict: Verdict::Passed,
-        size,
-        bytes,
-    }
-}
-
-// No text, and why. For crates above too.
-pub fn no_text(refusal: Refusal) -> Text
-    ensures { result ≡ no_text refusal }
-{
-    Text {
-        verdict: Verdict::Refused(refusal),
-        size: 0,
-        bytes: [0; TEXT_BYTES],
-    }
+    Padded { size, bytes }
 }
 
 // The text of a unit: its symbols in byte order of their names.
-pub fn unit_text(page: &[u8], u: Unit) -> Text
+pub fn unit_text(page: &[u8], u: Unit) -> Result<Text, Refusal>
     ensures { result ≡ text_answer page.now u }
 {
     if !names::is_formed(page) {
-        return no_text(Refusal::Broken);
+        return Err(Refusal::Broken);
     }
     if !units::is_used(u, pages::count(page)) {
-        return no_text(Refusal::Unused);
+        return Err(Refusal::Unused);
     }
     if !units::is_formed(u) {
-        return no_text(Refusal::BadUnit);
+        return Err(Refusal::BadUnit);
     }
-    written(page, order::by_name(page, u))
+    Ok(written(page, order::by_name(page, u)))
 }

@@ -15,7 +15,7 @@ use Rattle.pages.proofs.Bytes.{made_at}
 use Rattle.pages.proofs.Put.{put_length, put_in, put_after}
 use Rattle.types.specs.Store.{offset, Formed}
 use Rattle.types.specs.Making.{taken_back, Grows}
-use Rattle.types.proofs.Store.{offset_start, offset_le}
+use Rattle.types.proofs.Placing.{offset_start, offset_le}
 use Rattle.types.proofs.Types.{whole, end_inside}
 use borrow.Rule.Slice.PartMut.{mid_of, put_mid, mid_len, Post-is}
 

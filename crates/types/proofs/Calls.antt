@@ -1,5 +1,6 @@
 -- What the calls on a store of types come to, one law for each return. Assumes nothing.
-use mathlib.Core.Path.{◌≡◌, refl, ◌∙◌, ap, subst}
+use Rattle.std.proofs.Common.{Result, Ok, Err}
+use mathlib.Core.Path.{◌≡◌, refl, ◌∙◌, ap, subst, sym}
 use mathlib.Core.Bool.{Bool, true, false, ◌&&◌, ◌||◌, not, cond}
 use mathlib.Core.List.{List, [], ◌∷◌}
 use Prim.Native.Nat.{ℕ, ◌+◌, ◌<◌, ◌≤◌}
@@ -10,8 +11,7 @@ use borrow.Author.Tests.{lt-ltb, le-ltb, ltb-false, le-leb, leb-true, leb-false,
 use Rattle.refusals.specs.Lowest.{Condition, ◌when◌, lowest, unless_refused}
 use Rattle.refusals.specs.declared.Refusal.{Refusal}
 use Rattle.refusals.specs.declared.Refusal.TheVariants.{Undefined, Broken, Unused, Width, Depth, Full}
-use Rattle.refusals.specs.declared.Verdict.TheVariants.{Passed, Refused}
-use Rattle.refusals.proofs.Lowest.{first_holds, passed_parts}
+use Rattle.refusals.proofs.Lowest.{first_holds, passed_parts, answer_of_ok}
 use Rattle.pages.specs.Bytes.{within, count_bytes, count_of}
 use Rattle.pages.proofs.Quant.{and_true}
 use Rattle.names.specs.Calls.{lent_broken, used_of, is_used}
@@ -20,9 +20,7 @@ use Rattle.types.specs.Store.{depth_max, equal_to, formed}
 use Rattle.types.specs.Types.{types_in, Measured}
 use Rattle.types.specs.Making.{entry_of, Enterable, Ready, is_made, depth_of, roomy, with_entry, enter_verdict, enter_answer, enter_page}
 use Rattle.types.specs.Calls.{store_broken, empty_verdict, empty_page, all_below, parts_used, is_new, make_verdict, make_answer, make_page}
-use Rattle.types.specs.declared.Made.{Made}
 use Rattle.types.proofs.Types.{most_few}
-use Rattle.types.proofs.Making.{numbered_at}
 use Rattle.types.proofs.Again.{enter_used}
 use Rattle.types.proofs.Fresh.{zeros_formed}
 use Rattle.types.proofs.Entries.{entry_whole, entry_parts}
@@ -30,11 +28,11 @@ use Rattle.types.proofs.Entries.{entry_whole, entry_parts}
 -- ---- making a store
 
 module _ (page : List ℕ) where
-  pub empty_short : length page < count_bytes → (Refused Broken ≡ empty_verdict page) × (page ≡ empty_page page)
+  pub empty_short : length page < count_bytes → (Err Broken ≡ empty_verdict page) × (page ≡ empty_page page)
   unfolding empty_verdict empty_page
   empty_short h = (rw (lt-ltb (length page) count_bytes h), rw (lt-ltb (length page) count_bytes h))
 
-  pub empty_made : count_bytes ≤ length page → (Passed ≡ empty_verdict page) × (replicate (length page) 0 ≡ empty_page page)
+  pub empty_made : count_bytes ≤ length page → (Ok tt ≡ empty_verdict page) × (replicate (length page) 0 ≡ empty_page page)
   unfolding empty_verdict empty_page
   empty_made h = (rw (le-ltb (length page) count_bytes h), rw (le-ltb (length page) count_bytes h))
 
@@ -99,7 +97,7 @@ unstored_fixed k l s = leb-false fixed_max k (go (leb fixed_max k) (rw (le-leb k
 
 module _ (page names : List ℕ) (lent : Bool) (k : ℕ) (cs : List ℕ) (m : ℕ) where
   -- what `make_type` promises
-  abbrev Makes : Made → List ℕ → Type 0
+  abbrev Makes : Result ℕ Refusal → List ℕ → Type 0
   Makes r after = (r ≡ make_answer page names lent k cs m) × (after ≡ make_page page names lent k cs m)
 
   -- the conditions of depth and room, and those before them
@@ -115,36 +113,36 @@ module _ (page names : List ℕ) (lent : Bool) (k : ℕ) (cs : List ℕ) (m : �
   abbrev unused : List Condition
   unused = (Unused when not (parts_used page (used_of names lent) k cs m)) ∷ wide
 
-  refused : (q : Refusal) → make_verdict page names lent k cs m ≡ Refused q → Makes (Made.Refused q) page
+  refused : (q : Refusal) → make_verdict page names lent k cs m ≡ Err q → Makes (Err q) page
   unfolding make_answer make_page
   refused q v = (rw v, rw v)
 
-  pub make_undefined : kind_last < k → Makes (Made.Refused Undefined) page
+  pub make_undefined : kind_last < k → Makes (Err Undefined) page
   unfolding make_verdict
   make_undefined h = refused Undefined (rw (lt-ltb kind_last k h) (first_holds Undefined ((Broken when store_broken page names lent) ∷ unused) refl))
 
   module _ (d : k ≤ kind_last) where
-    broken : store_broken page names lent ≡ true → Makes (Made.Refused Broken) page
+    broken : store_broken page names lent ≡ true → Makes (Err Broken) page
     unfolding make_verdict
     broken b = refused Broken (rw (le-ltb kind_last k d, b) (first_holds Broken unused refl))
 
-    pub make_unnamed : lent_broken names lent ≡ true → Makes (Made.Refused Broken) page
+    pub make_unnamed : lent_broken names lent ≡ true → Makes (Err Broken) page
     make_unnamed l = broken (broken_names page names lent l)
 
     module _ (l : lent_broken names lent ≡ false) (n : ℕ) (is : n ≡ used_of names lent) where
-      pub make_unformed : formed page n ≡ false → Makes (Made.Refused Broken) page
+      pub make_unformed : formed page n ≡ false → Makes (Err Broken) page
       make_unformed f = broken (broken_store page names lent l (rw (← is) f))
 
       module _ (f : formed page n ≡ true) where
         sound : store_broken page names lent ≡ false
         sound = unbroken page names lent l (rw (← is) f)
 
-        pub make_unused : parts_used page n k cs m ≡ false → Makes (Made.Refused Unused) page
+        pub make_unused : parts_used page n k cs m ≡ false → Makes (Err Unused) page
         unfolding make_verdict
         make_unused u = refused Unused (rw (le-ltb kind_last k d, sound, ← is, u) (first_holds Unused wide refl))
 
         module _ (u : parts_used page n k cs m ≡ true) where
-          pub make_miscounted : within (fewest k) (most k) (length cs) ≡ false → Makes (Made.Refused Width) page
+          pub make_miscounted : within (fewest k) (most k) (length cs) ≡ false → Makes (Err Width) page
           unfolding make_verdict
           make_miscounted w = refused Width (rw (le-ltb kind_last k d, sound, ← is, u, w) (first_holds Width deep refl))
 
@@ -153,10 +151,10 @@ module _ (page names : List ℕ) (lent : Bool) (k : ℕ) (cs : List ℕ) (m : �
             unfolding make_verdict
             verdict_is = rw (le-ltb kind_last k d, sound, ← is, u, w)
 
-            pub make_fixed : is_stored k ≡ false → Makes (Made.At k) page
+            pub make_fixed : is_stored k ≡ false → Makes (Ok k) page
             unfolding make_answer make_page is_new
             make_fixed s =
-                let v : make_verdict page names lent k cs m ≡ Passed = verdict_is ∙ rw s refl in
+                let v : make_verdict page names lent k cs m ≡ (Ok tt) = verdict_is ∙ rw s refl in
                 (rw (v, lt-ltb k fixed_max (unstored_fixed k d s)), rw (v, s))
 
             module _ (s : is_stored k ≡ true) where
@@ -201,24 +199,24 @@ module _ (page names : List ℕ) (lent : Bool) (k : ℕ) (cs : List ℕ) (m : �
               }
 
   -- a type that was made is there
-  pub made_is : (t : ℕ) → make_answer page names lent k cs m ≡ Made.At t → t < types_in (make_page page names lent k cs m)
+  pub made_is : (t : ℕ) → make_answer page names lent k cs m ≡ Ok t → t < types_in (make_page page names lent k cs m)
   unfolding make_answer make_verdict
   made_is t at = go (is_stored k) refl
     where
-      v : (lowest ((Undefined when ltb kind_last k) ∷ (Broken when store_broken page names lent) ∷ unused) ≡ Passed)
+      v : (lowest ((Undefined when ltb kind_last k) ∷ (Broken when store_broken page names lent) ∷ unused) ≡ Ok tt)
           × (cond (ltb k fixed_max) k (fixed_max + equal_to page (count_of page) (entry_of k cs m)) ≡ t)
-      v = numbered_at (make_verdict page names lent k cs m) (cond (ltb k fixed_max) k (fixed_max + equal_to page (count_of page) (entry_of k cs m))) t at
+      v = let z = answer_of_ok (make_verdict page names lent k cs m) (cond (ltb k fixed_max) k (fixed_max + equal_to page (count_of page) (entry_of k cs m))) t (sym at) in (z.0, sym z.1)
 
-      d : (ltb kind_last k ≡ false) × (lowest ((Broken when store_broken page names lent) ∷ unused) ≡ Passed)
+      d : (ltb kind_last k ≡ false) × (lowest ((Broken when store_broken page names lent) ∷ unused) ≡ Ok tt)
       d = passed_parts Undefined (ltb kind_last k) ((Broken when store_broken page names lent) ∷ unused) v.0
 
-      b : (store_broken page names lent ≡ false) × (lowest unused ≡ Passed)
+      b : (store_broken page names lent ≡ false) × (lowest unused ≡ Ok tt)
       b = passed_parts Broken (store_broken page names lent) unused d.1
 
-      u : (not (parts_used page (used_of names lent) k cs m) ≡ false) × (lowest wide ≡ Passed)
+      u : (not (parts_used page (used_of names lent) k cs m) ≡ false) × (lowest wide ≡ Ok tt)
       u = passed_parts Unused (not (parts_used page (used_of names lent) k cs m)) wide b.1
 
-      w : (not (within (fewest k) (most k) (length cs)) ≡ false) × (lowest deep ≡ Passed)
+      w : (not (within (fewest k) (most k) (length cs)) ≡ false) × (lowest deep ≡ Ok tt)
       w = passed_parts Width (not (within (fewest k) (most k) (length cs))) deep u.1
 
       known : k ≤ kind_last

@@ -1,4 +1,5 @@
 -- A type's const form: its entry, and one law for each return. Assumes nothing.
+use Rattle.std.proofs.Common.{Ok, Err}
 use mathlib.Core.Path.{◌≡◌, refl, sym, ◌∙◌, ap, ap₂}
 use mathlib.Core.Bool.{Bool, true, false, ◌&&◌, not, cond}
 use mathlib.Core.List.{List, [], ◌∷◌}
@@ -9,7 +10,7 @@ use lib.Dec.{ltb, eqb}
 use lib.ListN.{length, get_or, take, drop, set, replicate, length-set, length-drop, length-replicate}
 use lib.Seq.{get_or-take, get_or-drop, get_or-set_same, get_or-set_other, length-take-le}
 use borrow.Author.Tests.{lt-ltb, le-ltb, ltb-false}
-use Rattle.refusals.specs.Lowest.{◌when◌, lowest}
+use Rattle.refusals.specs.Lowest.{◌when◌, lowest, answer_of}
 use Rattle.refusals.specs.declared.Refusal.{Refusal}
 use Rattle.refusals.specs.declared.Refusal.TheVariants.{Depth, Full}
 use Rattle.pages.specs.Quant.{all_to}
@@ -23,10 +24,9 @@ use Rattle.kinds.specs.Kinds.{fixed_max, is_named, is_stored, fewest, most, cons
 use Rattle.kinds.proofs.Const.{Keeps, variant_keeps}
 use Rattle.types.specs.Store.{depth_max, head_bytes, child_bytes, name_bytes, children_at, kind_at, child_at, name_at, size_at, entry_at, depth_in, larger, deepest, depth_at, depths, is_below, children_below, parts_at, equal_to, Formed}
 use Rattle.types.specs.Types.{types_in, place_of, kind_of, Measured}
-use Rattle.types.specs.Making.{entry_max, Enterable, Ready, is_made, depth_of, roomy, numbered, enter_verdict, enter_answer, enter_page}
+use Rattle.types.specs.Making.{entry_max, Enterable, Ready, is_made, depth_of, roomy, enter_verdict, enter_answer, enter_page}
 use Rattle.types.specs.Calls.{const_entry, const_answer, const_page}
-use Rattle.types.specs.declared.Made.{Made}
-use Rattle.types.proofs.Store.{size_head, size_named, size_children, child_below, entry_part}
+use Rattle.types.proofs.Placing.{size_head, size_named, size_children, child_below, entry_part}
 use Rattle.types.proofs.Width.{name_width}
 use Rattle.types.proofs.Form.{parts_children}
 use Rattle.types.proofs.Types.{all_good, kind_entry, arity_entry, few_children, entry_inside}
@@ -170,13 +170,13 @@ module _ (page : List ℕ) (f : Formed page) (t : ℕ) (l : fixed_max ≤ t) (u 
       rw d (entry_flat page f (t - fixed_max) (omega arith))
 
   -- so only a number or a place can be missing (10)
-  pub const_full : (r : Refusal) → enter_answer page (const_entry page t) ≡ Made.Refused r → r ≡ Full
+  pub const_full : (r : Refusal) → enter_answer page (const_entry page t) ≡ Err r → r ≡ Full
   unfolding enter_answer enter_verdict
   const_full r h =
       go (not (is_made page (const_entry page t))) (not (roomy page (const_entry page t)))
       (rw (le-ltb depth_max (depth_of page (const_entry page t)) const_flat) at h)
     where
-      go : (a b : Bool) → numbered (lowest ((Depth when (a && false)) ∷ (Full when (a && b)) ∷ [])) (fixed_max + equal_to page (count_of page) (const_entry page t)) ≡ Made.Refused r → r ≡ Full
+      go : (a b : Bool) → answer_of (lowest ((Depth when (a && false)) ∷ (Full when (a && b)) ∷ [])) (fixed_max + equal_to page (count_of page) (const_entry page t)) ≡ Err r → r ≡ Full
       go true true h = cc
       go true false h = let z : ◌≡◌ {A = ℕ} 0 1 = cc in absurd (omega arith)
       go false b h = let z : ◌≡◌ {A = ℕ} 0 1 = cc in absurd (omega arith)
@@ -194,7 +194,7 @@ module _ (page : List ℕ) (f : Formed page) (t : ℕ) (l : fixed_max ≤ t) (u 
 
 module _ (page os ds : List ℕ) (m : Measured page os ds) (t : ℕ) where
   pub const_fixed : t < fixed_max → (r : ℕ) → r ≡ const_variant t
-      → (Made.At r ≡ const_answer page t) × (page ≡ const_page page t) × (Measured page os ds)
+      → (Ok r ≡ const_answer page t) × (page ≡ const_page page t) × (Measured page os ds)
   unfolding const_answer const_page
   const_fixed h r e = (rw (lt-ltb t fixed_max h, e) refl, rw (lt-ltb t fixed_max h) refl, m)
 
@@ -202,12 +202,12 @@ module _ (page os ds : List ℕ) (m : Measured page os ds) (t : ℕ) where
   const_ready l u = record { measured = m; enterable = const_enterable page m.held.sound t l u }
 
   -- 7 is never its refusal
-  pub const_refused : t < types_in page → (r : Refusal) → const_answer page t ≡ Made.Refused r → r ≡ Full
+  pub const_refused : t < types_in page → (r : Refusal) → const_answer page t ≡ Err r → r ≡ Full
   unfolding const_answer
   const_refused u r h = go (ltb t fixed_max) refl
     where
       go : (b : Bool) → ltb t fixed_max ≡ b → r ≡ Full
-      go true e = let w : Made.At (const_variant t) ≡ Made.Refused r = rw e at h in let z : ◌≡◌ {A = ℕ} 0 1 = cc in absurd (omega arith)
+      go true e = let w : Ok (const_variant t) ≡ Err r = rw e at h in let z : ◌≡◌ {A = ℕ} 0 1 = cc in absurd (omega arith)
       go false e = const_full page m.held.sound t (ltb-false t fixed_max e) u r (rw e at h)
 
   pub const_entered : fixed_max ≤ t → (enter_answer page (const_entry page t) ≡ const_answer page t) × (enter_page page (const_entry page t) ≡ const_page page t)

@@ -14,9 +14,9 @@ use Rattle.pages.specs.Bytes.{count_of}
 use Rattle.kinds.specs.Kinds.{fixed_max}
 use Rattle.types.specs.Store.{depth_max, offset, depth_in, depth_at, depths, Formed}
 use Rattle.types.specs.Types.{types_in}
-use Rattle.types.proofs.Store.{depth_fixed, depth_entry}
+use Rattle.types.proofs.Placing.{depth_fixed, depth_entry}
 use Rattle.types.proofs.Form.{parts_children, depth_known}
-use Rattle.types.proofs.Tables.{depths_length}
+use Rattle.types.proofs.Filled.{depths_length}
 use Rattle.types.proofs.Types.{all_good}
 
 module _ (page : List ℕ) where

@@ -1,22 +1,19 @@
 -- The bytes of an entry: what they say, and how they are written. Assumes nothing.
-use mathlib.Core.Path.{◌≡◌, refl, sym, ◌∙◌, ap}
+use mathlib.Core.Path.{◌≡◌, refl, sym, ◌∙◌}
 use mathlib.Core.Bool.{Bool, true, false, ◌&&◌, ◌||◌, not, cond}
 use mathlib.Core.List.{List, [], ◌∷◌}
-use Prim.Native.Nat.{ℕ, zero, suc, ◌+◌, ◌-◌, ◌*◌, ◌%◌, ◌^◌, ◌<◌, ◌≤◌}
-use native.Mathlib.Nat.{sub-zero, not-suc-le-zero, le_of_suc-le-suc}
-use native.Mathlib.Numerals.{add-one}
+use Prim.Native.Nat.{ℕ, zero, suc, ◌+◌, ◌*◌, ◌%◌, ◌^◌, ◌<◌, ◌≤◌}
+use native.Mathlib.Nat.{not-suc-le-zero, le_of_suc-le-suc}
 use native.Mathlib.Omega.{arith}
 use lib.Dec.{ltb, eqb}
-use lib.ListN.{length, get_or, take, drop, replicate, drop_of_length-le}
-use lib.Seq.{drop-cons}
-use borrow.Author.Tests.{lt-ltb, le-ltb}
+use lib.ListN.{length, get_or, take, replicate}
 use Rattle.pages.specs.Bytes.{within, words, big_endian, put}
 use Rattle.pages.specs.Pad.{pad}
 use Rattle.pages.proofs.Quant.{and_true, all_each}
 use Rattle.pages.proofs.Bytes.{big_length, number_back}
 use Rattle.pages.proofs.Put.{put_append}
 use Rattle.pages.proofs.Words.{words_length, words_at_lem}
-use Rattle.pages.proofs.Pad.{length_pad, put_pad, pad_front}
+use Rattle.pages.proofs.Pad.{put_pad, pad_front}
 use Rattle.names.specs.Calls.{is_used}
 use Rattle.names.proofs.Used.{used_below}
 use Rattle.kinds.specs.Kinds.{children_max, is_named, is_stored, fewest, most}
@@ -32,22 +29,9 @@ below_at [] t u i l = absurd (not-suc-le-zero l)
 below_at (c ∷ cs) t u zero l = (and_true (ltb c t) (all_below t cs) u).0
 below_at (c ∷ cs) t u (suc i) l = below_at cs t (and_true (ltb c t) (all_below t cs) u).1 i (le_of_suc-le-suc l)
 
-module _ (cs : List ℕ) (t i : ℕ) (l : i < length cs) where
-  pub below_on : get_or cs i 0 < t → all_below t (drop i cs) ≡ all_below t (drop (i + 1) cs)
-  below_on h = rw (drop-cons cs i 0 l, add-one i, lt-ltb (get_or cs i 0) t h) refl
-
-  pub below_off : t ≤ get_or cs i 0 → all_below t (drop i cs) ≡ false
-  below_off h = rw (drop-cons cs i 0 l, le-ltb (get_or cs i 0) t h) refl
-
-pub below_end : (cs : List ℕ) (t i : ℕ) → length cs ≤ i → all_below t (drop i cs) ≡ true
-below_end cs t i h = rw (drop_of_length-le cs h) refl
-
 -- the front of an entry's places is the entry
-pub entry_front : (e bytes : List ℕ) (size : ℕ) → (bytes ≡ pad entry_max 0 e) × (size ≡ length e) × (size ≤ entry_max) → take (size - 0) bytes ≡ e
-entry_front e bytes size h = rw (sub-zero, h.0) (pad_front entry_max e size (sym h.1) h.2)
-
-pub entry_places : (e bytes : List ℕ) (size : ℕ) → (bytes ≡ pad entry_max 0 e) × (size ≡ length e) × (size ≤ entry_max) → size ≤ length bytes
-entry_places e bytes size h = omega (arith, ap length h.0 ∙ length_pad entry_max 0 e, h.2)
+pub entry_front : (e bytes : List ℕ) (size : ℕ) → (bytes ≡ pad entry_max 0 e) × (size ≡ length e) × (size ≤ entry_max) → take size bytes ≡ e
+entry_front e bytes size h = rw h.0 (pad_front entry_max e size (sym h.1) h.2)
 
 -- ---- an entry
 

@@ -17,7 +17,7 @@ use Rattle.names.specs.Calls.{is_used}
 use Rattle.kinds.specs.Kinds.{fixed_max, is_named, is_stored, fewest, most}
 use Rattle.types.specs.Store.{depth_max, head_bytes, child_bytes, children_at, kind_at, child_at, name_at, size_at, offset, depth_in, larger, deepest, depth_at, depths, is_below, children_below, parts_at, good_at, Reached}
 use Rattle.types.specs.Survey.{whole_at, new_at}
-use Rattle.types.proofs.Store.{size_head, size_children, offset_next, child_below, depth_fixed, depth_entry}
+use Rattle.types.proofs.Placing.{size_head, size_children, offset_next, child_below, depth_fixed, depth_entry}
 
 -- ---- a good entry is whole and new
 

@@ -21,7 +21,7 @@ use Rattle.kinds.specs.Kinds.{fixed_max, is_named, is_stored, fewest, most}
 use Rattle.types.specs.Store.{entries_max, depth_max, head_bytes, child_bytes, name_bytes, children_at, kind_at, child_at, name_at, size_at, entry_at, offset, depth_in, larger, deepest, depth_at, depths, is_below, parts_at, is_entry, equal_to, good_at, formed, Formed}
 use Rattle.types.specs.Types.{types_in, place_of, kind_of, arity, child_of, name_of, Measured}
 use Rattle.types.specs.Making.{Enterable, depth_of, with_entry, Grows}
-use Rattle.types.proofs.Store.{size_named, size_children, size_head, offset_start, offset_le, offset_in}
+use Rattle.types.proofs.Placing.{size_named, size_children, size_head, offset_start, offset_le, offset_in}
 use Rattle.types.proofs.Form.{parts_children}
 use Rattle.types.proofs.Types.{whole, Good, all_good, kind_fixed, kind_entry, arity_fixed, arity_entry, child_above, name_above}
 

@@ -1,9 +1,9 @@
 -- Laws that the proofs of this crate, and of the crates above it, cite.
 pub mod Recur
-pub mod Store
+pub mod Placing
 pub mod Width
 pub mod Form
-pub mod Tables
+pub mod Filled
 pub mod Prints
 pub mod Surveyed
 pub mod Types

@@ -1,8 +1,9 @@
 -- Entering a type: one law for each return, and what holds of the store afterwards. Assumes nothing.
+use Rattle.std.proofs.Common.{Result, Ok, Err}
 use mathlib.Core.Path.{◌≡◌, refl, ◌∙◌, ap}
 use mathlib.Core.Bool.{true, false, not}
 use mathlib.Core.List.{List, [], ◌∷◌}
-use Prim.Native.Nat.{ℕ, ◌+◌, ◌-◌, ◌*◌, ◌<◌, ◌≤◌}
+use Prim.Native.Nat.{ℕ, ◌+◌, ◌*◌, ◌<◌, ◌≤◌}
 use native.Mathlib.Omega.{arith}
 use lib.Dec.{ltb}
 use lib.ListN.{length, get_or, set}
@@ -10,23 +11,20 @@ use borrow.Author.Tests.{lt-ltb, le-ltb, le-leb, lt-leb}
 use Rattle.refusals.specs.Lowest.{◌when◌}
 use Rattle.refusals.specs.declared.Refusal.{Refusal}
 use Rattle.refusals.specs.declared.Refusal.TheVariants.{Depth, Full}
-use Rattle.refusals.specs.declared.Verdict.{Verdict}
-use Rattle.refusals.specs.declared.Verdict.TheVariants.{Passed, Refused}
 use Rattle.refusals.proofs.Lowest.{first_holds}
 use Rattle.pages.specs.Bytes.{count_bytes, count_of, bytes_of, put}
 use Rattle.pages.proofs.Quant.{first_le}
 use Rattle.kinds.specs.Kinds.{fixed_max}
 use Rattle.types.specs.Store.{entries_max, depth_max, head_bytes, child_bytes, children_at, children_below, size_at, offset, depth_at, depths, is_entry, equal_to}
 use Rattle.types.specs.Types.{types_in, Measured}
-use Rattle.types.specs.Making.{Ready, is_made, depth_of, roomy, with_entry, numbered, enter_verdict, enter_answer, enter_page}
-use Rattle.types.specs.declared.Made.{Made}
-use Rattle.types.proofs.Store.{size_head}
+use Rattle.types.specs.Making.{Ready, is_made, depth_of, roomy, with_entry, enter_verdict, enter_answer, enter_page}
+use Rattle.types.proofs.Placing.{size_head}
 use Rattle.types.proofs.Form.{parts_children, below_more, depth_known}
 use Rattle.types.proofs.Types.{whole, end_inside}
 use Rattle.types.proofs.Grown.{with_measured}
 
 -- what `enter` promises
-abbrev Entered : (page entry after os ds : List ℕ) → Made → Type 0
+abbrev Entered : (page entry after os ds : List ℕ) → Result ℕ Refusal → Type 0
 Entered page entry after os ds r = (r ≡ enter_answer page entry) × (after ≡ enter_page page entry) × (Measured after os ds)
 
 module _ (page os ds entry : List ℕ) (r : Ready page os ds entry) where
@@ -55,16 +53,14 @@ module _ (page os ds entry : List ℕ) (r : Ready page os ds entry) where
   unfolding depth_of
   enter_depth d e = e ∙ depth_known ds (depths page (count_of page)) (count_of page) r.measured.known entry 0 children.1
 
-  pub enter_place : (n end : ℕ) → n ≡ count_of page → end ≡ get_or os (fixed_max + n - fixed_max) 0 → end ≡ offset page n
-  enter_place n end is e =
-      let z : fixed_max + n - fixed_max ≡ n = omega arith in
-      e ∙ rw z (r.measured.held.places n (omega (arith, is)))
+  pub enter_place : (n : ℕ) → n ≡ count_of page → get_or os n 0 ≡ offset page n
+  enter_place n is = r.measured.held.places n (omega (arith, is))
 
   module _ (n k : ℕ) (is : n ≡ count_of page) (at : k ≡ equal_to page n entry) where
     at_count : k ≡ equal_to page (count_of page) entry
     at_count = rw is at at
 
-    pub enter_known : k < n → Entered page entry page os ds (Made.At (fixed_max + k))
+    pub enter_known : k < n → Entered page entry page os ds (Ok (fixed_max + k))
     unfolding enter_answer enter_page enter_verdict is_made
     enter_known h =
         let m : ltb (equal_to page (count_of page) entry) (count_of page) ≡ true = rw (← at_count, ← is) (lt-ltb k n h) in
@@ -77,12 +73,12 @@ module _ (page os ds entry : List ℕ) (r : Ready page os ds entry) where
       next : fixed_max + n ≡ fixed_max + equal_to page (count_of page) entry
       next = rw (← at_count) (omega (arith, at, first_le (is_entry page entry) n))
 
-      refused : (q : Refusal) → enter_verdict page entry ≡ Refused q → Entered page entry page os ds (Made.Refused q)
+      refused : (q : Refusal) → enter_verdict page entry ≡ Err q → Entered page entry page os ds (Err q)
       unfolding enter_answer enter_page
       refused q v = (rw v refl, rw v refl, r.measured)
 
       module _ (d : ℕ) (deep : d ≡ depth_of page entry) where
-        pub enter_deep : depth_max < d → Entered page entry page os ds (Made.Refused Depth)
+        pub enter_deep : depth_max < d → Entered page entry page os ds (Err Depth)
         unfolding enter_verdict is_made
         enter_deep l =
             let m : ltb depth_max (depth_of page entry) ≡ true = rw (← deep) (lt-ltb depth_max d l) in
@@ -92,31 +88,26 @@ module _ (page os ds entry : List ℕ) (r : Ready page os ds entry) where
           is_flat : ltb depth_max (depth_of page entry) ≡ false
           is_flat = rw (← deep) (le-ltb depth_max d flat)
 
-          full : roomy page entry ≡ false → Entered page entry page os ds (Made.Refused Full)
+          full : roomy page entry ≡ false → Entered page entry page os ds (Err Full)
           unfolding enter_verdict is_made
           full m = refused Full (rw (is_new_lem, is_flat, m) refl)
 
-          pub enter_many : entries_max ≤ n → Entered page entry page os ds (Made.Refused Full)
+          pub enter_many : entries_max ≤ n → Entered page entry page os ds (Err Full)
           unfolding roomy
           enter_many l = full (rw (← is, le-ltb n entries_max l) refl)
 
           module _ (few : n < entries_max) (end : ℕ) (o : end ≡ offset page n) where
-            pub enter_short : length page < end + length entry → Entered page entry page os ds (Made.Refused Full)
+            pub enter_short : length page < end + length entry → Entered page entry page os ds (Err Full)
             unfolding roomy
             enter_short l = full (rw (← is, lt-ltb n entries_max few, ← o, lt-leb (end + length entry) (length page) l) refl)
 
             pub enter_new : end + length entry ≤ length page
-                → Entered page entry (put (put page end entry) 0 (bytes_of (n + 1))) (set os (n + 1) (end + length entry)) (set ds n d) (Made.At (fixed_max + n))
+                → Entered page entry (put (put page end entry) 0 (bytes_of (n + 1))) (set os (n + 1) (end + length entry)) (set ds n d) (Ok (fixed_max + n))
             unfolding enter_answer enter_page enter_verdict is_made roomy with_entry
             enter_new l =
                 let at_end : end ≡ offset page (count_of page) = rw is at o in
-                let v : enter_verdict page entry ≡ Passed =
+                let v : enter_verdict page entry ≡ (Ok tt) =
                 rw (is_new_lem, is_flat, ← is, lt-ltb n entries_max few, ← o, le-leb (end + length entry) (length page) l) refl in
                 let w = with_measured page entry r.measured.held.sound r.enterable (rw (← at_count, ← is) h) (rw (← deep) flat)
                 (rw (← is) few) (rw (← at_end) l) os ds r.measured in
-                (rw v (ap Made.At next), rw (v, is_new_lem, is, at_end) refl, rw (is, at_end, deep) w)
-
--- a number only where nothing is refused
-pub numbered_at : (v : Verdict) (n t : ℕ) → numbered v n ≡ Made.At t → (v ≡ Passed) × (n ≡ t)
-numbered_at Passed n t h = (refl, cc)
-numbered_at (Refused r) n t h = let z : ◌≡◌ {A = ℕ} 0 1 = cc in absurd (omega arith)
+                (rw v (ap Ok next), rw (v, is_new_lem, is, at_end) refl, rw (is, at_end, deep) w)

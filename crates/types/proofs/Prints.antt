@@ -19,7 +19,7 @@ use Rattle.chains.proofs.Walk as walk
 use Rattle.chains.proofs.Grow.{heads_none, heads_more, links_none, links_more}
 use Rattle.types.specs.Store.{entries_max, size_at, entry_at, offset, is_entry}
 use Rattle.types.specs.Survey.{new_at, print_at, Placed, Chained}
-use Rattle.types.proofs.Store.{offset_next, offset_le, entry_part}
+use Rattle.types.proofs.Placing.{offset_next, offset_le, entry_part}
 
 pub same_print : (page entry : List ℕ) (i : ℕ) → is_entry page entry i ≡ true → print_at page i ≡ print_of entry
 same_print page entry i e = ap print_of (eqs_true (entry_at page (offset page i)) entry e)

@@ -1,5 +1,6 @@
 -- Reading a type by value: one law for each step and each return. Assumes nothing.
-use mathlib.Core.Path.{◌≡◌, refl, sym, ◌∙◌, ap}
+use Rattle.std.proofs.Common.{Ok, Err}
+use mathlib.Core.Path.{◌≡◌, refl, sym}
 use mathlib.Core.Bool.{Bool, true, false, not}
 use mathlib.Core.List.{List, [], ◌∷◌}
 use Prim.Native.Nat.{ℕ, ◌+◌, ◌<◌, ◌≤◌}
@@ -9,21 +10,19 @@ use lib.Dec.{ltb}
 use lib.ListN.{length, set, replicate}
 use borrow.Author.Tests.{lt-ltb, le-ltb}
 use Rattle.refusals.specs.Lowest.{◌when◌}
-use Rattle.refusals.specs.declared.Refusal.{Refusal}
 use Rattle.refusals.specs.declared.Refusal.TheVariants.{Broken, Unused}
-use Rattle.refusals.specs.declared.Verdict.TheVariants.{Passed, Refused}
 use Rattle.refusals.proofs.Lowest.{first_holds}
 use Rattle.pages.specs.Bytes.{count_of}
 use Rattle.pages.specs.Pad.{pad}
-use Rattle.pages.proofs.Pad.{pad_more, pad_none, length_pad}
+use Rattle.pages.proofs.Pad.{pad_more, pad_none}
 use Rattle.names.specs.Calls.{lent_broken, used_of}
-use Rattle.kinds.specs.Kinds.{fixed_max, children_max}
+use Rattle.kinds.specs.Kinds.{fixed_max}
 use Rattle.types.specs.Store.{depth_in, depths, formed}
-use Rattle.types.specs.Types.{types_in, kind_of, arity, Measured}
-use Rattle.types.specs.Calls.{store_broken, list_to, type_at, read_verdict, shown, read_answer}
+use Rattle.types.specs.Types.{types_in, Measured}
+use Rattle.types.specs.Calls.{store_broken, list_to, type_at, read_verdict, read_answer}
 use Rattle.types.specs.declared.Shape.{Shape}
 use Rattle.types.proofs.Form.{depth_same}
-use Rattle.types.proofs.Tables.{list_length}
+use Rattle.types.proofs.Filled.{list_length}
 use Rattle.types.proofs.Types.{whole}
 use Rattle.types.proofs.Calls.{broken_names, broken_store, unbroken}
 
@@ -32,9 +31,6 @@ use Rattle.types.proofs.Calls.{broken_names, broken_store, unbroken}
 module _ (n : ℕ) (f : ℕ → ℕ) where
   pub numbers_none : replicate n 0 ≡ pad n 0 (list_to 0 f)
   numbers_none = sym (pad_none n)
-
-  pub numbers_places : (l : List ℕ) (i : ℕ) → l ≡ pad n 0 (list_to i f) → length l ≡ n
-  numbers_places l i e = ap length e ∙ length_pad n 0 (list_to i f)
 
   pub numbers_more : (i : ℕ) → i < n → set (pad n 0 (list_to i f)) i (f i) ≡ pad n 0 (list_to (i + 1) f)
   numbers_more i h =
@@ -50,31 +46,25 @@ module _ (page os ds : List ℕ) (g : Measured page os ds) (t : ℕ) (u : t < ty
   pub depth_there : t < fixed_max + length ds
   depth_there = omega (arith, u, g.size, (whole page g.held.sound.names g.held.sound.form).few)
 
--- Null, in every page
-pub null_is : (page : List ℕ) (r : Refusal)
-    → record { verdict = Refused r; shape = record { kind = 0; depth = 1; count = 0; children = replicate children_max 0; name = 0 } } ≡ shown (Refused r) page 0
-unfolding type_at kind_of arity depth_in
-null_is page r = rw (pad_none children_max) refl
-
 -- ---- the call
 
 module _ (page names : List ℕ) (lent : Bool) (t : ℕ) where
-  broken : store_broken page names lent ≡ true → shown (Refused Broken) page 0 ≡ read_answer page names lent t
+  broken : store_broken page names lent ≡ true → Err Broken ≡ read_answer page names lent t
   unfolding read_answer read_verdict
   broken b = rw (b, first_holds Broken ((Unused when not (ltb t (types_in page))) ∷ []) refl)
 
-  pub read_unnamed : lent_broken names lent ≡ true → shown (Refused Broken) page 0 ≡ read_answer page names lent t
+  pub read_unnamed : lent_broken names lent ≡ true → Err Broken ≡ read_answer page names lent t
   read_unnamed l = broken (broken_names page names lent l)
 
   module _ (l : lent_broken names lent ≡ false) (n : ℕ) (is : n ≡ used_of names lent) where
-    pub read_unformed : formed page n ≡ false → shown (Refused Broken) page 0 ≡ read_answer page names lent t
+    pub read_unformed : formed page n ≡ false → Err Broken ≡ read_answer page names lent t
     read_unformed f = broken (broken_store page names lent l (rw (← is) f))
 
     module _ (f : formed page n ≡ true) where
-      pub read_unused : types_in page ≤ t → shown (Refused Unused) page 0 ≡ read_answer page names lent t
+      pub read_unused : types_in page ≤ t → Err Unused ≡ read_answer page names lent t
       unfolding read_answer read_verdict
       read_unused h = rw (unbroken page names lent l (rw (← is) f), le-ltb t (types_in page) h)
 
-      pub read_given : t < types_in page → (s : Shape) → s ≡ type_at page t → record { verdict = Passed; shape = s } ≡ read_answer page names lent t
+      pub read_given : t < types_in page → (s : Shape) → s ≡ type_at page t → Ok s ≡ read_answer page names lent t
       unfolding read_answer read_verdict
       read_given h s e = rw (unbroken page names lent l (rw (← is) f), lt-ltb t (types_in page) h, e)

@@ -18,9 +18,9 @@ use Rattle.kinds.specs.Kinds.{fixed_max}
 use Rattle.types.specs.Store.{entries_max, depth_max, size_at, offset, depth_at, depths, parts_at, good_at, formed, Reached}
 use Rattle.types.specs.Types.{Measured}
 use Rattle.types.specs.Survey.{whole_at, new_at, Placed, Chained, counted, bad_at, good_to, filled, offsets_left, depths_left, opened_offsets, opened_depths}
-use Rattle.types.proofs.Store.{offset_start, offset_next}
+use Rattle.types.proofs.Placing.{offset_start, offset_next}
 use Rattle.types.proofs.Form.{good_both, depth_is, whole_parts}
-use Rattle.types.proofs.Tables.{depths_length, places_next, depths_next, filled_at}
+use Rattle.types.proofs.Filled.{depths_length, places_next, depths_next, filled_at}
 use Rattle.types.proofs.Prints.{chained_none}
 
 -- what `survey` promises

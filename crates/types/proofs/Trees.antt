@@ -18,7 +18,7 @@ use Rattle.types.specs.Types.{types_in, place_of, kind_of, arity, child_of, name
 use Rattle.types.specs.Recur.{below, cov}
 use Rattle.types.specs.Trees.{Tree, none, node, tree_rule, tree_of, Bytes}
 use Rattle.types.proofs.Recur.{below_lt, cov_eq}
-use Rattle.types.proofs.Store.{size_named, size_children}
+use Rattle.types.proofs.Placing.{size_named, size_children}
 use Rattle.types.proofs.Grown.{entry_alike}
 use Rattle.types.proofs.Types.{all_good, kind_fixed, kind_entry, arity_entry, child_lower, entry_inside}
 

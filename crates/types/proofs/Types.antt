@@ -1,22 +1,24 @@
 -- The types of a store in form, by number: one law for each read. Assumes nothing.
-use mathlib.Core.Path.{◌≡◌, refl, ◌∙◌}
-use mathlib.Core.Logic.{◌⊎◌, inl, inr}
-use mathlib.Core.Bool.{Bool, true, false, ◌&&◌, cond}
+use mathlib.Core.Path.{◌≡◌, refl}
+use mathlib.Core.Logic.{◌⊎◌, inl, inr, ∥∥₁_elim}
+use mathlib.Core.Bool.{Bool, true, false, ◌&&◌, cond, Bool-set}
 use mathlib.Core.List.{List}
+use Rattle.std.proofs.Math.Nat.{ℕ_set}
 use Prim.Native.Nat.{ℕ, zero, suc, ◌+◌, ◌-◌, ◌*◌, ◌<◌, ◌≤◌}
 use native.Mathlib.Omega.{arith}
 use lib.Dec.{ltb, leb, eqb}
-use lib.ListN.{length, get_or, drop}
+use lib.ListN.{length, drop}
 use borrow.Author.Tests.{lt-ltb, le-ltb, lt-leb, leb-true, eqb-true, ne_eqb, ltb-true, ltb-false}
 use Rattle.pages.specs.Quant.{all_to}
 use Rattle.pages.specs.Bytes.{zeros, within, count_bytes, count_of}
-use Rattle.pages.proofs.Quant.{and_true, all_at}
+use Rattle.pages.proofs.Quant.{and_true, all_at, all_each}
 use Rattle.pages.proofs.Bytes.{and_false}
+use Rattle.names.specs.Table.{names_max}
 use Rattle.names.specs.Calls.{is_used}
 use Rattle.kinds.specs.Kinds.{fixed_max, children_max, is_named, is_stored, fewest, most}
 use Rattle.types.specs.Store.{types_max, entries_max, depth_max, head_bytes, child_bytes, name_bytes, children_at, kind_at, name_at, size_at, entry_at, offset, depth_at, depths, children_below, parts_at, equal_to, good_at, formed, Formed}
 use Rattle.types.specs.Types.{types_in, place_of, kind_of, arity, child_of, Held}
-use Rattle.types.proofs.Store.{size_named, size_head, child_below}
+use Rattle.types.proofs.Placing.{size_named, size_head, child_below}
 use Rattle.types.proofs.Form.{parts_children}
 
 -- ---- what a store in form has
@@ -197,10 +199,44 @@ module _ (page : List ℕ) (f : Formed page) where
       pub name_inside : place_of page t + head_bytes + name_bytes ≤ length page
       name_inside = omega (arith, entry_inside name_above, size_named page (place_of page t) (rw (kind_entry page t name_above) h))
 
--- the offset of an entry stands in the table
-module _ (page offsets : List ℕ) (h : Held page offsets) (t : ℕ) (u : t < types_in page) where
-  pub offset_asks : fixed_max ≤ t → (fixed_max ≤ t) × (t < fixed_max + length offsets) × (length offsets ≡ suc entries_max)
-  offset_asks l = (l, omega (arith, h.size, (whole page h.sound.names h.sound.form).few), h.size)
+-- ---- the fact that a `Store` keeps: names that a table can give are enough for its form
 
-  pub offset_is : (r : ℕ) → fixed_max ≤ t → r ≡ get_or offsets (t - fixed_max) 0 → r ≡ place_of page t
-  offset_is r l e = e ∙ h.places (t - fixed_max) (omega arith)
+used_most : (n s : ℕ) → is_used n s ≡ true → is_used names_max s ≡ true
+unfolding is_used
+used_most n s h = let u = (and_true (ltb s n) _ h).1 in rw u refl
+
+parts_most : (page : List ℕ) (n t o : ℕ) → parts_at page n t o ≡ true → parts_at page names_max t o ≡ true
+unfolding parts_at
+parts_most page n t o h = go (is_named (kind_at page o)) refl (and_true (is_stored (kind_at page o)) _ h)
+  where
+    go : (b : Bool) → is_named (kind_at page o) ≡ b
+        → (is_stored (kind_at page o) ≡ true) × (cond b (eqb (children_at page o) 0 && is_used n (name_at page o))
+        (within (fewest (kind_at page o)) (most (kind_at page o)) (children_at page o) && children_below page o t) ≡ true)
+        → (is_stored (kind_at page o) && cond (is_named (kind_at page o)) (eqb (children_at page o) 0 && is_used names_max (name_at page o))
+        (within (fewest (kind_at page o)) (most (kind_at page o)) (children_at page o) && children_below page o t)) ≡ true
+    go true e p =
+        let u = and_true (eqb (children_at page o) 0) _ p.1 in
+        rw (p.0, e, u.0, used_most n (name_at page o) u.1) refl
+    go false e p = rw (p.0, e) p.1
+
+good_most : (page : List ℕ) (n j : ℕ) → good_at page n j ≡ true → good_at page names_max j ≡ true
+unfolding good_at
+good_most page n j h =
+    let a = and_true (leb (offset page (suc j)) (length page)) _ h in
+    let b = and_true (parts_at page n (fixed_max + j) (offset page j)) _ a.1 in
+    rw (a.0, parts_most page n (fixed_max + j) (offset page j) b.0) b.1
+
+formed_most : (page : List ℕ) (n : ℕ) → formed page n ≡ true → formed page names_max ≡ true
+unfolding formed
+formed_most page n h =
+    let a = and_true (leb count_bytes (length page)) _ h in
+    let b = and_true (leb (count_of page) entries_max) _ a.1 in
+    let d = and_true (all_to (count_of page) (good_at page n)) _ b.1 in
+    rw (a.0, b.0, all_each (count_of page) (good_at page names_max) (λ j l. good_most page n j (all_at (good_at page n) (count_of page) j d.0 l))) d.1
+
+pub held_by : {page offsets : List ℕ} → ∥ Held page offsets ∥₁ → Held page offsets
+held_by {page} {offsets} t = record {
+  sound = record { names = names_max; form = ∥∥₁_elim t (Bool-set _ _) (λ h. formed_most page h.sound.names h.sound.form) };
+  size = ∥∥₁_elim t (ℕ_set _ _) (λ h. h.size);
+  places = λ k l. ∥∥₁_elim t (ℕ_set _ _) (λ h. h.places k l);
+}

@@ -1,20 +1,18 @@
 -- What the calls on a store of types answer, and leave in the page (document 01, "Types" and the table of refusals). Names are lent
 -- where `lent` is true.
-use Rattle.std.specs.Prelude.{Bool, true, ◌&&◌, ◌||◌, not, cond, List, [], ◌∷◌, ◌++◌, ℕ, zero, suc, ◌+◌, ltb, length, set, replicate}
-use Rattle.refusals.specs.Lowest.{◌when◌, lowest, unless_refused}
+use Rattle.refusals.specs.declared.Refusal.{Refusal}
+use Rattle.std.specs.Prelude.{Bool, true, ◌&&◌, ◌||◌, not, cond, List, [], ◌∷◌, ◌++◌, ℕ, zero, suc, ◌+◌, ltb, length, set, replicate, Result, Ok}
+use Rattle.refusals.specs.Lowest.{◌when◌, lowest, unless_refused, answer_of}
 use Rattle.refusals.specs.declared.Refusal.TheVariants.{Undefined, Broken, Unused, Width, Depth, Full}
-use Rattle.refusals.specs.declared.Verdict.{Verdict}
-use Rattle.refusals.specs.declared.Verdict.TheVariants.{Passed, Refused}
+use Rattle.refusals.specs.Numbers.{Verdict}
 use Rattle.pages.specs.Bytes.{within, count_bytes, count_of}
 use Rattle.pages.specs.Pad.{pad}
 use Rattle.names.specs.Calls.{lent_broken, used_of, is_used}
 use Rattle.kinds.specs.Kinds.{fixed_max, children_max, kind_last, is_named, is_stored, fewest, most, const_variant}
 use Rattle.types.specs.Store.{depth_max, entry_at, depth_in, depths, equal_to, formed}
 use Rattle.types.specs.Types.{types_in, place_of, kind_of, arity, child_of, name_of}
-use Rattle.types.specs.Making.{entry_of, is_made, depth_of, roomy, with_entry, numbered, enter_answer, enter_page}
-use Rattle.types.specs.declared.Made.{Made}
+use Rattle.types.specs.Making.{entry_of, is_made, depth_of, roomy, with_entry, enter_answer, enter_page}
 use Rattle.types.specs.declared.Shape.{Shape}
-use Rattle.types.specs.declared.TypeRead.{TypeRead}
 
 -- do the names that are lent, or the store beside them, break their form, the store also by a name number not in use
 unfoldable pub store_broken : List ℕ → List ℕ → Bool → Bool
@@ -59,9 +57,9 @@ make_verdict page names lent k children name =
     ∷ [])
 
 -- kinds 0 to 18 answer their own number, others that of their equal, else the next
-unfoldable pub make_answer : List ℕ → List ℕ → Bool → ℕ → List ℕ → ℕ → Made
+unfoldable pub make_answer : List ℕ → List ℕ → Bool → ℕ → List ℕ → ℕ → Result ℕ Refusal
 make_answer page names lent k children name =
-    numbered (make_verdict page names lent k children name)
+    answer_of (make_verdict page names lent k children name)
     (cond (ltb k fixed_max) k (fixed_max + equal_to page (count_of page) (entry_of k children name)))
 
 -- the page afterwards: changed only by a new type that is not refused
@@ -90,13 +88,9 @@ type_at page t = record {
 unfoldable pub read_verdict : List ℕ → List ℕ → Bool → ℕ → Verdict
 read_verdict page names lent t = lowest ((Broken when store_broken page names lent) ∷ (Unused when not (ltb t (types_in page))) ∷ [])
 
--- a type, or Null beside the refusal
-abbrev pub shown : Verdict → List ℕ → ℕ → TypeRead
-shown Passed page t = record { verdict = Passed; shape = type_at page t }
-shown (Refused r) page t = record { verdict = Refused r; shape = type_at page 0 }
-
-unfoldable pub read_answer : List ℕ → List ℕ → Bool → ℕ → TypeRead
-read_answer page names lent t = shown (read_verdict page names lent t) page t
+-- the type with number t by value
+unfoldable pub read_answer : List ℕ → List ℕ → Bool → ℕ → Result Shape Refusal
+read_answer page names lent t = answer_of (read_verdict page names lent t) (type_at page t)
 
 -- ---- a type's const form (`into_const`, `const_variant`), made if it is new
 
@@ -104,8 +98,8 @@ read_answer page names lent t = shown (read_verdict page names lent t) page t
 unfoldable pub const_entry : List ℕ → ℕ → List ℕ
 const_entry page t = set (entry_at page (place_of page t)) 1 (const_variant (kind_of page t))
 
-unfoldable pub const_answer : List ℕ → ℕ → Made
-const_answer page t = cond (ltb t fixed_max) (Made.At (const_variant t)) (enter_answer page (const_entry page t))
+unfoldable pub const_answer : List ℕ → ℕ → Result ℕ Refusal
+const_answer page t = cond (ltb t fixed_max) (Ok (const_variant t)) (enter_answer page (const_entry page t))
 
 unfoldable pub const_page : List ℕ → ℕ → List ℕ
 const_page page t = cond (ltb t fixed_max) page (enter_page page (const_entry page t))

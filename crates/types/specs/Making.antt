@@ -1,14 +1,13 @@
 -- Making a type: "Making a type returns the number of its equal, else the next" (document 01, "Types").
-use Rattle.std.specs.Prelude.{◌≡◌, Bool, true, ◌&&◌, not, cond, List, [], ◌∷◌, ◌++◌, ℕ, ◌+◌, ◌-◌, ◌*◌, ◌<◌, ◌≤◌, ltb, leb, length, get_or, take, replicate}
-use Rattle.refusals.specs.Lowest.{◌when◌, lowest, unless_refused}
+use Rattle.refusals.specs.declared.Refusal.{Refusal}
+use Rattle.std.specs.Prelude.{◌≡◌, Bool, true, ◌&&◌, not, cond, List, [], ◌∷◌, ◌++◌, ℕ, ◌+◌, ◌-◌, ◌*◌, ◌<◌, ◌≤◌, ltb, leb, length, get_or, take, replicate, Result}
+use Rattle.refusals.specs.Lowest.{◌when◌, lowest, unless_refused, answer_of}
 use Rattle.refusals.specs.declared.Refusal.TheVariants.{Depth, Full}
-use Rattle.refusals.specs.declared.Verdict.{Verdict}
-use Rattle.refusals.specs.declared.Verdict.TheVariants.{Passed, Refused}
+use Rattle.refusals.specs.Numbers.{Verdict}
 use Rattle.pages.specs.Bytes.{count_bytes, count_of, bytes_of, words, big_endian, put}
 use Rattle.kinds.specs.Kinds.{fixed_max, children_max, is_named}
 use Rattle.types.specs.Store.{entries_max, depth_max, head_bytes, child_bytes, name_bytes, size_at, offset, depth_at, depths, parts_at, equal_to, Formed}
 use Rattle.types.specs.Types.{types_in, Measured}
-use Rattle.types.specs.declared.Made.{Made}
 
 -- ---- an entry's bytes
 
@@ -56,14 +55,9 @@ enter_verdict page entry =
     ∷ (Full when (not (is_made page entry) && not (roomy page entry)))
     ∷ [])
 
--- a number, or the refusal
-abbrev pub numbered : Verdict → ℕ → Made
-numbered Passed n = Made.At n
-numbered (Refused r) n = Made.Refused r
-
 -- the number of its equal, else the next
-unfoldable pub enter_answer : List ℕ → List ℕ → Made
-enter_answer page entry = numbered (enter_verdict page entry) (fixed_max + equal_to page (count_of page) entry)
+unfoldable pub enter_answer : List ℕ → List ℕ → Result ℕ Refusal
+enter_answer page entry = answer_of (enter_verdict page entry) (fixed_max + equal_to page (count_of page) entry)
 
 -- the page afterwards: changed only by a new type that is not refused
 unfoldable pub enter_page : List ℕ → List ℕ → List ℕ

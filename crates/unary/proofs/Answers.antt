@@ -1,5 +1,6 @@
 -- What a check that passes answers: its equations, that it leaves a store in form that has grown (`answer_sound`), and that a type
 -- checked once is found again in every store that grows out of the one it left (`answer_again`). Assumes nothing.
+use Rattle.std.proofs.Common.{Result, Ok, Err}
 use mathlib.Core.Path.{◌≡◌, refl, sym, ◌∙◌, ap}
 use mathlib.Core.Bool.{Bool, true, false, ◌||◌, cond}
 use mathlib.Core.List.{List, []}
@@ -15,7 +16,6 @@ use Rattle.types.specs.Types.{types_in, kind_of}
 use Rattle.types.specs.Recur.{below}
 use Rattle.types.specs.Making.{Grows}
 use Rattle.types.specs.Calls.{all_below}
-use Rattle.types.specs.declared.Made.{Made}
 use Rattle.types.proofs.Recur.{below_lt, cov_eq}
 use Rattle.types.proofs.Grown.{kind_grown, grows_refl, grows_trans}
 use Rattle.operators.specs.Operators.{int, float, bool, minus, bang, family_of, taker_of}
@@ -30,18 +30,18 @@ use Rattle.unary.specs.Unary.{unary_passes, answer_rule, unary_result}
 
 -- the outcomes for types below t
 unfoldable pub under : ℕ → ℕ → List ℕ → Entered
-under t = below (λ (page : List ℕ). entered (Made.At null) page) t unary_result
+under t = below (λ (page : List ℕ). entered (Ok null) page) t unary_result
 
 answer_eq : (t : ℕ) (page : List ℕ) → unary_result t page ≡ answer_rule t (under t) page
 unfolding unary_result under
-answer_eq t page = ap (λ (f : List ℕ → Entered). f page) (cov_eq (λ (x : List ℕ). entered (Made.At null) x) answer_rule t)
+answer_eq t page = ap (λ (f : List ℕ → Entered). f page) (cov_eq (λ (x : List ℕ). entered (Ok null) x) answer_rule t)
 
 pub under_is : (t x : ℕ) (page : List ℕ) → x < t → under t x page ≡ unary_result x page
 unfolding under
-under_is t x page l = ap (λ (f : List ℕ → Entered). f page) (below_lt (λ (s : List ℕ). entered (Made.At null) s) t unary_result x l)
+under_is t x page l = ap (λ (f : List ℕ → Entered). f page) (below_lt (λ (s : List ℕ). entered (Ok null) s) t unary_result x l)
 
 pub answer_plain : (t : ℕ) (page : List ℕ) → is_union (kind_of page t) ≡ false
-    → unary_result t page ≡ entered (Made.At (family_of (kind_of page t))) page
+    → unary_result t page ≡ entered (Ok (family_of (kind_of page t))) page
 unfolding answer_rule
 answer_plain t page h = answer_eq t page ∙ rw h refl
 
@@ -75,11 +75,11 @@ result_sound : (page rs s : List ℕ) → Formed page → ResultsSound page (so_
 unfolding one_more
 result_sound page rs s f h o z = go o.made refl
   where
-    go : (m : Made) → o.made ≡ m → ResultsSound page (one_more rs m o.store)
-    go (Made.At r) e =
+    go : (m : Result ℕ Refusal) → o.made ≡ m → ResultsSound page (one_more rs m o.store)
+    go (Ok r) e =
         let old = below_more (types_in s) (types_in o.store) rs (omega (arith, z.grown.more)) h.2 in
         (grows_trans page s o.store f h.0 z.grown, z.form, merged_below r rs (types_in o.store) old (z.used r e))
-    go (Made.Refused q) e = (grows_trans page s o.store f h.0 z.grown, z.form)
+    go (Err q) e = (grows_trans page s o.store f h.0 z.grown, z.form)
 
 module _ (rule : ℕ → List ℕ → Entered) (page : List ℕ) (f : Formed page) (t : ℕ)
     (each : (i : ℕ) → i < size_of page t → (s : List ℕ) → Formed s → Grows page s → Sound s (rule (member page t i) s)) where
@@ -150,11 +150,11 @@ stopped_not : (q : Refusal) (s rs u : List ℕ) → stopped q s ≡ so_far rs u 
 stopped_not q s rs u e = let z : ◌≡◌ {A = ℕ} 0 1 = cc in omega arith
 
 -- one more result: what it was, and the store that it left
-one_made : (rs : List ℕ) (m : Made) (s rs' s' : List ℕ) → one_more rs m s ≡ so_far rs' s'
-    → (r : ℕ) × (m ≡ Made.At r) × (merged r rs ≡ rs') × (s ≡ s')
+one_made : (rs : List ℕ) (m : Result ℕ Refusal) (s rs' s' : List ℕ) → one_more rs m s ≡ so_far rs' s'
+    → (r : ℕ) × (m ≡ Ok r) × (merged r rs ≡ rs') × (s ≡ s')
 unfolding one_more list_in store_in
-one_made rs (Made.At r) s rs' s' e = (r, refl, ap list_in e, ap store_in e)
-one_made rs (Made.Refused q) s rs' s' e = absurd (stopped_not q s rs' s' e)
+one_made rs (Ok r) s rs' s' e = (r, refl, ap list_in e, ap store_in e)
+one_made rs (Err q) s rs' s' e = absurd (stopped_not q s rs' s' e)
 
 module _ (op : ℕ) (o : 0 < op) (page : List ℕ) (t : ℕ) (p : Passing op page t) (h : is_union (kind_of page t) ≡ true) where
   -- the outcomes for members are sound
@@ -193,9 +193,9 @@ module _ (op : ℕ) (o : 0 < op) (page : List ℕ) (t : ℕ) (p : Passing op pag
             (ap (λ (y : List ℕ). so_far y q) m.2)
 
     -- their union too
-    together_again : (k : Results) → results_to (under t) page t (size_of page t) ≡ k → (r : ℕ) → (together k).made ≡ Made.At r
+    together_again : (k : Results) → results_to (under t) page t (size_of page t) ≡ k → (r : ℕ) → (together k).made ≡ Ok r
         → (q : List ℕ) → Grows (together k).store q → Formed q
-        → together (results_to (under t) q t (size_of page t)) ≡ entered (Made.At r) q
+        → together (results_to (under t) q t (size_of page t)) ≡ entered (Ok r) q
     unfolding together Repeated
     together_again (stopped x s) e r k q g fq = absurd (refused_not x r k)
     together_again (so_far rs s) e r k q g fq =
@@ -215,10 +215,10 @@ module _ (op : ℕ) (o : 0 < op) where
       kind = kind_grown page q p.0 grown t p.1
 
       go : (b : Bool) → is_union (kind_of page t) ≡ b → ((x : ℕ) → x < t → (s : List ℕ) → Passing op s x → Again (unary_result x) s)
-          → unary_result t q ≡ entered (Made.At r) q
+          → unary_result t q ≡ entered (Ok r) q
       go false h ih =
           answer_plain t q (rw kind h)
-          ∙ rw kind (ap (λ (x : Made). entered x q) (sym (ap (λ (x : Entered). x.made) (answer_plain t page h)) ∙ e))
+          ∙ rw kind (ap (λ (x : Result ℕ Refusal). entered x q) (sym (ap (λ (x : Entered). x.made) (answer_plain t page h)) ∙ e))
       go true h ih =
           let members : (i : ℕ) → i < size_of page t → (s : List ℕ) → Formed s → Grows page s → Again (under t (member page t i)) s =
           λ i k s fs gs r' e' q' g' fq'.

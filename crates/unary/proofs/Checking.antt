@@ -1,34 +1,33 @@
 -- `check_unary_operator` and `check_unary_any`: what is remembered, one law for each return, and the members one after another; and the
 -- check on checked types. Assumes nothing.
+use Rattle.std.proofs.Common.{Result, Ok, Err}
+use Rattle.std.specs.Prelude.{Option, Some, None}
 use mathlib.Core.Path.{◌≡◌, refl, sym, ◌∙◌, ap}
 use mathlib.Core.Logic.{⊎_elim}
-use mathlib.Core.Bool.{Bool, true, false}
+use mathlib.Core.Bool.{true, false}
 use mathlib.Core.List.{List}
-use Prim.Native.Nat.{ℕ, zero, suc, ◌+◌, ◌-◌, ◌<◌, ◌≤◌}
+use Prim.Native.Nat.{ℕ, zero, suc, ◌+◌, ◌<◌, ◌≤◌}
 use native.Mathlib.Numerals.{add-one}
 use native.Mathlib.Nat.{le_of_suc-le-suc, eq-or-lt_of_le}
 use native.Mathlib.Omega.{arith}
 use lib.Dec.{eqb}
 use lib.ListN.{length, get_or, take, set, length-set, replicate, length-replicate}
-use lib.Seq.{get_or-set_same, get_or-set_other}
-use borrow.Author.Tests.{eqb-true, eqb-false, eq-eqb, ne_eqb}
+use borrow.Author.Tests.{eq-eqb, ne_eqb}
 use Rattle.refusals.specs.declared.Refusal.{Refusal}
-use Rattle.pages.proofs.Bytes.{made_at}
 use Rattle.kinds.specs.Kinds.{is_union}
 use Rattle.types.specs.Store.{types_max, Formed}
 use Rattle.types.specs.Types.{types_in, kind_of, Measured}
 use Rattle.types.specs.Making.{Grows}
 use Rattle.types.specs.Calls.{all_below}
-use Rattle.types.specs.declared.Made.{Made}
+use Rattle.types.proofs.Filled.{found_none, found_more}
 use Rattle.types.proofs.Types.{types_few}
 use Rattle.types.proofs.Grown.{grows_refl, grows_trans}
 use Rattle.matching.specs.declared.Checked.{Checked}
 use Rattle.operators.specs.Operators.{no_family, family_of}
-use Rattle.operators.specs.Outcome.{no_error, outcome, plain_unary}
+use Rattle.operators.specs.Outcome.{no_error, outcome, plain_unary, count_of}
 use Rattle.operators.specs.declared.Errors.{Errors}
 use Rattle.operators.specs.declared.Outcome.{Outcome}
 use Rattle.members.specs.Members.{members_max, size_of, member, Entered, entered, union_of, concluded, conclude}
-use Rattle.members.specs.declared.Conclusion.{Conclusion}
 use Rattle.members.proofs.Members.{size_few, member_lower}
 use Rattle.members.proofs.Merging.{Merges}
 use Rattle.members.proofs.Unions.{merged_some, union_sound}
@@ -41,23 +40,23 @@ use Rattle.unary.specs.Unary.{unary_errors, unary_result, Remembered, Working, c
 
 -- ---- what is remembered
 
-pub remembered_none : (page : List ℕ) → Remembered page (replicate types_max 0)
+pub remembered_none : (page : List ℕ) → Remembered page (replicate types_max None)
 remembered_none page = record {
-  size = length-replicate {A = ℕ} types_max 0;
-  right = λ t r e q g f. absurd (omega (arith, e, made_at types_max t));
+  size = length-replicate {A = Option ℕ} types_max None;
+  right = λ t r e q g f. absurd (found_none types_max t e);
 }
 
-remembered_grown : (p q done : List ℕ) → Formed p → Grows p q → Remembered p done → Remembered q done
+remembered_grown : (p q : List ℕ) (done : List (Option ℕ)) → Formed p → Grows p q → Remembered p done → Remembered q done
 remembered_grown p q done f g m = record {
   size = m.size;
   right = λ t r e s h fs. m.right t r e s (grows_trans p q s f g h) fs;
 }
 
 -- what a working type came to, and what is promised of it
-abbrev pub Done : ℕ → List ℕ → List ℕ → List ℕ → List ℕ → List ℕ → Made → Type 0
+abbrev pub Done : ℕ → List ℕ → List ℕ → List ℕ → List ℕ → List (Option ℕ) → Result ℕ Refusal → Type 0
 Done t page after os ds done r = (entered r after ≡ unary_result t page) × (Measured after os ds × Remembered after done)
 
-module _ {page os ds done : List ℕ} {op t : ℕ} (w : Working page os ds done op t) where
+module _ {page os ds : List ℕ} {done : List (Option ℕ)} {op t : ℕ} (w : Working page os ds done op t) where
   form : Formed page
   form = w.measured.held.sound
 
@@ -67,46 +66,34 @@ module _ {page os ds done : List ℕ} {op t : ℕ} (w : Working page os ds done 
   pub low : t < types_max
   low = omega (arith, w.used, types_few page form)
 
-  pub done_plain : {k r : ℕ} → k ≡ kind_of page t → is_union k ≡ false → r ≡ family_of k → Done t page page os ds done (Made.At r)
+  pub done_plain : {k r : ℕ} → k ≡ kind_of page t → is_union k ≡ false → r ≡ family_of k → Done t page page os ds done (Ok r)
   done_plain is h e = (rw (e, is) (sym (answer_plain t page (rw is at h))), (w.measured, w.remembered))
 
   -- met before
-  pub done_before : {n : ℕ} → n ≡ get_or done t 0 → (n ≡ 0 → ⊥) → Done t page page os ds done (Made.At (n - 1))
-  done_before {n} e h =
-      let s : get_or done t 0 ≡ suc (n - 1) = sym e ∙ positive n h in
-      (sym (w.remembered.right t (n - 1) s page (grows_refl page) form), (w.measured, w.remembered))
-    where
-      positive : (n : ℕ) → (n ≡ 0 → ⊥) → n ≡ suc (n - 1)
-      positive zero h = absurd (h refl)
-      positive (suc n) h = omega arith
+  pub done_before : {r : ℕ} → get_or done t None ≡ Some r → Done t page page os ds done (Ok r)
+  done_before {r} e = (sym (w.remembered.right t r e page (grows_refl page) form), (w.measured, w.remembered))
 
-  module _ {after os' ds' done' : List ℕ} where
-    pub done_low : {m : Made} → Done t page after os' ds' done' m → {r : ℕ} → m ≡ Made.At r → r < types_max
+  module _ {after os' ds' : List ℕ} {done' : List (Option ℕ)} where
+    pub done_low : {m : Result ℕ Refusal} → Done t page after os' ds' done' m → {r : ℕ} → m ≡ Ok r → r < types_max
     done_low z {r} e =
         let s = answer_sound op w.operator t page passing in
         omega (arith, s.used r (sym (ap (λ (o : Entered). o.made) z.0) ∙ e), types_few (unary_result t page).store s.form)
 
     -- what it came to, remembered
-    pub done_noted : {r : ℕ} → Done t page after os' ds' done' (Made.At r) → Done t page after os' ds' (set done' t (r + 1)) (Made.At r)
-    done_noted {r} z = rw (add-one r) (
+    pub done_noted : {r : ℕ} → Done t page after os' ds' done' (Ok r) → Done t page after os' ds' (set done' t (Some r)) (Ok r)
+    done_noted {r} z = (
       z.0,
       (
         z.1.0,
         record {
-          size = length-set done' t (suc r) ∙ z.1.1.size;
-          right = λ u x e q g f. go u x e q g f (eqb u t) refl;
+          size = length-set done' t (Some r) ∙ z.1.1.size;
+          right = λ u x e q g f.
+              ⊎_elim (λ h. rw (h.0, h.1) (answer_again op w.operator t page passing r (sym (ap (λ (o : Entered). o.made) z.0)) q (rw (← z.0) g) f))
+              (λ h. z.1.1.right u x h q g f)
+              (found_more done' t u r x (omega (arith, low, z.1.1.size)) e);
         },
       ),
     )
-      where
-        go : (u x : ℕ) → get_or (set done' t (suc r)) u 0 ≡ suc x → (q : List ℕ) → Grows after q → Formed q → (b : Bool) → eqb u t ≡ b
-            → unary_result u q ≡ entered (Made.At x) q
-        go u x e q g f true b =
-            let h = eqb-true u t b in
-            let noted = get_or-set_same done' t (suc r) 0 (omega (arith, low, z.1.1.size)) in
-            let v : x ≡ r = omega (arith, sym noted ∙ ap (λ (y : ℕ). get_or (set done' t (suc r)) y 0) (sym h) ∙ e) in
-            rw (h, v) (answer_again op w.operator t page passing r (sym (ap (λ (o : Entered). o.made) z.0)) q (rw (← z.0) g) f)
-        go u x e q g f false b = z.1.1.right u x (sym (get_or-set_other done' t u (suc r) 0 (eqb-false u t b)) ∙ e) q g f
 
 -- ---- the members, one after another
 
@@ -120,7 +107,7 @@ results_stay rule page t i (suc n) q s l e =
     (eq-or-lt_of_le l)
 
 -- where the walk over the members of t stands: the first i are checked, their k distinct results stand in `results`, and the store is p
-pub record Trying (page : List ℕ) (t n i k : ℕ) (results p os ds done : List ℕ) : Type 0 where
+pub record Trying (page : List ℕ) (t n i k : ℕ) (results p os ds : List ℕ) (done : List (Option ℕ)) : Type 0 where
   pub within_n : i ≤ n
   pub few : k ≤ i
   pub some : 0 < i → 0 < k
@@ -129,7 +116,7 @@ pub record Trying (page : List ℕ) (t n i k : ℕ) (results p os ds done : List
   pub measured : Measured p os ds
   pub remembered : Remembered p done
 
-module _ {page os₀ ds₀ done₀ : List ℕ} {op t : ℕ} (w : Working page os₀ ds₀ done₀ op t) (h : is_union (kind_of page t) ≡ true)
+module _ {page os₀ ds₀ : List ℕ} {done₀ : List (Option ℕ)} {op t : ℕ} (w : Working page os₀ ds₀ done₀ op t) (h : is_union (kind_of page t) ≡ true)
     {n : ℕ} (all : n ≡ size_of page t) where
   base : Formed page
   base = w.measured.held.sound
@@ -146,7 +133,7 @@ module _ {page os₀ ds₀ done₀ : List ℕ} {op t : ℕ} (w : Working page os
     remembered = w.remembered;
   }
 
-  module _ {i k : ℕ} {results p os ds done : List ℕ} (z : Trying page t n i k results p os ds done) where
+  module _ {i k : ℕ} {results p os ds : List ℕ} {done : List (Option ℕ)} (z : Trying page t n i k results p os ds done) where
     sound : ResultsSound page (so_far (take k results) p)
     sound = results_of op w.operator page t (passing w) h i (omega (arith, all, z.within_n)) (take k results) p z.reached
 
@@ -176,12 +163,12 @@ module _ {page os₀ ds₀ done₀ : List ℕ} {op t : ℕ} (w : Working page os
       pub member_room : k < members_max
       member_room = omega (arith, z.few, here, size_few page base t w.used)
 
-      module _ {m : Made} {q os' ds' done' : List ℕ} (d : Done x p q os' ds' done' m) where
+      module _ {m : Result ℕ Refusal} {q os' ds' : List ℕ} {done' : List (Option ℕ)} (d : Done x p q os' ds' done' m) where
         next : results_to (under t) page t (suc i) ≡ one_more (take k results) m q
         unfolding results_to result_next
         next = rw (z.reached, ← is, under_is t x p member_low, ← d.0) refl
 
-        pub tried_next : {r : ℕ} → m ≡ Made.At r → {k' : ℕ} {results' : List ℕ} → Merges results results' k r k'
+        pub tried_next : {r : ℕ} → m ≡ Ok r → {k' : ℕ} {results' : List ℕ} → Merges results results' k r k'
             → Trying page t n (i + 1) k' results' q os' ds' done'
         unfolding one_more
         tried_next {r} e c = record {
@@ -195,7 +182,7 @@ module _ {page os₀ ds₀ done₀ : List ℕ} {op t : ℕ} (w : Working page os
         }
 
         -- a refusal is that of the whole
-        pub tried_stop : {y : Refusal} → m ≡ Made.Refused y → Done t page q os' ds' done' m
+        pub tried_stop : {y : Refusal} → m ≡ Err y → Done t page q os' ds' done' m
         unfolding together one_more
         tried_stop {y} e =
             let s : results_to (under t) page t (size_of page t) ≡ stopped y q =
@@ -217,7 +204,7 @@ module _ {page os₀ ds₀ done₀ : List ℕ} {op t : ℕ} (w : Working page os
         ),
       )
 
-      pub union_done : {r : Made} {q os' ds' : List ℕ} → entered r q ≡ union_of p (take k results) → Measured q os' ds'
+      pub union_done : {r : Result ℕ Refusal} {q os' ds' : List ℕ} → entered r q ≡ union_of p (take k results) → Measured q os' ds'
           → Done t page q os' ds' done r
       unfolding together
       union_done {r} {q} e m =
@@ -228,16 +215,16 @@ module _ {page os₀ ds₀ done₀ : List ℕ} {op t : ℕ} (w : Working page os
 
 module _ {page os ds : List ℕ} (m : Measured page os ds) {op t : ℕ} (o : 0 < op) (u : t < types_in page) {e : Errors}
     (is : e ≡ unary_errors page op t) where
-  pub known_fails : (e.count ≡ 0 → ⊥) → {f : Outcome} → f ≡ outcome Checked.Unknown e
-      → (concluded (Conclusion.Is f) page ≡ check_unary page op (Checked.Known t)) × Measured page os ds
+  pub known_fails : (count_of e ≡ 0 → ⊥) → {f : Outcome} → f ≡ outcome Checked.Unknown e
+      → (concluded (Ok f) page ≡ check_unary page op (Checked.Known t)) × Measured page os ds
   unfolding check_unary
-  known_fails c d = (rw (d, ← is, ne_eqb e.count 0 c) refl, m)
+  known_fails c d = (rw (d, ← is, ne_eqb (count_of e) 0 c) refl, m)
 
-  module _ (c : e.count ≡ 0) where
-    none : eqb (unary_errors page op t).count 0 ≡ true
-    none = rw (← is) (eq-eqb e.count 0 c)
+  module _ (c : count_of e ≡ 0) where
+    none : eqb (count_of (unary_errors page op t)) 0 ≡ true
+    none = rw (← is) (eq-eqb (count_of e) 0 c)
 
-    pub known_works : {done : List ℕ} → done ≡ replicate types_max 0 → Working page os ds done op t
+    pub known_works : {done : List (Option ℕ)} → done ≡ replicate types_max None → Working page os ds done op t
     known_works d = record {
       measured = m;
       used = u;
@@ -246,17 +233,17 @@ module _ {page os ds : List ℕ} (m : Measured page os ds) {op t : ℕ} (o : 0 <
       remembered = rw d (remembered_none page);
     }
 
-    pub known_done : {r : Made} {q : List ℕ} → entered r q ≡ unary_result t page → {d : Conclusion} → d ≡ conclude r
+    pub known_done : {r : Result ℕ Refusal} {q : List ℕ} → entered r q ≡ unary_result t page → {d : Result Outcome Refusal} → d ≡ conclude r
         → concluded d q ≡ check_unary page op (Checked.Known t)
     unfolding check_unary
     known_done a d = rw (none, ← a, d) refl
 
 pub unknown_checked : (page : List ℕ) (op : ℕ)
-    → concluded (Conclusion.Is (outcome Checked.Unknown no_error)) page ≡ check_unary page op Checked.Unknown
+    → concluded (Ok (outcome Checked.Unknown no_error)) page ≡ check_unary page op Checked.Unknown
 unfolding check_unary
 unknown_checked page op = refl
 
 pub function_checked : (page : List ℕ) (op t : ℕ)
-    → concluded (Conclusion.Is (plain_unary op no_family)) page ≡ check_unary page op (Checked.Function t)
+    → concluded (Ok (plain_unary op no_family)) page ≡ check_unary page op (Checked.Function t)
 unfolding check_unary
 function_checked page op t = refl

@@ -14,18 +14,19 @@ use Rattle.kinds.specs.Kinds.{is_union}
 use Rattle.types.specs.Store.{Formed}
 use Rattle.types.specs.Types.{types_in, kind_of}
 use Rattle.operators.specs.Operators.{taker_of}
-use Rattle.operators.specs.Outcome.{no_error, one_error, some_fail, no_member, plain_unary}
+use Rattle.operators.specs.Outcome.{no_error, one_error, some_fail, plain_unary, count_of}
+use Rattle.operators.specs.declared.Reason.TheVariants.{NoMember}
 use Rattle.members.specs.Members.{size_of, member}
 use Rattle.members.specs.Trials.{fold_to, Failures, failures, failed_at, errors_of}
 use Rattle.unary.proofs.Passing.{member_passes, passes_plain, passes_union}
 use Rattle.unary.specs.Unary.{unary_passes, failing, unary_errors}
 
 -- a union has no error if it has a member and none fails
-union_count : (f : Failures) (a : Bool) → eqb f.count 0 ≡ a → (n : ℕ) → eqb (errors_of f (ltb f.count n)).count 0 ≡ (ltb 0 n && a)
+union_count : (f : Failures) (a : Bool) → eqb f.count 0 ≡ a → (n : ℕ) → eqb (count_of (errors_of f (ltb f.count n))) 0 ≡ (ltb 0 n && a)
 unfolding errors_of
 union_count f true e n = rw (eqb-true f.count 0 e) (go (ltb 0 n))
   where
-    go : (b : Bool) → eqb (cond b no_error (one_error no_member)).count 0 ≡ (b && true)
+    go : (b : Bool) → eqb (count_of (cond b no_error (one_error NoMember))) 0 ≡ (b && true)
     go true = refl
     go false = refl
 union_count f false e n = rw e (sym (and_false (ltb 0 n)))
@@ -78,7 +79,7 @@ module _ (page : List ℕ) (op t : ℕ) where
     unfolding unary_errors
     errors_union = rw h refl
 
-    pub errors_empty : size_of page t ≡ 0 → one_error no_member ≡ unary_errors page op t
+    pub errors_empty : size_of page t ≡ 0 → one_error NoMember ≡ unary_errors page op t
     unfolding errors_of
     errors_empty z = sym (errors_union ∙ rw (z, ← failing_none) refl)
 
@@ -97,15 +98,15 @@ module _ (page : List ℕ) (op t : ℕ) where
 
   -- ---- no error
 
-  plain_count : (b : Bool) → eqb (taker_of (kind_of page t)) op ≡ b → eqb (plain_unary op (kind_of page t)).errors.count 0 ≡ b
+  plain_count : (b : Bool) → eqb (taker_of (kind_of page t)) op ≡ b → eqb (count_of (plain_unary op (kind_of page t)).errors) 0 ≡ b
   unfolding plain_unary
   plain_count true e = rw e refl
   plain_count false e = rw e refl
 
-  pub errors_passes : Formed page → t < types_in page → eqb (unary_errors page op t).count 0 ≡ unary_passes page op t
+  pub errors_passes : Formed page → t < types_in page → eqb (count_of (unary_errors page op t)) 0 ≡ unary_passes page op t
   errors_passes f u = go (is_union (kind_of page t)) refl
     where
-      go : (b : Bool) → is_union (kind_of page t) ≡ b → eqb (unary_errors page op t).count 0 ≡ unary_passes page op t
+      go : (b : Bool) → is_union (kind_of page t) ≡ b → eqb (count_of (unary_errors page op t)) 0 ≡ unary_passes page op t
       go false h = rw (← errors_plain h, passes_plain page op t h) (plain_count (eqb (taker_of (kind_of page t)) op) refl)
       go true h =
           rw (errors_union h, passes_union page op t f u h)

@@ -1,4 +1,5 @@
 -- The store that the check of an operator with one operand leaves. Assumes nothing.
+use Rattle.std.proofs.Common.{Ok}
 use mathlib.Core.Path.{◌≡◌, refl, sym, ◌∙◌}
 use mathlib.Core.Bool.{Bool, true, false, cond}
 use mathlib.Core.List.{List}
@@ -12,9 +13,8 @@ use Rattle.matching.specs.declared.Checked.{Checked}
 use Rattle.matching.specs.declared.Checked.TheVariants.{Known, Unknown, Function}
 use Rattle.matching.proofs.Matching.{known_in_use, in_use_known}
 use Rattle.operators.specs.Operators.{no_family, family_of, taker_of}
-use Rattle.operators.specs.Outcome.{no_error, one_error, outcome, unary_reason, plain_unary}
+use Rattle.operators.specs.Outcome.{no_error, one_error, outcome, unary_reason, plain_unary, count_of}
 use Rattle.members.specs.Members.{concluded, conclude}
-use Rattle.members.specs.declared.Conclusion.{Conclusion}
 use Rattle.members.proofs.Kept.{Kept, unknown_used, kept_same, kept_entered}
 use Rattle.unary.specs.Unary.{unary_errors, unary_result, check_unary}
 use Rattle.unary.proofs.Failing.{errors_passes}
@@ -35,13 +35,13 @@ module _ (page : List ℕ) (f : Formed page) (op : ℕ) (o : 0 < op) where
   unfolding check_unary
   unary_kept Unknown h = kept_same page f (outcome Unknown no_error) (unknown_used page)
   unary_kept (Function g) h = kept_same page f (plain_unary op no_family) (plain_none page op)
-  unary_kept (Known t) h = go (eqb (unary_errors page op t).count 0) refl
+  unary_kept (Known t) h = go (eqb (count_of (unary_errors page op t)) 0) refl
     where
       u : t < types_in page
       u = known_in_use page t h
 
-      go : (b : Bool) → eqb (unary_errors page op t).count 0 ≡ b
+      go : (b : Bool) → eqb (count_of (unary_errors page op t)) 0 ≡ b
           → Kept page (cond b (concluded (conclude (unary_result t page).made) (unary_result t page).store)
-          (concluded (Conclusion.Is (outcome Unknown (unary_errors page op t))) page))
+          (concluded (Ok (outcome Unknown (unary_errors page op t))) page))
       go true e = kept_entered page (unary_result t page) (answer_sound op o t page (f, u, sym (errors_passes page op t f u) ∙ e))
       go false e = kept_same page f (outcome Unknown (unary_errors page op t)) (unknown_used page)

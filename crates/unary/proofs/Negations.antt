@@ -1,4 +1,5 @@
 -- A check with one operand that answers a number is of − (`number_negates`): ! answers Bool. Assumes nothing.
+use Rattle.std.proofs.Common.{Ok}
 use mathlib.Core.Path.{◌≡◌, refl, sym, ap, ◌∙◌}
 use mathlib.Core.Bool.{Bool, true, false, ◌||◌, cond}
 use mathlib.Core.List.{List, [], ◌∷◌}
@@ -10,17 +11,15 @@ use lib.Dec.{eqb}
 use Rattle.kinds.specs.Kinds.{is_union}
 use Rattle.types.specs.Store.{Formed}
 use Rattle.types.specs.Types.{types_in, kind_of}
-use Rattle.types.specs.declared.Made.{Made}
 use Rattle.types.proofs.Grown.{grows_refl}
 use Rattle.matching.specs.Matching.{in_use}
 use Rattle.matching.specs.declared.Checked.{Checked}
 use Rattle.matching.specs.declared.Checked.TheVariants.{Known, Unknown}
 use Rattle.matching.proofs.Matching.{known_in_use}
 use Rattle.operators.specs.Operators.{int, float, bool, minus, bang, family_of, is_number, taker_of}
-use Rattle.operators.specs.Outcome.{no_error, outcome, number_of}
+use Rattle.operators.specs.Outcome.{no_error, outcome, number_of, count_of}
 use Rattle.operators.specs.declared.Outcome.{Outcome}
 use Rattle.members.specs.Members.{size_of, member, has, merged, Entered, entered, union_of, concluded, conclude}
-use Rattle.members.specs.declared.Conclusion.{Conclusion}
 use Rattle.members.proofs.Conclusions.{unknown_not}
 use Rattle.members.proofs.Members.{member_lower}
 use Rattle.unary.specs.Unary.{so_far, one_more, result_next, results_to, together, unary_errors, unary_result, check_unary}
@@ -33,7 +32,7 @@ use Rattle.unary.proofs.Operands.{operand_known}
 
 -- Bool, entered already
 abbrev bools : List ℕ → Entered
-bools page = entered (Made.At bool) page
+bools page = entered (Ok bool) page
 
 module _ (page : List ℕ) (t : ℕ) (each : (i : ℕ) → i < size_of page t → under t (member page t i) page ≡ bools page) where
   first_bools : (i : ℕ) → i < size_of page t → results_to (under t) page t (suc i) ≡ so_far (bool ∷ []) page
@@ -68,7 +67,7 @@ module _ (op : ℕ) (o : 0 < op) (other : op ≡ minus → ⊥) where
           → unary_result t page ≡ bools page
       go false h ih =
           answer_plain t page h
-          ∙ ap (λ (f : ℕ). entered (Made.At f) page) (taken_bool (kind_of page t) (passing_taken page op t p.2 h))
+          ∙ ap (λ (f : ℕ). entered (Ok f) page) (taken_bool (kind_of page t) (passing_taken page op t p.2 h))
       go true h ih =
           let each : (i : ℕ) → i < size_of page t → under t (member page t i) page ≡ bools page =
           λ i k.
@@ -84,28 +83,28 @@ module _ (op : ℕ) (o : 0 < op) (other : op ≡ minus → ⊥) where
 
 module _ (page : List ℕ) (f : Formed page) (op : ℕ) (h : 0 < op) where
   -- another operator answers no number
-  other_none : (op ≡ minus → ⊥) → (a : ℕ) → a < types_in page → (o : Outcome) → (check_unary page op (Known a)).conclusion ≡ Conclusion.Is o
+  other_none : (op ≡ minus → ⊥) → (a : ℕ) → a < types_in page → (o : Outcome) → (check_unary page op (Known a)).conclusion ≡ Ok o
       → (t : ℕ) → o.checked ≡ Known t → is_number t ≡ true → ⊥
   unfolding check_unary
-  other_none other a u o e t k n = go (eqb (unary_errors page op a).count 0) refl e
+  other_none other a u o e t k n = go (eqb (count_of (unary_errors page op a)) 0) refl e
     where
       never : true ≡ false → ⊥
       never z = let w : ◌≡◌ {A = ℕ} 0 1 = cc in omega arith
 
-      go : (b : Bool) → eqb (unary_errors page op a).count 0 ≡ b
+      go : (b : Bool) → eqb (count_of (unary_errors page op a)) 0 ≡ b
           → (cond b (concluded (conclude (unary_result a page).made) (unary_result a page).store)
-          (concluded (Conclusion.Is (outcome Unknown (unary_errors page op a))) page)).conclusion ≡ Conclusion.Is o
+          (concluded (Ok (outcome Unknown (unary_errors page op a))) page)).conclusion ≡ Ok o
           → ⊥
       go true d c =
           let is = bool_answered op h other page a (f, u, sym (errors_passes page op a f u) ∙ d) in
-          let one : Conclusion.Is (outcome (Known bool) no_error) ≡ Conclusion.Is o = ap (λ (x : Entered). conclude x.made) (sym is) ∙ c in
+          let one : Ok (outcome (Known bool) no_error) ≡ Ok o = ap (λ (x : Entered). conclude x.made) (sym is) ∙ c in
           let same : outcome (Known bool) no_error ≡ o = cc one in
           let number : bool ≡ t = ap (λ (p : Outcome). number_of p.checked) same ∙ ap number_of k in
           absurd (never (sym (rw (← number) at n)))
       go false d c = unknown_not (outcome Unknown (unary_errors page op a)) o refl c t k
 
   -- where a number is answered the operator is −
-  pub number_negates : (x : Checked) → in_use page x ≡ true → (o : Outcome) → (check_unary page op x).conclusion ≡ Conclusion.Is o
+  pub number_negates : (x : Checked) → in_use page x ≡ true → (o : Outcome) → (check_unary page op x).conclusion ≡ Ok o
       → (t : ℕ) → o.checked ≡ Known t → is_number t ≡ true → op ≡ minus
   number_negates x u o e t k n = go (eqb op minus) refl
     where

@@ -1,6 +1,6 @@
 -- The check of an operator with one operand (document 01, "Answers"; `check_unary_operator` and `check_unary_any` of the source's
 -- unary.rs): first its errors, which need no store; then, where there is none, the type that it answers, whose unions enter the store.
-use Rattle.std.specs.Prelude.{◌≡◌, Bool, true, false, ◌&&◌, cond, List, [], ℕ, zero, suc, ◌<◌, eqb, ltb, length, get_or}
+use Rattle.std.specs.Prelude.{Option, Some, None, ◌≡◌, Bool, true, false, ◌&&◌, cond, List, [], ℕ, zero, suc, ◌<◌, eqb, ltb, length, get_or, Result, Ok, Err}
 use Rattle.pages.specs.Quant.{all_to}
 use Rattle.refusals.specs.declared.Refusal.{Refusal}
 use Rattle.kinds.specs.Kinds.{null, is_union}
@@ -8,14 +8,12 @@ use Rattle.types.specs.Store.{types_max, Formed}
 use Rattle.types.specs.Types.{types_in, kind_of, Measured}
 use Rattle.types.specs.Making.{Grows}
 use Rattle.types.specs.Recur.{cov}
-use Rattle.types.specs.declared.Made.{Made}
 use Rattle.matching.specs.declared.Checked.{Checked}
 use Rattle.matching.specs.declared.Checked.TheVariants.{Known, Unknown, Function}
 use Rattle.operators.specs.Operators.{no_family, family_of, taker_of}
-use Rattle.operators.specs.Outcome.{no_error, outcome, plain_unary}
+use Rattle.operators.specs.Outcome.{no_error, outcome, plain_unary, count_of}
 use Rattle.operators.specs.declared.Errors.{Errors}
 use Rattle.members.specs.Members.{size_of, member, merged, Entered, entered, union_of, Concluded, concluded, conclude}
-use Rattle.members.specs.declared.Conclusion.{Conclusion}
 use Rattle.members.specs.Trials.{fold_to, Failures, no_failure, failed_at, errors_of}
 
 -- ---- errors
@@ -49,9 +47,9 @@ pub data Results : Type 0 where
   stopped : Refusal → List ℕ → Results
 
 -- one more result
-unfoldable pub one_more : List ℕ → Made → List ℕ → Results
-one_more rs (Made.At r) s = so_far (merged r rs) s
-one_more rs (Made.Refused q) s = stopped q s
+unfoldable pub one_more : List ℕ → Result ℕ Refusal → List ℕ → Results
+one_more rs (Ok r) s = so_far (merged r rs) s
+one_more rs (Err q) s = stopped q s
 
 unfoldable pub result_next : (ℕ → List ℕ → Entered) → ℕ → Results → Results
 result_next rule x (so_far rs s) = one_more rs (rule x s).made (rule x s).store
@@ -65,25 +63,25 @@ results_to rule page t (suc n) = result_next rule (member page t n) (results_to 
 -- their union after them
 unfoldable pub together : Results → Entered
 together (so_far rs s) = union_of s rs
-together (stopped q s) = entered (Made.Refused q) s
+together (stopped q s) = entered (Err q) s
 
 -- given the outcomes for lower types: of a union the union of its members' results, of Int, Float or Bool that type
 unfoldable pub answer_rule : ℕ → (ℕ → List ℕ → Entered) → List ℕ → Entered
 answer_rule t rule page =
-    cond (is_union (kind_of page t)) (together (results_to rule page t (size_of page t))) (entered (Made.At (family_of (kind_of page t))) page)
+    cond (is_union (kind_of page t)) (together (results_to rule page t (size_of page t))) (entered (Ok (family_of (kind_of page t))) page)
 
 unfoldable pub unary_result : ℕ → List ℕ → Entered
-unary_result = cov {R = List ℕ → Entered} (λ page. entered (Made.At null) page) answer_rule
+unary_result = cov {R = List ℕ → Entered} (λ page. entered (Ok null) page) answer_rule
 
 -- ---- what src/ keeps in mind
 
--- under t one more than what the check of t answers, for this store and every store that grows out of it
-pub record Remembered (page done : List ℕ) : Type 0 where
+-- under t what the check of t answers, for this store and every store that grows out of it
+pub record Remembered (page : List ℕ) (done : List (Option ℕ)) : Type 0 where
   pub size : length done ≡ types_max
-  pub right : (t r : ℕ) → get_or done t 0 ≡ suc r → (q : List ℕ) → Grows page q → Formed q → unary_result t q ≡ entered (Made.At r) q
+  pub right : (t r : ℕ) → get_or done t None ≡ Some r → (q : List ℕ) → Grows page q → Formed q → unary_result t q ≡ entered (Ok r) q
 
 -- a type whose check passes, in a store with its tables
-pub record Working (page offsets ds done : List ℕ) (op t : ℕ) : Type 0 where
+pub record Working (page offsets ds : List ℕ) (done : List (Option ℕ)) (op t : ℕ) : Type 0 where
   pub measured : Measured page offsets ds
   pub used : t < types_in page
   pub passing : unary_passes page op t ≡ true
@@ -94,8 +92,8 @@ pub record Working (page offsets ds done : List ℕ) (op t : ℕ) : Type 0 where
 
 -- an Unknown operand comes first; a Function is none that an operator takes; a type is answered where there is no error
 unfoldable pub check_unary : List ℕ → ℕ → Checked → Concluded
-check_unary page op Unknown = concluded (Conclusion.Is (outcome Unknown no_error)) page
-check_unary page op (Function t) = concluded (Conclusion.Is (plain_unary op no_family)) page
+check_unary page op Unknown = concluded (Ok (outcome Unknown no_error)) page
+check_unary page op (Function t) = concluded (Ok (plain_unary op no_family)) page
 check_unary page op (Known t) =
-    cond (eqb (unary_errors page op t).count 0) (concluded (conclude (unary_result t page).made) (unary_result t page).store)
-    (concluded (Conclusion.Is (outcome Unknown (unary_errors page op t))) page)
+    cond (eqb (count_of (unary_errors page op t)) 0) (concluded (conclude (unary_result t page).made) (unary_result t page).store)
+    (concluded (Ok (outcome Unknown (unary_errors page op t))) page)

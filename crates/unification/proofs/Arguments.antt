@@ -1,4 +1,5 @@
 -- `unify_arg`: one law for each return, and how its bindings grow. Assumes nothing.
+use Rattle.std.proofs.Common.{Ok}
 use mathlib.Core.Path.{◌≡◌, refl}
 use mathlib.Core.Bool.{Bool, true, false, cond}
 use mathlib.Core.List.{List}
@@ -7,7 +8,6 @@ use native.Mathlib.Omega.{arith}
 use lib.Dec.{ltb}
 use borrow.Author.Tests.{ltb-true}
 use Rattle.pages.proofs.Quant.{and_true}
-use Rattle.refusals.specs.declared.Answer.TheVariants.{Yes}
 use Rattle.kinds.specs.Kinds.{callback}
 use Rattle.types.specs.Store.{Formed}
 use Rattle.types.specs.Types.{types_in, arity, child_of}
@@ -29,7 +29,7 @@ function_in_use page f h = ltb-true f (types_in page) (and_true (ltb f (types_in
 
 module _ (page : List ℕ) (e : ℕ) (b : Bindings) where
   -- what is neither Known nor a Function is Unknown
-  pub arg_unknown : (actual : Checked) → ((a : ℕ) → actual ≡ Known a → ⊥) → ((f : ℕ) → actual ≡ Function f → ⊥) → unified Yes b ≡ unify_arg page e actual b
+  pub arg_unknown : (actual : Checked) → ((a : ℕ) → actual ≡ Known a → ⊥) → ((f : ℕ) → actual ≡ Function f → ⊥) → unified (Ok true) b ≡ unify_arg page e actual b
   unfolding unify_arg
   arg_unknown (Known a) h k = absurd (h a refl)
   arg_unknown Unknown h k = refl

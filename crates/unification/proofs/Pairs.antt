@@ -1,4 +1,6 @@
 -- Children in pairs: where the loop stands, and one law for each of its arms and returns. Assumes nothing.
+use Rattle.std.proofs.Common.{Bool, true, false, Result, Ok, Err}
+use Rattle.refusals.specs.declared.Refusal.{Refusal}
 use mathlib.Core.Path.{◌≡◌, refl, sym}
 use mathlib.Core.List.{List}
 use mathlib.Core.Logic.{⊎_elim}
@@ -7,8 +9,6 @@ use native.Mathlib.Nat.{not-suc-le-zero, le_of_suc-le-suc, eq-or-lt_of_le}
 use native.Mathlib.Numerals.{add-one}
 use native.Mathlib.Omega.{arith}
 use borrow.Author.Tests.{eq-eqb, ne_eqb}
-use Rattle.refusals.specs.declared.Answer.{Answer}
-use Rattle.refusals.specs.declared.Answer.TheVariants.{Yes, No, Refused}
 use Rattle.types.specs.Store.{Formed}
 use Rattle.types.specs.Types.{types_in, arity, child_of}
 use Rattle.marks.specs.Marks.{Noted}
@@ -23,22 +23,22 @@ use Rattle.unification.proofs.Unification.{unify_grown}
 pub record Paired (page : List ℕ) (e a n : ℕ) (b : Bindings) (memo seen : List ℕ) (c : Bindings) (i : ℕ) : Type 0 where
   pub few : i ≤ n
   pub given : Given c (types_in page)
-  pub agreed : pairs_to (unify page) page e a i b ≡ unified Yes c
+  pub agreed : pairs_to (unify page) page e a i b ≡ unified (Ok true) c
   pub found : Noted (Found page) memo
   pub settled : Noted (SettledAt page c) seen
 
 -- is an answer no yes
-abbrev pub Ends : Answer → Type 0
-Ends r = r ≡ Yes → ⊥
+abbrev pub Ends : Result Bool Refusal → Type 0
+Ends r = r ≡ Ok true → ⊥
 
 then_ends : (r : Unified) (next : Bindings → Unified) → Ends r.answer → and_then r.answer r.bindings next ≡ r
 unfolding and_then
 then_ends r next = go r.answer
   where
-    go : (q : Answer) → Ends q → and_then q r.bindings next ≡ unified q r.bindings
-    go Yes h = absurd (h refl)
-    go No h = refl
-    go (Refused q) h = refl
+    go : (q : Result Bool Refusal) → Ends q → and_then q r.bindings next ≡ unified q r.bindings
+    go (Ok true) h = absurd (h refl)
+    go (Ok false) h = refl
+    go (Err q) h = refl
 
 module _ (page : List ℕ) (e a n : ℕ) (b : Bindings) where
   pub paired_none : (memo seen : List ℕ) → Given b (types_in page) → Noted (Found page) memo → Noted (SettledAt page b) seen
@@ -46,9 +46,9 @@ module _ (page : List ℕ) (e a n : ℕ) (b : Bindings) where
   unfolding pairs_to
   paired_none memo seen g m s = record { few = omega arith; given = g; agreed = refl; found = m; settled = s }
 
-  module _ (i : ℕ) (c : Bindings) (p : pairs_to (unify page) page e a i b ≡ unified Yes c) (l : i < n) (x y : ℕ) (hx : x ≡ child_of page e i)
+  module _ (i : ℕ) (c : Bindings) (p : pairs_to (unify page) page e a i b ≡ unified (Ok true) c) (l : i < n) (x y : ℕ) (hx : x ≡ child_of page e i)
       (hy : y ≡ child_of page a i) (r : Unified) (h : r ≡ unify page x y c) where
-    pub paired_more : Formed page → Given c (types_in page) → x < types_in page → y < types_in page → r.answer ≡ Yes → (memo seen : List ℕ)
+    pub paired_more : Formed page → Given c (types_in page) → x < types_in page → y < types_in page → r.answer ≡ Ok true → (memo seen : List ℕ)
         → Noted (Found page) memo → Noted (SettledAt page r.bindings) seen → Paired page e a n b memo seen r.bindings (i + 1)
     unfolding pairs_to and_then
     paired_more f g u v k memo seen m s = record {
@@ -71,11 +71,11 @@ module _ (page : List ℕ) (e a n : ℕ) (b : Bindings) where
     unfolding all_pairs
     all_end q w z = rw (← q, ← w, eq-eqb n n refl) (sym (pairs_end z n l))
 
-  pub all_uneven : (m : ℕ) → n ≡ arity page e → m ≡ arity page a → (n ≡ m → ⊥) → unified No b ≡ all_pairs (unify page) page e a b
+  pub all_uneven : (m : ℕ) → n ≡ arity page e → m ≡ arity page a → (n ≡ m → ⊥) → unified (Ok false) b ≡ all_pairs (unify page) page e a b
   unfolding all_pairs
   all_uneven m q w h = rw (← q, ← w, ne_eqb n m h) refl
 
-  pub all_agreed : n ≡ arity page e → n ≡ arity page a → (c : Bindings) (i : ℕ) → i ≡ n → pairs_to (unify page) page e a i b ≡ unified Yes c
-      → unified Yes c ≡ all_pairs (unify page) page e a b
+  pub all_agreed : n ≡ arity page e → n ≡ arity page a → (c : Bindings) (i : ℕ) → i ≡ n → pairs_to (unify page) page e a i b ≡ unified (Ok true) c
+      → unified (Ok true) c ≡ all_pairs (unify page) page e a b
   unfolding all_pairs
   all_agreed q w c i z p = rw (← q, ← w, eq-eqb n n refl, ← z) (sym p)

@@ -1,19 +1,19 @@
 -- `unify`: its equation, how its bindings grow, and that a pair answered yes is answered yes again. Assumes nothing.
+use Rattle.std.proofs.Common.{Result, Ok, Err, arith}
+use Rattle.std.specs.Result.{result_eq}
+use Rattle.refusals.specs.declared.Refusal.{Refusal}
 use mathlib.Core.Path.{◌≡◌, refl, sym, ◌∙◌, ap}
-use mathlib.Core.Bool.{Bool, true, false, ◌&&◌, cond, false≢true}
+use mathlib.Core.Bool.{Bool, beq, true, false, ◌&&◌, cond, false≢true}
 use mathlib.Core.List.{List}
 use mathlib.Core.Logic.{◌⊎◌, inl, inr, ⊎_elim}
 use Prim.Native.Nat.{ℕ, zero, suc, ◌<◌, ◌≤◌}
 use native.Mathlib.Nat.{not-suc-le-zero}
-use native.Mathlib.Omega.{arith}
 use mathlib.Mathlib.Data.Bool.Basic.{or-eq-false-eq-eq-false-and-eq-false}
 use lib.Dec.{ltb, eqb}
 use borrow.Author.Tests.{lt-ltb, le-ltb, ltb-true, eqb-true}
 use Rattle.pages.specs.Bytes.{within}
 use Rattle.pages.proofs.Quant.{and_true}
 use Rattle.refusals.specs.declared.Refusal.TheVariants.{Full}
-use Rattle.refusals.specs.declared.Answer.{Answer}
-use Rattle.refusals.specs.declared.Answer.TheVariants.{Yes, No, Refused}
 use Rattle.kinds.specs.Kinds.{generic, is_array, is_set, is_result, is_map, is_tuple}
 use Rattle.types.specs.Store.{Formed}
 use Rattle.types.specs.Types.{types_in, kind_of, arity, child_of, name_of}
@@ -114,14 +114,14 @@ module _ (page : List ℕ) (f : Formed page) (e a : ℕ) (u : e < types_in page)
       (⊎_elim (λ k. k.1 lower b ∙ sym (k.1 (unify page) b)) (λ k. k lower b ∙ pairs ∙ sym (k (unify page) b))) cases
     where
       no : ℕ → Bindings → Unified
-      no x c = unified No c
+      no x c = unified (Ok false) c
 
       lower : Rule
       lower = below no e (unify page)
 
       pairs : all_pairs lower page e a b ≡ all_pairs (unify page) page e a b
       pairs =
-          ap (λ (r : Unified). cond (eqb (arity page e) (arity page a)) r (unified No b))
+          ap (λ (r : Unified). cond (eqb (arity page e) (arity page a)) r (unified (Ok false) b))
           (pairs_cong lower (unify page) page e a (arity page e) b (λ i l. below_lt no e (unify page) (child_of page e i) (child_lower page f e u i l)))
 
   module _ (b : Bindings) where
@@ -129,7 +129,7 @@ module _ (page : List ℕ) (f : Formed page) (e a : ℕ) (u : e < types_in page)
     generic_eq g = unify_eq b ∙ rule_generic page e a g (unify page) b
 
     module _ (g : is_kind generic page e ≡ false) where
-      pub adopted_eq : (both is_array page e a && is_adopted page e a) ≡ true → unify page e a b ≡ unified Yes b
+      pub adopted_eq : (both is_array page e a && is_adopted page e a) ≡ true → unify page e a b ≡ unified (Ok true) b
       adopted_eq h = unify_eq b ∙ rule_adopted page e a g h (unify page) b
 
       pub rest_eq : is_alike (kind_of page e) (kind_of page a) ≡ false → unify page e a b ≡ said (known_matches page e a) b
@@ -158,17 +158,17 @@ unfolding generic_unify
 generic_grown page name a t u b g = go (is_bound b name) (ltb b.count bindings_max) refl
   where
     go : (x y : Bool) → ltb b.count bindings_max ≡ y
-        → Grown b t (cond x (said (known_matches page (bound_to b name) a) b) (cond y (unified Yes (with_binding b name a)) (unified (Refused Full) b))).bindings
+        → Grown b t (cond x (said (known_matches page (bound_to b name) a) b) (cond y (unified (Ok true) (with_binding b name a)) (unified (Err Full) b))).bindings
     go true y p = said_grown b t g (known_matches page (bound_to b name) a)
     go false true p = record { given = given_with b t g (ltb-true b.count bindings_max p) name a u; extends = extends_with b name a }
     go false false p = grown_refl b t g
 
-then_grown : (b c : Bindings) (t : ℕ) (r : Answer) (next : Bindings → Unified) → Grown b t c → Grown c t (next c).bindings
+then_grown : (b c : Bindings) (t : ℕ) (r : Result Bool Refusal) (next : Bindings → Unified) → Grown b t c → Grown c t (next c).bindings
     → Grown b t (and_then r c next).bindings
 unfolding and_then
-then_grown b c t Yes next p q = grown_trans b c (next c).bindings t p q
-then_grown b c t No next p q = p
-then_grown b c t (Refused r) next p q = p
+then_grown b c t (Ok true) next p q = grown_trans b c (next c).bindings t p q
+then_grown b c t (Ok false) next p q = p
+then_grown b c t (Err r) next p q = p
 
 module _ (page : List ℕ) (rule : Rule) (e a t : ℕ) where
   -- the rule lets bindings grow on pair i of children
@@ -187,7 +187,7 @@ module _ (page : List ℕ) (rule : Rule) (e a t : ℕ) where
   unfolding all_pairs
   all_grown h b g = go (eqb (arity page e) (arity page a)) refl
     where
-      go : (x : Bool) → eqb (arity page e) (arity page a) ≡ x → Grown b t (cond x (pairs_to rule page e a (arity page e) b) (unified No b)).bindings
+      go : (x : Bool) → eqb (arity page e) (arity page a) ≡ x → Grown b t (cond x (pairs_to rule page e a (arity page e) b) (unified (Ok false) b)).bindings
       go true p = let q = eqb-true (arity page e) (arity page a) p in pairs_grown (arity page e) (λ i l. h i l (omega arith)) b g
       go false p = grown_refl b t g
 
@@ -213,31 +213,31 @@ module _ (page : List ℕ) (f : Formed page) where
 
 -- ---- a pair answered yes is answered yes again
 
-abbrev is_yes : Answer → Bool
-is_yes Yes = true
-is_yes No = false
-is_yes (Refused r) = false
+abbrev is_yes : Result Bool Refusal → Bool
+is_yes (Ok true) = true
+is_yes (Ok false) = false
+is_yes (Err r) = false
 
-said_yes : (answer : Bool) (b : Bindings) → (said answer b).answer ≡ Yes → answer ≡ true
+said_yes : (answer : Bool) (b : Bindings) → (said answer b).answer ≡ Ok true → answer ≡ true
 said_yes true b h = refl
 said_yes false b h = absurd (false≢true (ap is_yes h))
 
-then_yes : (r : Answer) (c : Bindings) (next : Bindings → Unified) → (and_then r c next).answer ≡ Yes → (r ≡ Yes) × (and_then r c next ≡ next c)
+then_yes : (r : Result Bool Refusal) (c : Bindings) (next : Bindings → Unified) → (and_then r c next).answer ≡ Ok true → (r ≡ Ok true) × (and_then r c next ≡ next c)
 unfolding and_then
-then_yes Yes c next h = (refl, refl)
-then_yes No c next h = absurd (false≢true (ap is_yes h))
-then_yes (Refused r) c next h = absurd (false≢true (ap is_yes h))
+then_yes (Ok true) c next h = (refl, refl)
+then_yes (Ok false) c next h = absurd (false≢true (ap is_yes h))
+then_yes (Err r) c next h = absurd (false≢true (ap is_yes h))
 
 module _ (page : List ℕ) (f : Formed page) (name a : ℕ) (u : a < types_in page) (b : Bindings) (g : Given b (types_in page)) where
-  generic_again : (d : Bindings) → (generic_unify page name a b).answer ≡ Yes → Extends (generic_unify page name a b).bindings d
-      → generic_unify page name a d ≡ unified Yes d
+  generic_again : (d : Bindings) → (generic_unify page name a b).answer ≡ Ok true → Extends (generic_unify page name a b).bindings d
+      → generic_unify page name a d ≡ unified (Ok true) d
   unfolding generic_unify
   generic_again d h k = go (is_bound b name) (ltb b.count bindings_max) (known_matches page (bound_to b name) a) refl refl refl h k
     where
       go : (x y v : Bool) → is_bound b name ≡ x → ltb b.count bindings_max ≡ y → known_matches page (bound_to b name) a ≡ v
-          → (cond x (said v b) (cond y (unified Yes (with_binding b name a)) (unified (Refused Full) b))).answer ≡ Yes
-          → Extends (cond x (said v b) (cond y (unified Yes (with_binding b name a)) (unified (Refused Full) b))).bindings d
-          → generic_unify page name a d ≡ unified Yes d
+          → (cond x (said v b) (cond y (unified (Ok true) (with_binding b name a)) (unified (Err Full) b))).answer ≡ Ok true
+          → Extends (cond x (said v b) (cond y (unified (Ok true) (with_binding b name a)) (unified (Err Full) b))).bindings d
+          → generic_unify page name a d ≡ unified (Ok true) d
       go true y true p q r h k = let z = k.stays name p in rw (z.0, z.1, r) refl
       go true y false p q r h k = absurd (false≢true (ap is_yes h))
       go false true v p q r h k =
@@ -249,11 +249,11 @@ module _ (page : List ℕ) (f : Formed page) (name a : ℕ) (u : a < types_in pa
 module _ (page : List ℕ) (rule : Rule) (e a t : ℕ) where
   -- pair i of children, answered yes, is answered yes again
   abbrev Repeats : ℕ → Type 0
-  Repeats i = (b d : Bindings) → Given b t → (rule (child_of page e i) (child_of page a i) b).answer ≡ Yes
-      → Extends (rule (child_of page e i) (child_of page a i) b).bindings d → rule (child_of page e i) (child_of page a i) d ≡ unified Yes d
+  Repeats i = (b d : Bindings) → Given b t → (rule (child_of page e i) (child_of page a i) b).answer ≡ Ok true
+      → Extends (rule (child_of page e i) (child_of page a i) b).bindings d → rule (child_of page e i) (child_of page a i) d ≡ unified (Ok true) d
 
-  pairs_again : (k : ℕ) → ((i : ℕ) → i < k → Grows page rule e a t i × Repeats i) → (b d : Bindings) → Given b t → (pairs_to rule page e a k b).answer ≡ Yes
-      → Extends (pairs_to rule page e a k b).bindings d → pairs_to rule page e a k d ≡ unified Yes d
+  pairs_again : (k : ℕ) → ((i : ℕ) → i < k → Grows page rule e a t i × Repeats i) → (b d : Bindings) → Given b t → (pairs_to rule page e a k b).answer ≡ Ok true
+      → Extends (pairs_to rule page e a k b).bindings d → pairs_to rule page e a k d ≡ unified (Ok true) d
   unfolding pairs_to and_then
   pairs_again zero h b d g y x = refl
   pairs_again (suc k) h b d g y x =
@@ -267,20 +267,20 @@ module _ (page : List ℕ) (rule : Rule) (e a t : ℕ) where
       rw (pairs_again k (λ i l. h i (omega arith)) b d g z.0 x₂) (v.1 r.bindings d w.given (sym (ap (λ (s : Unified). s.answer) z.1) ∙ y) x₁)
 
   all_again : ((i : ℕ) → i < arity page e → i < arity page a → Grows page rule e a t i × Repeats i) → (b d : Bindings) → Given b t
-      → (all_pairs rule page e a b).answer ≡ Yes → Extends (all_pairs rule page e a b).bindings d → all_pairs rule page e a d ≡ unified Yes d
+      → (all_pairs rule page e a b).answer ≡ Ok true → Extends (all_pairs rule page e a b).bindings d → all_pairs rule page e a d ≡ unified (Ok true) d
   unfolding all_pairs
   all_again h b d g y x = go (eqb (arity page e) (arity page a)) refl y x
     where
-      go : (s : Bool) → eqb (arity page e) (arity page a) ≡ s → (cond s (pairs_to rule page e a (arity page e) b) (unified No b)).answer ≡ Yes
-          → Extends (cond s (pairs_to rule page e a (arity page e) b) (unified No b)).bindings d
-          → cond s (pairs_to rule page e a (arity page e) d) (unified No d) ≡ unified Yes d
+      go : (s : Bool) → eqb (arity page e) (arity page a) ≡ s → (cond s (pairs_to rule page e a (arity page e) b) (unified (Ok false) b)).answer ≡ Ok true
+          → Extends (cond s (pairs_to rule page e a (arity page e) b) (unified (Ok false) b)).bindings d
+          → cond s (pairs_to rule page e a (arity page e) d) (unified (Ok false) d) ≡ unified (Ok true) d
       go true p y x = let q = eqb-true (arity page e) (arity page a) p in pairs_again (arity page e) (λ i l. h i l (omega arith)) b d g y x
       go false p y x = absurd (false≢true (ap is_yes y))
 
 module _ (page : List ℕ) (f : Formed page) where
   abbrev Again : ℕ → Type 0
-  Again e = (a : ℕ) → e < types_in page → a < types_in page → (b d : Bindings) → Given b (types_in page) → (unify page e a b).answer ≡ Yes
-      → Extends (unify page e a b).bindings d → unify page e a d ≡ unified Yes d
+  Again e = (a : ℕ) → e < types_in page → a < types_in page → (b d : Bindings) → Given b (types_in page) → (unify page e a b).answer ≡ Ok true
+      → Extends (unify page e a b).bindings d → unify page e a d ≡ unified (Ok true) d
 
   pub unify_again : (e : ℕ) → Again e
   unify_again = strong Again step
@@ -291,7 +291,7 @@ module _ (page : List ℕ) (f : Formed page) where
         where
           -- it is enough to see it of what the answer is equal to
           same : (r : Bindings → Unified) → ((c : Bindings) → unify_rule page (unify page) e a c ≡ r c)
-              → ((r b).answer ≡ Yes → Extends (r b).bindings d → r d ≡ unified Yes d) → unify page e a d ≡ unified Yes d
+              → ((r b).answer ≡ Ok true → Extends (r b).bindings d → r d ≡ unified (Ok true) d) → unify page e a d ≡ unified (Ok true) d
           same r k h =
               let z : (c : Bindings) → unify page e a c ≡ r c = λ c. unify_eq page f e a u v c ∙ k c in
               z d ∙ h (sym (ap (λ (s : Unified). s.answer) (z b)) ∙ y) (rw (z b) at x)
@@ -304,7 +304,7 @@ module _ (page : List ℕ) (f : Formed page) where
                 ih (child_of page e i) m (child_of page a i) (omega arith) (omega arith),
               )
 
-          go : Cases page f e a u v → unify page e a d ≡ unified Yes d
+          go : Cases page f e a u v → unify page e a d ≡ unified (Ok true) d
           go (inl k) = same (generic_unify page (name_of page e) a) (k (unify page)) (generic_again page f (name_of page e) a v b g d)
           go (inr (inl (answer, k))) = same (said answer) (k (unify page)) (λ h z. rw (said_yes answer b h) refl)
           go (inr (inr k)) = same (all_pairs (unify page) page e a) (k (unify page)) (all_again page (unify page) e a (types_in page) children b d g)
@@ -331,11 +331,11 @@ module _ (page : List ℕ) (name a : ℕ) (b : Bindings) where
   unfolding generic_unify
   generic_bound bound answer h e k = rw (h, ← e, ← k) refl
 
-  pub generic_new : is_bound b name ≡ false → b.count < bindings_max → unified Yes (with_binding b name a) ≡ generic_unify page name a b
+  pub generic_new : is_bound b name ≡ false → b.count < bindings_max → unified (Ok true) (with_binding b name a) ≡ generic_unify page name a b
   unfolding generic_unify
   generic_new h l = rw (h, lt-ltb b.count bindings_max l) refl
 
-  pub generic_full : is_bound b name ≡ false → bindings_max ≤ b.count → unified (Refused Full) b ≡ generic_unify page name a b
+  pub generic_full : is_bound b name ≡ false → bindings_max ≤ b.count → unified (Err Full) b ≡ generic_unify page name a b
   unfolding generic_unify
   generic_full h l = rw (h, le-ltb b.count bindings_max l) refl
 
@@ -348,5 +348,17 @@ module _ (page : List ℕ) (f : Formed page) (e a : ℕ) (u : e < types_in page)
   unify_noted seen = settled_on page b r.bindings (rw h (unify_grown page f e a u v b g).extends) seen
 
   -- after a yes the pair is
-  pub unify_settled : r.answer ≡ Yes → Settled page r.bindings e a
+  pub unify_settled : r.answer ≡ Ok true → Settled page r.bindings e a
   unify_settled y d x = unify_again page f e a u v b d g (rw h at y) (rw h at x)
+
+-- ---- a plain yes, as the library compares answers
+
+pub said_true : (e : Refusal → Refusal → Bool) (r : Result Bool Refusal) → result_eq beq e r (Ok true) ≡ true → r ≡ Ok true
+said_true e (Ok true) h = refl
+said_true e (Ok false) h = let z : ◌≡◌ {A = ℕ} 0 1 = cc in absurd (omega arith)
+said_true e (Err x) h = let z : ◌≡◌ {A = ℕ} 0 1 = cc in absurd (omega arith)
+
+pub said_no_true : (e : Refusal → Refusal → Bool) (r : Result Bool Refusal) → result_eq beq e r (Ok true) ≡ false → r ≡ Ok true → ⊥
+said_no_true e (Ok true) h k = let z : ◌≡◌ {A = ℕ} 0 1 = cc in omega arith
+said_no_true e (Ok false) h k = let z : ◌≡◌ {A = ℕ} 0 1 = cc in omega arith
+said_no_true e (Err x) h k = let z : ◌≡◌ {A = ℕ} 0 1 = cc in omega arith

@@ -1,4 +1,6 @@
 -- What the calls on units come to, one law for each return. Assumes nothing.
+use Rattle.std.proofs.Common.{Some, None, Ok, Err, IfOk, ◌==◌}
+use Rattle.refusals.specs.Lowest.{answer_of}
 use mathlib.Core.Path.{◌≡◌, refl, sym, ap, subst, ◌∙◌}
 use mathlib.Core.Bool.{Bool, true, false, not}
 use mathlib.Core.List.{List, [], ◌∷◌}
@@ -7,22 +9,18 @@ use native.Mathlib.Omega.{arith}
 use lib.Dec.{ltb}
 use lib.ListN.{length}
 use lib.IntN.{ℤ, pos, ◌+ℤ◌, +ℤ_idl}
-use borrow.Author.Tests.{lt-ltb, le-ltb, ltb-false, eq-eqb, ne_eqb}
+use borrow.Author.Tests.{lt-ltb, le-ltb, ltb-false}
 use Rattle.refusals.specs.Lowest.{◌when◌}
 use Rattle.refusals.specs.declared.Refusal.{Refusal}
 use Rattle.refusals.specs.declared.Refusal.TheVariants.{BadUnit, Exponent, Symbols}
-use Rattle.refusals.specs.declared.Verdict.{Verdict}
-use Rattle.refusals.specs.declared.Verdict.TheVariants.{Passed, Refused}
-use Rattle.refusals.specs.declared.Answer.{Answer}
+use Rattle.refusals.specs.Numbers.{Verdict}
 use Rattle.refusals.proofs.Lowest.{first_holds, passed_parts}
 use Rattle.names.specs.Table.{names_max}
 use Rattle.units.specs.Unit.{places_max, Term, term, formed, exponent}
 use Rattle.units.specs.Product.{any_outside, product_of, product_verdict}
 use Rattle.units.specs.Merge.{turned, merge}
-use Rattle.units.specs.Calls.{terms_of, given, form_verdict, product_answer, exponent_answer, unitless, maybe_verdict, unitless_answer}
+use Rattle.units.specs.Calls.{terms_of, unit_of, form_verdict, product_answer, exponent_answer, unitless, maybe_verdict, unitless_answer}
 use Rattle.units.specs.declared.Unit.{Unit}
-use Rattle.units.specs.declared.MaybeUnit.{MaybeUnit}
-use Rattle.units.specs.declared.Power.{Power}
 use Rattle.units.proofs.Form.{Places, sym_at, exp_at, terms_from, terms_in, length_terms, from_start, from_step, from_end, formed_count, formed_ordered}
 use Rattle.units.proofs.Order.{Asc, turned_none, ordered_asc, tail_of, first, part_other}
 use Rattle.units.proofs.Si.{merge_product}
@@ -30,44 +28,44 @@ use Rattle.units.proofs.Si.{merge_product}
 -- ---- the verdict on a product, for any number of places p and of symbols n
 
 module _ (p n : ℕ) (d : Bool) (xs ys : List Term) where
-  left_broken : formed p n xs ≡ false → product_verdict p n d xs ys ≡ Refused BadUnit
+  left_broken : formed p n xs ≡ false → product_verdict p n d xs ys ≡ Err BadUnit
   unfolding product_verdict
   left_broken h =
       rw h (first_holds BadUnit
       ((BadUnit when not (formed p n ys)) ∷ (Exponent when any_outside (product_of n d xs ys)) ∷ (Symbols when ltb p (length (product_of n d xs ys))) ∷ []) refl)
 
   module _ (h : formed p n xs ≡ true) where
-    right_broken : formed p n ys ≡ false → product_verdict p n d xs ys ≡ Refused BadUnit
+    right_broken : formed p n ys ≡ false → product_verdict p n d xs ys ≡ Err BadUnit
     unfolding product_verdict
     right_broken k =
         rw (h, k) (first_holds BadUnit ((Exponent when any_outside (product_of n d xs ys)) ∷ (Symbols when ltb p (length (product_of n d xs ys))) ∷ []) refl)
 
     module _ (k : formed p n ys ≡ true) where
-      too_large : any_outside (product_of n d xs ys) ≡ true → product_verdict p n d xs ys ≡ Refused Exponent
+      too_large : any_outside (product_of n d xs ys) ≡ true → product_verdict p n d xs ys ≡ Err Exponent
       unfolding product_verdict
       too_large w = rw (h, k, w) (first_holds Exponent ((Symbols when ltb p (length (product_of n d xs ys))) ∷ []) refl)
 
       module _ (w : any_outside (product_of n d xs ys) ≡ false) where
-        too_many : p < length (product_of n d xs ys) → product_verdict p n d xs ys ≡ Refused Symbols
+        too_many : p < length (product_of n d xs ys) → product_verdict p n d xs ys ≡ Err Symbols
         unfolding product_verdict
         too_many l = rw (h, k, w, lt-ltb p (length (product_of n d xs ys)) l)
 
-        pub in_limits : length (product_of n d xs ys) ≤ p → product_verdict p n d xs ys ≡ Passed
+        pub in_limits : length (product_of n d xs ys) ≤ p → product_verdict p n d xs ys ≡ Ok tt
         unfolding product_verdict
         in_limits l = rw (h, k, w, le-ltb p (length (product_of n d xs ys)) l)
 
 -- ---- the answer
 
 module _ (d : Bool) (a b : Unit) where
-  refused_as : (r : Refusal) → product_verdict places_max names_max d (terms_of a) (terms_of b) ≡ Refused r → given (Refused r) [] ≡ product_answer d a b
+  refused_as : (r : Refusal) → product_verdict places_max names_max d (terms_of a) (terms_of b) ≡ Err r → Err r ≡ product_answer d a b
   unfolding product_answer
   refused_as r v = rw v
 
-  pub product_left : formed places_max names_max (terms_of a) ≡ false → given (Refused BadUnit) [] ≡ product_answer d a b
+  pub product_left : formed places_max names_max (terms_of a) ≡ false → Err BadUnit ≡ product_answer d a b
   product_left h = refused_as BadUnit (left_broken places_max names_max d (terms_of a) (terms_of b) h)
 
   module _ (h : formed places_max names_max (terms_of a) ≡ true) where
-    pub product_right : formed places_max names_max (terms_of b) ≡ false → given (Refused BadUnit) [] ≡ product_answer d a b
+    pub product_right : formed places_max names_max (terms_of b) ≡ false → Err BadUnit ≡ product_answer d a b
     product_right k = refused_as BadUnit (right_broken places_max names_max d (terms_of a) (terms_of b) h k)
 
     module _ (k : formed places_max names_max (terms_of b) ≡ true) where
@@ -76,20 +74,20 @@ module _ (d : Bool) (a b : Unit) where
           merge_product names_max d (terms_of a) (terms_of b)
           (formed_ordered places_max names_max (terms_of a) h) (formed_ordered places_max names_max (terms_of b) k)
 
-      pub product_large : any_outside (merge (terms_of a) (turned d (terms_of b))) ≡ true → given (Refused Exponent) [] ≡ product_answer d a b
+      pub product_large : any_outside (merge (terms_of a) (turned d (terms_of b))) ≡ true → Err Exponent ≡ product_answer d a b
       product_large w = refused_as Exponent (too_large places_max names_max d (terms_of a) (terms_of b) h k (rw same at w))
 
       module _ (w : any_outside (merge (terms_of a) (turned d (terms_of b))) ≡ false) where
-        pub product_many : places_max < length (merge (terms_of a) (turned d (terms_of b))) → given (Refused Symbols) [] ≡ product_answer d a b
+        pub product_many : places_max < length (merge (terms_of a) (turned d (terms_of b))) → Err Symbols ≡ product_answer d a b
         product_many l = refused_as Symbols (too_many places_max names_max d (terms_of a) (terms_of b) h k (rw same at w) (rw same at l))
 
-        pub product_done : length (merge (terms_of a) (turned d (terms_of b))) ≤ places_max → given Passed (merge (terms_of a) (turned d (terms_of b))) ≡ product_answer d a b
+        pub product_done : length (merge (terms_of a) (turned d (terms_of b))) ≤ places_max → Ok (unit_of (merge (terms_of a) (turned d (terms_of b)))) ≡ product_answer d a b
         unfolding product_answer
-        product_done l = rw (in_limits places_max names_max d (terms_of a) (terms_of b) h k (rw same at w) (rw same at l)) (ap (given Passed) same)
+        product_done l = rw (in_limits places_max names_max d (terms_of a) (terms_of b) h k (rw same at w) (rw same at l)) (ap (λ l. Ok (unit_of l)) same)
 
 -- ---- a result has no more symbols than places
 
-verdict_few : (p n : ℕ) (d : Bool) (xs ys : List Term) → product_verdict p n d xs ys ≡ Passed → length (product_of n d xs ys) ≤ p
+verdict_few : (p n : ℕ) (d : Bool) (xs ys : List Term) → product_verdict p n d xs ys ≡ Ok tt → length (product_of n d xs ys) ≤ p
 unfolding product_verdict
 verdict_few p n d xs ys h =
     let m = product_of n d xs ys in
@@ -98,30 +96,33 @@ verdict_few p n d xs ys h =
     let c = passed_parts Exponent (any_outside m) ((Symbols when ltb p (length m)) ∷ []) b.1 in
     ltb-false p (length m) (passed_parts Symbols (ltb p (length m)) [] c.1).0
 
-pub result_few : (d : Bool) (a b : Unit) → (product_answer d a b).unit.count ≤ places_max
+pub result_few : (d : Bool) (a b : Unit) → IfOk (product_answer d a b) (λ u. u.count ≤ places_max)
 unfolding product_answer
 result_few d a b = go (product_verdict places_max names_max d (terms_of a) (terms_of b)) (verdict_few places_max names_max d (terms_of a) (terms_of b))
   where
-    go : (v : Verdict) → (v ≡ Passed → length (product_of names_max d (terms_of a) (terms_of b)) ≤ places_max) → (given v (product_of names_max d (terms_of a) (terms_of b))).unit.count ≤ places_max
-    go Passed h = h refl
-    go (Refused r) h = omega arith
+    m : List Term
+    m = product_of names_max d (terms_of a) (terms_of b)
+
+    go : (v : Verdict) → (v ≡ Ok tt → length m ≤ places_max) → IfOk (answer_of v (unit_of m)) (λ u. u.count ≤ places_max)
+    go (Ok _) h = h refl
+    go (Err r) h = tt
 
 -- ---- form, exponent, unitless
 
 module _ (u : Unit) where
-  pub form_passed : formed places_max names_max (terms_of u) ≡ true → form_verdict u ≡ Passed
+  pub form_passed : formed places_max names_max (terms_of u) ≡ true → form_verdict u ≡ Ok tt
   unfolding form_verdict
   form_passed h = rw h
 
-  pub form_refused : formed places_max names_max (terms_of u) ≡ false → form_verdict u ≡ Refused BadUnit
+  pub form_refused : formed places_max names_max (terms_of u) ≡ false → form_verdict u ≡ Err BadUnit
   unfolding form_verdict
   form_refused h = rw h
 
-  pub exponent_refused : (s : ℕ) → formed places_max names_max (terms_of u) ≡ false → Power.Refused BadUnit ≡ exponent_answer u s
+  pub exponent_refused : (s : ℕ) → formed places_max names_max (terms_of u) ≡ false → Err BadUnit ≡ exponent_answer u s
   unfolding exponent_answer
   exponent_refused s h = rw (form_refused h)
 
-  pub exponent_given : (s : ℕ) (e : ℤ) → formed places_max names_max (terms_of u) ≡ true → e ≡ exponent s (terms_of u) → Power.Of e ≡ exponent_answer u s
+  pub exponent_given : (s : ℕ) (e : ℤ) → formed places_max names_max (terms_of u) ≡ true → e ≡ exponent s (terms_of u) → Ok e ≡ exponent_answer u s
   unfolding exponent_answer
   exponent_given s e h q = rw (form_passed h, q)
 
@@ -163,24 +164,15 @@ module _ (n : ℕ) (u : Places) (s i : ℕ) (k : Seeking n u s i) where
       whole = sym (ap (exponent s) (from_step u i h) ∙ ap (λ z. z +ℤ exponent s (terms_from u (i + 1))) (part_other s (term (sym_at u i) (exp_at u i)) (λ e. other (sym e))) ∙ +ℤ_idl (exponent s (terms_from u (i + 1)))) ∙ k.whole;
     }
 
-module _ (m : MaybeUnit) where
-  pub none_unitless : m.some ≡ false → Answer.Yes ≡ unitless_answer m
+pub none_unitless : Ok true ≡ unitless_answer None
+unfolding unitless_answer maybe_verdict unitless
+none_unitless = refl
+
+module _ (u : Unit) where
+  pub broken_refused : formed places_max names_max (terms_of u) ≡ false → Err BadUnit ≡ unitless_answer (Some u)
   unfolding unitless_answer maybe_verdict unitless
-  none_unitless h = rw h
+  broken_refused f = rw (form_refused u f)
 
-  module _ (h : m.some ≡ true) where
-    pub broken_refused : formed places_max names_max (terms_of m.unit) ≡ false → Answer.Refused BadUnit ≡ unitless_answer m
-    unfolding unitless_answer maybe_verdict unitless
-    broken_refused f = rw (h, f)
-
-    module _ (f : formed places_max names_max (terms_of m.unit) ≡ true) where
-      size : length (terms_of m.unit) ≡ m.unit.count
-      size = length_terms m.unit.count 0 m.unit.symbols m.unit.exponents
-
-      pub empty_unitless : m.unit.count ≡ 0 → Answer.Yes ≡ unitless_answer m
-      unfolding unitless_answer maybe_verdict unitless
-      empty_unitless z = rw (h, f, size, eq-eqb m.unit.count 0 z)
-
-      pub some_unit : (m.unit.count ≡ 0 → ⊥) → Answer.No ≡ unitless_answer m
-      unfolding unitless_answer maybe_verdict unitless
-      some_unit z = rw (h, f, size, ne_eqb m.unit.count 0 z)
+  pub some_unitless : formed places_max names_max (terms_of u) ≡ true → Ok (u.count == 0) ≡ unitless_answer (Some u)
+  unfolding unitless_answer maybe_verdict unitless
+  some_unitless f = rw (form_passed u f, length_terms u.count 0 u.symbols u.exponents)

@@ -1,5 +1,6 @@
 -- A product or quotient that is answered is a unit in form (`answer_formed`), whose symbols are symbols of the two units and so in use
 -- where those are (`answer_used`). Assumes nothing.
+use Rattle.std.proofs.Common.{Ok, Err, IfOk}
 use mathlib.Core.Path.{◌≡◌, refl, sym, ap₂, subst, ◌∙◌}
 use mathlib.Core.Bool.{Bool, true, false, not}
 use mathlib.Core.List.{List, [], ◌∷◌, ◌++◌}
@@ -7,16 +8,15 @@ use Prim.Native.Nat.{ℕ, zero, suc, ◌≤◌}
 use lib.Dec.{T, ltb}
 use lib.ListN.{length}
 use lib.IntN.{ℤ, pos, ◌+ℤ◌}
-use Rattle.refusals.specs.Lowest.{◌when◌}
+use Rattle.refusals.specs.Lowest.{◌when◌, answer_of}
 use Rattle.refusals.specs.declared.Refusal.TheVariants.{BadUnit, Exponent, Symbols}
-use Rattle.refusals.specs.declared.Verdict.{Verdict}
-use Rattle.refusals.specs.declared.Verdict.TheVariants.{Passed, Refused}
+use Rattle.refusals.specs.Numbers.{Verdict}
 use Rattle.refusals.proofs.Lowest.{passed_parts}
 use Rattle.names.specs.Table.{names_max}
 use Rattle.names.specs.Calls.{is_used}
 use Rattle.units.specs.Unit.{places_max, Term, is_zero, formed, exponent, in_use}
 use Rattle.units.specs.Product.{combine, exponents, power, written, any_outside, product_of, product_verdict}
-use Rattle.units.specs.Calls.{terms_of, given, product_answer}
+use Rattle.units.specs.Calls.{terms_of, unit_of, product_answer}
 use Rattle.units.specs.declared.Unit.{Unit}
 use Rattle.units.proofs.Order.{part_other}
 use Rattle.units.proofs.Si.{turn_zero, product_formed}
@@ -61,10 +61,10 @@ module _ (n : ℕ) where
       written_used m (exponents quotient xs ys)
       (λ s u. ap₂ (combine quotient) (unused_zero s xs h u) (unused_zero s ys k u) ∙ turn_zero quotient)
 
--- ---- what is answered, also beside a refusal
+-- ---- what is answered
 
 -- a product that passes is within the limits
-passed_inside : (p n : ℕ) (d : Bool) (xs ys : List Term) → product_verdict p n d xs ys ≡ Passed → any_outside (product_of n d xs ys) ≡ false
+passed_inside : (p n : ℕ) (d : Bool) (xs ys : List Term) → product_verdict p n d xs ys ≡ Ok tt → any_outside (product_of n d xs ys) ≡ false
 unfolding product_verdict
 passed_inside p n d xs ys h =
     let m = product_of n d xs ys in
@@ -76,30 +76,30 @@ module _ (d : Bool) (a b : Unit) where
   abbrev product : List Term
   product = product_of names_max d (terms_of a) (terms_of b)
 
-  -- what holds of no terms, and of a product within the limits, holds of the terms of an answer
-  answer_holds : (P : List Term → Type 0) → P []
+  -- what holds of a product within the limits holds of the terms of an answer
+  answer_holds : (P : List Term → Type 0)
       → (any_outside product ≡ false → length product ≤ places_max → P product)
-      → P (terms_of (product_answer d a b).unit)
+      → IfOk (product_answer d a b) (λ u. P (terms_of u))
   unfolding product_answer
-  answer_holds P none some = go (product_verdict places_max names_max d (terms_of a) (terms_of b)) refl (result_few d a b)
+  answer_holds P some = go (product_verdict places_max names_max d (terms_of a) (terms_of b)) refl (result_few d a b)
     where
       go : (v : Verdict) → product_verdict places_max names_max d (terms_of a) (terms_of b) ≡ v
-          → (given (product_verdict places_max names_max d (terms_of a) (terms_of b)) product).unit.count ≤ places_max
-          → P (terms_of (given v product).unit)
-      go (Refused r) e l = none
-      go Passed e l =
+          → IfOk (answer_of (product_verdict places_max names_max d (terms_of a) (terms_of b)) (unit_of product)) (λ u. u.count ≤ places_max)
+          → IfOk (answer_of v (unit_of product)) (λ u. P (terms_of u))
+      go (Err r) e l = tt
+      go (Ok _) e l =
           let few : length product ≤ places_max = rw e at l in
           rw (terms_unit product few) (some (passed_inside places_max names_max d (terms_of a) (terms_of b) e) few)
 
   -- the unit that is answered is in form
-  pub answer_formed : formed places_max names_max (terms_of (product_answer d a b).unit) ≡ true
+  pub answer_formed : IfOk (product_answer d a b) (λ u. formed places_max names_max (terms_of u) ≡ true)
   unfolding formed
   answer_formed =
-      answer_holds (λ l. formed places_max names_max l ≡ true) refl
+      answer_holds (λ l. formed places_max names_max l ≡ true)
       (λ w l. product_formed places_max names_max d (terms_of a) (terms_of b) w l)
 
   -- and has only symbols in use, of n numbers, where the two units have
-  pub answer_used : (n : ℕ) → in_use n (terms_of a) ≡ true → in_use n (terms_of b) ≡ true → in_use n (terms_of (product_answer d a b).unit) ≡ true
+  pub answer_used : (n : ℕ) → in_use n (terms_of a) ≡ true → in_use n (terms_of b) ≡ true → IfOk (product_answer d a b) (λ u. in_use n (terms_of u) ≡ true)
   unfolding in_use
   answer_used n h k =
-      answer_holds (λ l. in_use n l ≡ true) refl (λ w l. product_used n names_max d (terms_of a) (terms_of b) h k)
+      answer_holds (λ l. in_use n l ≡ true) (λ w l. product_used n names_max d (terms_of a) (terms_of b) h k)

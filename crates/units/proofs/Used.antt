@@ -4,8 +4,7 @@ use mathlib.Core.Bool.{true, false}
 use mathlib.Core.List.{List, [], ◌∷◌}
 use Prim.Native.Nat.{ℕ, suc, ◌+◌, ◌≤◌, ◌<◌}
 use native.Mathlib.Omega.{arith}
-use native.Mathlib.Nat.{le_refl}
-use borrow.Author.Tests.{le-leb, lt-leb}
+use borrow.Author.Tests.{le-leb}
 use Rattle.pages.proofs.Quant.{and_true}
 use Rattle.names.specs.Table.{names_max}
 use Rattle.names.specs.Calls.{is_used}
@@ -32,9 +31,6 @@ in_use_more n x xs l h = rw l h
 -- the places whose symbols can be looked up
 abbrev pub seen_of : Unit → Places
 seen_of u = record { count = filled u; symbols = u.symbols; exponents = u.exponents }
-
-pub filled_wide : (u : Unit) → places_max < u.count → (places_max ≡ filled u) × (places_max ≤ places_max)
-filled_wide u h = (rw (lt-leb u.count places_max h), le_refl places_max)
 
 pub filled_few : (u : Unit) → u.count ≤ places_max → (u.count ≡ filled u) × (u.count ≤ places_max)
 filled_few u h = (rw (le-leb u.count places_max h), h)

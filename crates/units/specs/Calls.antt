@@ -1,18 +1,14 @@
 -- How the structs of src/ hold a unit, and what the calls on units answer (document 01, "Units and pairs").
-use Rattle.std.specs.Prelude.{Bool, ◌&&◌, ◌||◌, not, cond, List, [], ◌∷◌, ℕ, zero, suc, ◌+◌, ◌-◌, eqb, leb, length, get_or, set, ℤ, pos}
-use Rattle.refusals.specs.Lowest.{◌when◌, lowest, answered}
+use Rattle.refusals.specs.declared.Refusal.{Refusal}
+use Rattle.std.specs.Prelude.{Bool, not, cond, List, [], ◌∷◌, ℕ, zero, suc, ◌+◌, ◌-◌, eqb, leb, length, get_or, set, ℤ, pos, true, Option, Some, None, Result, Ok}
+use Rattle.refusals.specs.Lowest.{◌when◌, lowest, answer_of}
 use Rattle.refusals.specs.declared.Refusal.TheVariants.{BadUnit}
-use Rattle.refusals.specs.declared.Verdict.{Verdict}
-use Rattle.refusals.specs.declared.Verdict.TheVariants.{Passed, Refused}
-use Rattle.refusals.specs.declared.Answer.{Answer}
+use Rattle.refusals.specs.Numbers.{Verdict}
 use Rattle.pages.specs.Pad.{pad}
 use Rattle.names.specs.Table.{names_max}
 use Rattle.units.specs.Unit.{places_max, Term, term, formed, exponent}
 use Rattle.units.specs.Product.{product_of, product_verdict, any_outside}
 use Rattle.units.specs.declared.Unit.{Unit}
-use Rattle.units.specs.declared.MaybeUnit.{MaybeUnit}
-use Rattle.units.specs.declared.UnitResult.{UnitResult}
-use Rattle.units.specs.declared.Power.{Power}
 use Rattle.units.specs.declared.Sum.{Sum}
 
 -- ---- a unit in its places
@@ -68,37 +64,30 @@ form_verdict u = lowest ((BadUnit when not (formed places_max names_max (terms_o
 
 -- ---- product and quotient
 
--- a result, or the empty unit beside the refusal
-abbrev pub given : Verdict → List Term → UnitResult
-given Passed l = record { verdict = Passed; unit = unit_of l }
-given (Refused r) l = record { verdict = Refused r; unit = unit_of [] }
-
 -- the product of two units by value or, with true, their quotient
-unfoldable pub product_answer : Bool → Unit → Unit → UnitResult
+unfoldable pub product_answer : Bool → Unit → Unit → Result Unit Refusal
 product_answer quotient a b =
-    given (product_verdict places_max names_max quotient (terms_of a) (terms_of b)) (product_of names_max quotient (terms_of a) (terms_of b))
+    answer_of (product_verdict places_max names_max quotient (terms_of a) (terms_of b))
+    (unit_of (product_of names_max quotient (terms_of a) (terms_of b)))
 
 -- ---- the exponent of a symbol
 
--- an exponent, or the refusal
-abbrev pub powered : Verdict → ℤ → Power
-powered Passed e = Power.Of e
-powered (Refused r) e = Power.Refused r
-
 -- the exponent of symbol s in a unit in form
-unfoldable pub exponent_answer : Unit → ℕ → Power
-exponent_answer u s = powered (form_verdict u) (exponent s (terms_of u))
+unfoldable pub exponent_answer : Unit → ℕ → Result ℤ Refusal
+exponent_answer u s = answer_of (form_verdict u) (exponent s (terms_of u))
 
 -- ---- unitless or not: "\"No unit\" and the empty unit are different values; both count as unitless"
 
--- is there no unit, or one of no symbol
-unfoldable pub unitless : MaybeUnit → Bool
-unitless m = not m.some || eqb (length (terms_of m.unit)) 0
+-- is there no unit, or the empty one
+unfoldable pub unitless : Option Unit → Bool
+unitless None = true
+unitless (Some u) = eqb (length (terms_of u)) 0
 
--- what stands beside a no is not looked at
-unfoldable pub maybe_verdict : MaybeUnit → Verdict
-maybe_verdict m = lowest ((BadUnit when (m.some && not (formed places_max names_max (terms_of m.unit)))) ∷ [])
+-- why asking that is refused, if it is: 5 of a unit
+unfoldable pub maybe_verdict : Option Unit → Verdict
+maybe_verdict None = Ok tt
+maybe_verdict (Some u) = form_verdict u
 
--- is a unit in form, or none, unitless
-unfoldable pub unitless_answer : MaybeUnit → Answer
-unitless_answer m = answered (maybe_verdict m) (unitless m)
+-- no unit is unitless, and the empty unit is
+unfoldable pub unitless_answer : Option Unit → Result Bool Refusal
+unitless_answer m = answer_of (maybe_verdict m) (unitless m)

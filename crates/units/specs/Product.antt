@@ -4,7 +4,7 @@
 use Rattle.std.specs.Prelude.{Bool, true, false, ◌||◌, not, cond, List, [], ◌∷◌, ◌++◌, ℕ, zero, suc, ltb, length, ℤ, ◌+ℤ◌, ◌-ℤ◌}
 use Rattle.refusals.specs.Lowest.{◌when◌, lowest}
 use Rattle.refusals.specs.declared.Refusal.TheVariants.{BadUnit, Exponent, Symbols}
-use Rattle.refusals.specs.declared.Verdict.{Verdict}
+use Rattle.refusals.specs.Numbers.{Verdict}
 use Rattle.units.specs.Unit.{Term, term, is_zero, outside, formed, exponent}
 
 -- the exponent of one symbol in the product or, with true, in the quotient

@@ -2,15 +2,14 @@
 #![tactic(auto)]
 
 ghost use Rattle.std.specs.Prelude.{◌≡◌, true, false, List, [], ◌∷◌, ◌++◌, ◌<◌, ◌≤◌};
-ghost use Rattle.refusals.specs.declared.Verdict.{Verdict};
 ghost use Rattle.names.specs.Table.{names_max};
 ghost use Rattle.units.specs.Unit.{places_max, Term, term, is_zero, outside, formed, in_use};
 ghost use Rattle.units.specs.Product.{combine};
 ghost use Rattle.units.specs.Merge.{turn, turned, joined, merge};
-ghost use Rattle.units.specs.Calls.{terms_of, filled, present, unit_of, with_term, sum_of, form_verdict, given, product_answer, exponent_answer, unitless_answer};
+ghost use Rattle.units.specs.Calls.{terms_of, filled, present, unit_of, with_term, sum_of, form_verdict, product_answer, exponent_answer, unitless_answer};
 
 use names::{NAMES, Symbol, symbol_index};
-use refusals::{Answer, Refusal, Verdict};
+use refusals::Refusal;
 
 // How many symbols a unit has at most.
 pub const PLACES: usize = 8;
@@ -19,32 +18,11 @@ pub const PLACES: usize = 8;
 pub const EXPONENT_MAX: i16 = 1000;
 
 // The symbols stand at the first `count` places, ascending, each with its exponent.
-#[derive(Clone, Copy)]
+#[derive(Clone, Copy, Debug, PartialEq, Eq)]
 pub struct Unit {
     pub count: usize,
     pub symbols: [Symbol; PLACES],
     pub exponents: [i16; PLACES],
-}
-
-// A unit, or none where `some` is false, whatever stands beside it.
-#[derive(Clone, Copy)]
-pub struct MaybeUnit {
-    pub some: bool,
-    pub unit: Unit,
-}
-
-// What a product or quotient answers; the empty unit where it is refused.
-#[derive(Clone, Copy)]
-pub struct UnitResult {
-    pub verdict: Verdict,
-    pub unit: Unit,
-}
-
-// What asking for a symbol's exponent answers.
-#[derive(Clone, Copy)]
-pub enum Power {
-    Of(i16),
-    Refused(Refusal),
 }
 
 // A product as far as it has come: `count` goes on past the places, and `wide` says that an exponent is outside its limits.
@@ -156,8 +134,7 @@ pub fn is_formed(u: Unit) -> bool
         return false;
     }
     let mut lo: usize = 0;
-    let mut i: usize = 0;
-    while i < n {
+    for i in 0..n {
         let s = u.symbols[i] as usize;
         let e = u.exponents[i];
         if s < lo {
@@ -173,7 +150,6 @@ pub fn is_formed(u: Unit) -> bool
             return false;
         }
         lo = s + 1;
-        i += 1;
     }
     true
 }
@@ -182,11 +158,7 @@ pub fn is_formed(u: Unit) -> bool
 fn filled_in(u: Unit) -> usize
     ensures { (result ≡ filled u) × (result ≤ places_max) }
 {
-    let n = u.count;
-    if PLACES < n {
-        return PLACES;
-    }
-    n
+    u.count.min(PLACES)
 }
 
 // Whether every symbol that stands in a place is in use, where n names are in use. For crates above (their entry calls answer 3).
@@ -194,12 +166,10 @@ pub fn is_used(u: Unit, n: usize) -> bool
     ensures { result ≡ in_use n (present u) }
 {
     let k = filled_in(u);
-    let mut i: usize = 0;
-    while i < k {
+    for i in 0..k {
         if !names::is_used(n, symbol_index(u.symbols[i])) {
             return false;
         }
-        i += 1;
     }
     true
 }
@@ -245,87 +215,69 @@ fn merged(a: Unit, b: Unit, quotient: bool) -> Sum
     }
 }
 
-fn no_product(refusal: Refusal) -> UnitResult
-    ensures { result ≡ given (Verdict.Refused refusal) [] }
-{
-    UnitResult {
-        verdict: Verdict::Refused(refusal),
-        unit: dimensionless(),
-    }
-}
-
 // Whether a unit is in form.
-pub fn unit_form(u: Unit) -> Verdict
+#[tactic(auto, unfolding(crate::specs::Calls::form_verdict))]
+pub fn unit_form(u: Unit) -> Result<(), Refusal>
     ensures { result ≡ form_verdict u }
 {
     if is_formed(u) {
-        return Verdict::Passed;
+        return Ok(());
     }
-    Verdict::Refused(Refusal::BadUnit)
+    Err(Refusal::BadUnit)
 }
 
 // The product of two units or, with `quotient`, their quotient: `multiply` and `divide` of the source.
-pub fn product(a: Unit, b: Unit, quotient: bool) -> UnitResult
+#[tactic(auto, using(crate::proofs::Calls::product_left, crate::proofs::Calls::product_right, crate::proofs::Calls::product_large, crate::proofs::Calls::product_many, crate::proofs::Calls::product_done))]
+pub fn product(a: Unit, b: Unit, quotient: bool) -> Result<Unit, Refusal>
     ensures { result ≡ product_answer quotient a b }
 {
     if !is_formed(a) {
-        return no_product(Refusal::BadUnit);
+        return Err(Refusal::BadUnit);
     }
     if !is_formed(b) {
-        return no_product(Refusal::BadUnit);
+        return Err(Refusal::BadUnit);
     }
     let w = merged(a, b, quotient);
     if w.wide {
-        return no_product(Refusal::Exponent);
+        return Err(Refusal::Exponent);
     }
     let count = w.count;
     if PLACES < count {
-        return no_product(Refusal::Symbols);
+        return Err(Refusal::Symbols);
     }
     let symbols = w.symbols;
     let exponents = w.exponents;
-    UnitResult {
-        verdict: Verdict::Passed,
-        unit: Unit {
-            count,
-            symbols,
-            exponents,
-        },
-    }
+    Ok(Unit {
+        count,
+        symbols,
+        exponents,
+    })
 }
 
 // The exponent of a symbol, 0 where the unit does not have it.
-pub fn exponent(u: Unit, symbol: Symbol) -> Power
+pub fn exponent(u: Unit, symbol: Symbol) -> Result<i16, Refusal>
     ensures { result ≡ exponent_answer u symbol }
 {
     if !is_formed(u) {
-        return Power::Refused(Refusal::BadUnit);
+        return Err(Refusal::BadUnit);
     }
     let n = u.count;
-    let mut i: usize = 0;
-    while i < n {
+    for i in 0..n {
         if u.symbols[i] == symbol {
-            return Power::Of(u.exponents[i]);
+            return Ok(u.exponents[i]);
         }
-        i += 1;
     }
-    Power::Of(0)
+    Ok(0)
 }
 
 // Whether there is no unit, or the empty one.
-pub fn is_dimensionless(m: MaybeUnit) -> Answer
+#[tactic(auto, using(crate::proofs::Calls::none_unitless, crate::proofs::Calls::broken_refused, crate::proofs::Calls::some_unitless), unfolding(crate::specs::Calls::unitless_answer, crate::specs::Calls::maybe_verdict, crate::specs::Calls::unitless))]
+pub fn is_dimensionless(m: Option<Unit>) -> Result<bool, Refusal>
     ensures { result ≡ unitless_answer m }
 {
-    if !m.some {
-        return Answer::Yes;
-    }
-    let u = m.unit;
-    if !is_formed(u) {
-        return Answer::Refused(Refusal::BadUnit);
-    }
-    let n = u.count;
-    if n == 0 {
-        return Answer::Yes;
-    }
-    Answer::No
+    let Some(u) = m else {
+        return Ok(true);
+    };
+    unit_form(u)?;
+    Ok(u.count == 0)
 }

@@ -1,17 +1,17 @@
 -- The unit of a value node, in bytes: "symbol count (255 for no unit), then symbol (1 byte) and signed exponent (2) each"
 -- (document 01, "Formulas and sheets"). Here bytes of another length break a unit's form; in a sheet that is the length of a body,
 -- which the record's reader judges.
-use Rattle.std.specs.Prelude.{Bool, ◌&&◌, ◌||◌, not, cond, List, [], ◌∷◌, ◌++◌, ℕ, zero, suc, ◌+◌, ◌-◌, ◌*◌, ◌%◌, ltb, leb, eqb, length, get_or, ℤ, pos, negsuc}
-use Rattle.refusals.specs.Lowest.{◌when◌, lowest}
+use Rattle.units.specs.declared.Unit.{Unit}
+use Rattle.std.specs.Prelude.{Bool, ◌&&◌, ◌||◌, not, cond, List, [], ◌∷◌, ◌++◌, ℕ, zero, suc, ◌+◌, ◌-◌, ◌*◌, ◌%◌, ltb, leb, eqb, length, get_or, ℤ, pos, negsuc, Option, Some, None, Result}
+use Rattle.refusals.specs.Lowest.{◌when◌, lowest, answer_of}
+use Rattle.refusals.specs.declared.Refusal.{Refusal}
 use Rattle.refusals.specs.declared.Refusal.TheVariants.{BadUnit}
-use Rattle.refusals.specs.declared.Verdict.{Verdict}
+use Rattle.refusals.specs.Numbers.{Verdict}
 use Rattle.pages.specs.Quant.{all_to}
 use Rattle.pages.specs.Bytes.{word_at, bytes_of}
 use Rattle.names.specs.Calls.{is_used}
 use Rattle.units.specs.Unit.{places_max, Term, term}
 use Rattle.units.specs.Calls.{unit_of}
-use Rattle.units.specs.declared.MaybeUnit.{MaybeUnit}
-use Rattle.values.specs.declared.Value.{Value}
 
 -- the count that says that there is no unit
 abbrev pub none_count : ℕ
@@ -53,12 +53,12 @@ unfoldable pub value_verdict : List ℕ → Verdict
 value_verdict bytes = lowest ((BadUnit when not (readable bytes)) ∷ [])
 
 -- the unit that the bytes say, in form or not, or none
-unfoldable pub unit_in : List ℕ → MaybeUnit
-unit_in bytes = record { some = is_some bytes; unit = unit_of (cond (is_some bytes) (terms_at bytes (get_or bytes 0 0) 1) []) }
+unfoldable pub unit_in : List ℕ → Option Unit
+unit_in bytes = cond (is_some bytes) (Some (unit_of (terms_at bytes (get_or bytes 0 0) 1))) None
 
 -- what reading answers
-abbrev pub value_in : List ℕ → Value
-value_in bytes = record { verdict = value_verdict bytes; unit = unit_in bytes }
+abbrev pub value_in : List ℕ → Result (Option Unit) Refusal
+value_in bytes = answer_of (value_verdict bytes) (unit_in bytes)
 
 -- ---- looking symbols up: "the fields wholly present judged too" (below the table of refusals)
 

@@ -10,8 +10,8 @@ ghost use Rattle.values.specs.Value.{term_bytes, unit_max, signed_of, terms_at, 
 
 use names::Symbol;
 use pages::index;
-use refusals::{Refusal, Verdict};
-use units::{MaybeUnit, PLACES, Unit, with_term};
+use refusals::Refusal;
+use units::{PLACES, Unit, with_term};
 
 // The count that says that there is no unit.
 pub const NONE_COUNT: usize = 255;
@@ -24,13 +24,6 @@ pub const UNIT_BYTES: usize = 1 + PLACES * TERM_BYTES;
 
 // A unit's bytes, and zeros after them.
 pub type UnitBytes = [u8; UNIT_BYTES];
-
-// A unit or none, as the bytes say it; none where they are refused.
-#[derive(Clone, Copy)]
-pub struct Value {
-    pub verdict: Verdict,
-    pub unit: MaybeUnit,
-}
 
 // Two bytes as a signed number.
 fn signed(high: u8, low: u8) -> i16
@@ -50,56 +43,36 @@ fn unit_at(bytes: &[u8], n: usize) -> Unit
     ensures { result ≡ unit_of (terms_at bytes.now n 1) }
 {
     let mut u = units::dimensionless();
-    let mut at: usize = 1;
-    let mut i: usize = 0;
-    while i < n {
+    for i in 0..n {
+        let at = 1 + TERM_BYTES * i;
         let symbol = index(bytes[at]) as Symbol;
         u = with_term(u, symbol, signed(bytes[at + 1], bytes[at + 2]));
-        at += TERM_BYTES;
-        i += 1;
     }
     u
 }
 
-// No unit: because the bytes say so, or because they are refused.
-fn none(verdict: Verdict) -> Value
-    ensures { result ≡ record { verdict = verdict; unit = record { some = false; unit = unit_of [] } } }
-{
-    let unit = MaybeUnit {
-        some: false,
-        unit: units::dimensionless(),
-    };
-    Value { verdict, unit }
-}
-
 // The unit that the bytes say, which may break its form, or none.
-pub fn read_value(bytes: &[u8]) -> Value
+#[tactic(auto, using(crate::proofs::Calls::read_nothing, crate::proofs::Calls::read_some, crate::proofs::Calls::read_cut, crate::proofs::Calls::read_many, crate::proofs::Calls::read_long, crate::proofs::Calls::read_none))]
+pub fn read_value(bytes: &[u8]) -> Result<Option<Unit>, Refusal>
     ensures { result ≡ value_in bytes.now }
 {
     if bytes.len() < 1 {
-        return none(Verdict::Refused(Refusal::BadUnit));
+        return Err(Refusal::BadUnit);
     }
     let n = index(bytes[0]);
     if n <= PLACES {
         if bytes.len() == 1 + TERM_BYTES * n {
-            let unit = MaybeUnit {
-                some: true,
-                unit: unit_at(bytes, n),
-            };
-            return Value {
-                verdict: Verdict::Passed,
-                unit,
-            };
+            return Ok(Some(unit_at(bytes, n)));
         }
-        return none(Verdict::Refused(Refusal::BadUnit));
+        return Err(Refusal::BadUnit);
     }
     if n != NONE_COUNT {
-        return none(Verdict::Refused(Refusal::BadUnit));
+        return Err(Refusal::BadUnit);
     }
     if bytes.len() != 1 {
-        return none(Verdict::Refused(Refusal::BadUnit));
+        return Err(Refusal::BadUnit);
     }
-    none(Verdict::Passed)
+    Ok(None)
 }
 
 // How many symbols the bytes say that there are, all there or not.
@@ -122,8 +95,7 @@ pub fn are_used(bytes: &[u8], n: usize) -> bool
     ensures { result ≡ symbols_used n bytes.now }
 {
     let said = symbols_said(bytes);
-    let mut i: usize = 0;
-    while i < said {
+    for i in 0..said {
         let at = 1 + TERM_BYTES * i;
         if at >= bytes.len() {
             return true;
@@ -131,7 +103,6 @@ pub fn are_used(bytes: &[u8], n: usize) -> bool
         if !names::is_used(n, index(bytes[at])) {
             return false;
         }
-        i += 1;
     }
     true
 }
@@ -152,15 +123,11 @@ fn write_terms(out: &mut [u8], u: Unit)
     ensures { out.new ≡ put out.old 1 (bytes_in (terms_of u)) }
 {
     let n = u.count;
-    let mut at: usize = 1;
-    let mut i: usize = 0;
-    while i < n {
+    for i in 0..n {
         let word = pages::count_bytes(raw(u.exponents[i]));
         let symbol = (u.symbols[i] % 256) as u8;
         let entry = [symbol, word[0], word[1]];
-        pages::put_bytes(out, at, &entry);
-        at += TERM_BYTES;
-        i += 1;
+        pages::put_bytes(out, 1 + TERM_BYTES * i, &entry);
     }
 }
 

@@ -1,3 +1,4 @@
+use Rattle.std.proofs.lemmas.Result.{err_from_is_err_and}
 use mathlib.Core.Bool.{not}
 use mathlib.Core.Path.{ap}
 use mathlib.Core.Path.{sym, ◌∙◌}
@@ -14,7 +15,7 @@ pub returns-then-not-is_operator : goal.returns-then-not-is_operator
 returns-then-not-is_operator c =
     let is-operator = c.is_operator in
     let if1 = c.if-not-is_operator in
-    c.refuse.ensures ∙ binary_undefined c.args.page.now c.args.names.now c.args.lent
+    binary_undefined c.args.page.now c.args.names.now c.args.lent
     c.args.table.now c.args.op c.args.left c.args.right
     (sym is-operator.ensures ∙ if1.true)
 
@@ -24,7 +25,7 @@ returns-then-not-opened c =
     let if1 = c.if-not-is_operator in
     let opened = c.opened in
     let if2 = c.if-not-opened in
-    c.refuse-then-not-opened.ensures ∙ binary_broken c.args.page.now c.args.names.now c.args.lent
+    binary_broken c.args.page.now c.args.names.now c.args.lent
     c.args.table.now c.args.op c.args.left c.args.right
     (sym is-operator.ensures ∙ if1.false) (rw (opened.ensures.0 ∙ ap not if2.true))
 
@@ -36,7 +37,7 @@ returns-then-is_broken c =
     let if2 = c.if-not-opened in
     let is-broken = c.is_broken in
     let if3 = c.if-is_broken in
-    c.refuse-then-is_broken.ensures ∙ binary_broken c.args.page.now c.args.names.now c.args.lent
+    binary_broken c.args.page.now c.args.names.now c.args.lent
     c.args.table.now c.args.op c.args.left c.args.right
     (sym is-operator.ensures ∙ if1.false)
     (rw ((opened.ensures.0 ∙ ap not if2.false), sym is-broken.ensures ∙ if3.true))
@@ -46,14 +47,9 @@ in_use-n-requires c =
     let is-broken = c.is_broken in
     (unbroken c.args.table.now c.args.names.now c.args.lent (sym is-broken.ensures ∙ c.if-is_broken.false)).0
 
-pub operands_verdict-verdict-requires : goal.operands_verdict-verdict-requires
-operands_verdict-verdict-requires c =
-    let opened = c.opened in
-    let if2 = c.if-not-opened in
-    (opened.ensures.1 if2.false).held
-
-pub returns-in-Refused : goal.returns-in-Refused
-returns-in-Refused c =
+pub returns-in_err-operands_verdict : goal.returns-in_err-operands_verdict
+returns-in_err-operands_verdict c =
+    let p = err_from_is_err_and c.from_residual.result c.from_residual.ensures.1 in
     let is-operator = c.is_operator in
     let if1 = c.if-not-is_operator in
     let opened = c.opened in
@@ -61,15 +57,15 @@ returns-in-Refused c =
     let is-broken = c.is_broken in
     let if3 = c.if-is_broken in
     let in_use = c.in_use-n in
-    let operands-verdict = c.operands_verdict-verdict in
-    c.refuse-in-Refused.ensures ∙ binary_unfit c.args.page.now c.args.names.now c.args.lent
+    let operands-verdict = c.operands_verdict in
+    rw (p.1, p.2) (binary_unfit c.args.page.now c.args.names.now c.args.lent
     c.args.table.now c.args.op c.args.left c.args.right
     (sym is-operator.ensures ∙ if1.false) (opened.ensures.0 ∙ ap not if2.false)
-    (sym is-broken.ensures ∙ if3.false) _ (sym c.in-Refused.is ∙ rw in_use.ensures.0 at operands-verdict.ensures)
+    (sym is-broken.ensures ∙ if3.false) _ (sym c.in_err-operands_verdict.was ∙ rw in_use.ensures.0 at (rw c.store-store.ensures.0 at operands-verdict.ensures)))
 
 pub fill_leaves-requires : goal.fill_leaves-requires
 fill_leaves-requires c =
-    record { held = (c.opened.ensures.1 c.if-not-opened.false).held; from_bound = (omega arith, search rules) }
+    (omega arith, search rules)
 
 pub parents_of-parents-requires : goal.parents_of-parents-requires
 parents_of-parents-requires c =
@@ -94,10 +90,10 @@ binary_checked-requires c =
     let n = c.in_use-n.result in
     let left = c.args.left in
     let right = c.args.right in
-    let v = sym c.operands_verdict-verdict.ensures ∙ c.in_default.is in
+    let v = sym (rw c.store-store.ensures.0 at c.operands_verdict.ensures) ∙ c.in_ok-operands_verdict.was in
     let used = passed_used page n left right v in
     let forms = passed_formed page n left right v in
-    let operator = sym c.is_operator.ensures ∙ c.if-not-is_operator.false in record { held = (c.opened.ensures.1 c.if-not-opened.false).held; leaves = c.fill_leaves.ensures.leaves; op_value = (operator, used.0, used.1); left_value = (forms.0, forms.1) }
+    let operator = sym c.is_operator.ensures ∙ c.if-not-is_operator.false in record { leaves = c.fill_leaves.ensures.leaves; op_value = rw c.store-store.ensures.0 (operator, used.0, used.1); left_value = (forms.0, forms.1) }
 
 pub returns : goal.returns
 returns c =
@@ -107,9 +103,9 @@ returns c =
     let table = c.args.table.now in
     let unbroken-table = sym c.is_broken.ensures ∙ c.if-is_broken.false in
     let steps = c.count-steps.result in
-    c.binary_checked.ensures ∙ binary_passed page names lent table c.args.op c.args.left c.args.right
+    (rw c.store-store.ensures.0 at c.binary_checked.ensures) ∙ binary_passed page names lent table c.args.op c.args.left c.args.right
     (sym c.is_operator.ensures ∙ c.if-not-is_operator.false) (c.opened.ensures.0 ∙ ap not c.if-not-opened.false)
-    unbroken-table (sym c.in_default.is ∙ rw c.in_use-n.ensures.0 at c.operands_verdict-verdict.ensures)
+    unbroken-table (sym c.in_ok-operands_verdict.was ∙ rw c.in_use-n.ensures.0 at (rw c.store-store.ensures.0 at c.operands_verdict.ensures))
     (walk steps c.parents_of-parents.result)
     (λ s. rw c.parents_of-parents.ensures.0
     (root_in table (used_of names lent) steps s (unbroken table names lent unbroken-table).1 c.count-steps.ensures.0))

@@ -1,3 +1,4 @@
+use Rattle.std.proofs.lemmas.Result.{err_from_is_err_and}
 use mathlib.Core.Bool.{not}
 use mathlib.Core.Path.{ap}
 use mathlib.Core.Path.{sym, ◌∙◌}
@@ -14,7 +15,7 @@ returns-then-not-is_operator c =
     let k =
     unary_undefined c.args.page.now c.args.names.now c.args.lent c.args.op c.args.x
     (sym is-operator.ensures ∙ if1.true) in
-    (c.refuse.ensures ∙ k.0, k.1)
+    (k.0, k.1)
 
 pub returns-then-not-opened : goal.returns-then-not-opened
 returns-then-not-opened c =
@@ -25,43 +26,38 @@ returns-then-not-opened c =
     let k =
     unary_broken c.args.page.now c.args.names.now c.args.lent c.args.op c.args.x
     (sym is-operator.ensures ∙ if1.false) (opened.ensures.0 ∙ ap not if2.true) in
-    (c.refuse-then-not-opened.ensures ∙ k.0, k.1)
+    (k.0, k.1)
 
 pub in_use-n-requires : goal.in_use-n-requires
 in_use-n-requires c =
     let opened = c.opened in
     (unbroken_both c.args.page.now c.args.names.now c.args.lent (opened.ensures.0 ∙ ap not c.if-not-opened.false)).0
 
-pub operands_verdict-verdict-requires : goal.operands_verdict-verdict-requires
-operands_verdict-verdict-requires c =
-    let opened = c.opened in
-    let if2 = c.if-not-opened in
-    (opened.ensures.1 if2.false).held
-
-pub returns-in-Refused : goal.returns-in-Refused
-returns-in-Refused c =
+pub returns-in_err-operands_verdict : goal.returns-in_err-operands_verdict
+returns-in_err-operands_verdict c =
+    let p = err_from_is_err_and c.from_residual.result c.from_residual.ensures.1 in
     let is-operator = c.is_operator in
     let if1 = c.if-not-is_operator in
     let opened = c.opened in
     let if2 = c.if-not-opened in
     let in_use = c.in_use-n in
-    let operands-verdict = c.operands_verdict-verdict in
+    let operands-verdict = c.operands_verdict in
     let k =
     unary_unfit c.args.page.now c.args.names.now c.args.lent c.args.op c.args.x
     (sym is-operator.ensures ∙ if1.false) (opened.ensures.0 ∙ ap not if2.false) _
-    (sym c.in-Refused.is ∙ rw in_use.ensures.0 at operands-verdict.ensures) in
-    (c.refuse-in-Refused.ensures ∙ k.0, k.1)
+    (sym c.in_err-operands_verdict.was ∙ rw in_use.ensures.0 at (rw c.store-store.ensures.0 at operands-verdict.ensures)) in
+    rw (p.1, p.2) (k.0, k.1)
 
 pub fill_leaves-requires : goal.fill_leaves-requires
-fill_leaves-requires c = record { held = (c.opened.ensures.1 c.if-not-opened.false).held; from_bound = (omega arith, search rules) }
+fill_leaves-requires c = (omega arith, search rules)
 
 pub unary_checked-requires : goal.unary_checked-requires
 unary_checked-requires c =
     let opened = c.opened in
     let is-operator = c.is_operator in
-    let v = sym c.operands_verdict-verdict.ensures ∙ c.in_default.is in record {
+    let v = sym (rw c.store-store.ensures.0 at c.operands_verdict.ensures) ∙ c.in_ok-operands_verdict.was in record {
       measured = opened.ensures.1 c.if-not-opened.false;
-      leaves = c.fill_leaves.ensures.leaves;
+      leaves = rw c.store-store.ensures.0 at c.fill_leaves.ensures.leaves;
       op_value = (
         sym is-operator.ensures ∙ c.if-not-is_operator.false,
         (passed_used c.args.page.now c.in_use-n.result c.args.x c.args.x v).0,
@@ -74,5 +70,5 @@ returns c =
     let unary-checked = c.unary_checked in
     unary_passed c.args.page.now c.args.names.now c.args.lent c.args.op c.args.x
     (sym is-operator.ensures ∙ c.if-not-is_operator.false) (c.opened.ensures.0 ∙ ap not c.if-not-opened.false)
-    (sym c.in_default.is ∙ rw c.in_use-n.ensures.0 at c.operands_verdict-verdict.ensures) unary-checked.ensures.value
+    (sym c.in_ok-operands_verdict.was ∙ rw c.in_use-n.ensures.0 at (rw c.store-store.ensures.0 at c.operands_verdict.ensures)) unary-checked.ensures.value
     unary-checked.ensures.page_after

@@ -1,24 +1,11 @@
+use Rattle.std.proofs.Common.{Ok, ap}
 use mathlib.Core.Path.{◌∙◌}
-use Rattle.types.proofs.Types.{whole}
-use Rattle.checked.proofs.Calls.{end_there, end_asks, grown_back, grown_asks}
+use Rattle.checked.proofs.Calls.{end_there, grown_back, grown_asks}
 use Rattle.operators.proofs.Table.{operator_range}
 use Rattle.members.proofs.Tables.{measured_back}
 use Rattle.unary.specs.Unary.{check_unary}
 use Rattle.answers.proofs.Calls.{unary_used, unary_grown, unary_leaves, unary_is, unary_stopped}
 use Rattle.answers.proofs.unary_checked.Goals as goal
-
-pub front-front-requires : goal.front-front-requires
-front-front-requires c =
-    let f = c.requires.measured.held.sound in
-    (whole c.args.page.now f.names f.form).two
-
-pub count-n-requires : goal.count-n-requires
-count-n-requires c =
-    let f = c.requires.measured.held.sound in
-    (whole c.args.page.now f.names f.form).two
-
-pub offset_of-end-requires : goal.offset_of-end-requires
-offset_of-end-requires c = end_asks c.args.page.now _ _ c.requires.measured c.count-n.result c.count-n.ensures
 
 pub check_unary-conclusion-requires : goal.check_unary-conclusion-requires
 check_unary-conclusion-requires c =
@@ -29,38 +16,39 @@ unary_answer-requires c =
     let check-unary = c.check_unary-conclusion in
     let pre = c.requires in
     let page = c.args.page.now in
-    let f = pre.measured.held.sound in record {
-      held = check-unary.ensures.measured_2.held;
+    let f = pre.measured.held.sound in
+    rw c.store.ensures.0 record {
       n_bound = unary_leaves page f c.args.op pre.op_value.0 c.args.x.checked pre.op_value.1 check-unary.result _
-          check-unary.ensures.page_after _ c.count-n.result c.count-n.ensures pre.leaves;
+          check-unary.ensures.page_after _ c.count-n.result (rw c.store-store.ensures.0 at c.count-n.ensures) pre.leaves;
       checked_bound = unary_used page f c.args.op pre.op_value.0 c.args.x.checked pre.op_value.1 check-unary.result _
-          check-unary.ensures.page_after _ c.in-Is.is;
+          check-unary.ensures.page_after _ c.in-Ok.is;
     }
 
-pub put_back-requires : goal.put_back-requires
-put_back-requires c =
+pub take_back-requires : goal.take_back-requires
+take_back-requires c =
     let check-unary = c.check_unary-conclusion in
     let pre = c.requires in
     let page = c.args.page.now in
     grown_asks page _ _ pre.measured _
     (unary_grown page pre.measured.held.sound c.args.op pre.op_value.0 c.args.x.checked pre.op_value.1 check-unary.result _
-    check-unary.ensures.page_after) c.offset_of-end.result
-    (end_there page _ _ pre.measured c.count-n.result c.offset_of-end.result c.count-n.ensures c.offset_of-end.ensures)
+    check-unary.ensures.page_after) c.place_of-end.result
+    (end_there page c.count-n.result c.place_of-end.result (rw c.store-store.ensures.0 at c.count-n.ensures) (rw c.store-store.ensures.0 at c.place_of-end.ensures))
 
-pub returns-in-Is : goal.returns-in-Is
-returns-in-Is c =
+pub returns-in-Ok : goal.returns-in-Ok
+returns-in-Ok c =
     let check-unary = c.check_unary-conclusion in
     let unary-answer = c.unary_answer in
     let page = c.args.page.now in
     let k =
     unary_is page (check_unary page c.args.op c.args.x.checked) check-unary.result _ check-unary.ensures.page_after
-    c.args.op c.args.x.unit _ c.in-Is.is in
-    record { value = unary-answer.ensures.value ∙ k.0; page_after = k.1; measured_2 = check-unary.ensures.measured_2; leaves_2 = unary-answer.ensures.leaves }
+    c.args.op c.args.x.unit _ c.in-Ok.is in
+    let e = rw c.store.ensures.0 at unary-answer.ensures in
+    record { value = ap Ok e.value ∙ k.0; page_after = k.1; measured_2 = check-unary.ensures.measured_2; leaves_2 = e.leaves }
 
-pub returns-in-Refused : goal.returns-in-Refused
-returns-in-Refused c =
+pub returns-in-Err : goal.returns-in-Err
+returns-in-Err c =
     let check-unary = c.check_unary-conclusion in
-    let put_back = c.put_back in
+    let take-back = c.take_back in
     let pre = c.requires in
     let page = c.args.page.now in
     let f = pre.measured.held.sound in
@@ -68,8 +56,8 @@ returns-in-Refused c =
     unary_grown page f c.args.op pre.op_value.0 c.args.x.checked pre.op_value.1 check-unary.result _ check-unary.ensures.page_after in
     let k =
     unary_stopped page (check_unary page c.args.op c.args.x.checked) check-unary.result _ check-unary.ensures.page_after
-    c.args.op c.args.x.unit _ c.in-Refused.is in
+    c.args.op c.args.x.unit _ c.in-Err.is in
     let same =
-    rw c.front-front.ensures at put_back.ensures.1
-    ∙ grown_back page _ _ pre.measured _ grown c.offset_of-end.result
-    (end_there page _ _ pre.measured c.count-n.result c.offset_of-end.result c.count-n.ensures c.offset_of-end.ensures) in record { value = put_back.ensures.0 ∙ k.0; page_after = same ∙ k.1; measured_2 = rw same (measured_back page _ _ _ f grown check-unary.ensures.measured_2); leaves_2 = rw same pre.leaves }
+    rw (c.front-front.ensures, c.store-store.ensures.0) at take-back.ensures
+    ∙ grown_back page _ _ pre.measured _ grown c.place_of-end.result
+    (end_there page c.count-n.result c.place_of-end.result (rw c.store-store.ensures.0 at c.count-n.ensures) (rw c.store-store.ensures.0 at c.place_of-end.ensures)) in record { value = k.0; page_after = same ∙ k.1; measured_2 = rw same (measured_back page _ _ _ f grown check-unary.ensures.measured_2); leaves_2 = rw same pre.leaves }

@@ -2,7 +2,7 @@ use mathlib.Core.Path.{◌≡◌}
 use Rattle.members.specs.Members.{members_max}
 use Rattle.binary.specs.Tally.{tally_of}
 use Rattle.binary.proofs.Turns.{rows, row, Taken}
-use Prim.Native.Nat.{◌+◌, ◌*◌, ◌-◌, ◌≤◌}
+use Prim.Native.Nat.{◌+◌, ◌*◌, ◌≤◌}
 use Rattle.binary.proofs.+check_binary_any_check_binary_operator.Given as goal
 
 abbrev pub decreases-check_binary_any : goal.decreases-check_binary_any
@@ -13,14 +13,8 @@ decreases-check_binary_operator l = 2 * (l.l + l.r) + 1
 
 abbrev pub invariant-check_binary_any-loop-j : goal.invariant-check_binary_any-loop-j
 invariant-check_binary_any-loop-j l =
-    (l.j ≤ l.n) × Taken l.page l.l l.i l.x l.p × (l.tally ≡ tally_of (row l.page l.op l.clash l.l l.r l.i l.j)) × (l.tally.failing ≤ members_max * l.i + l.j)
-
-abbrev pub decreases-check_binary_any-loop-j : goal.decreases-check_binary_any-loop-j
-decreases-check_binary_any-loop-j l = l.n - l.j
+    Taken l.store.page.now l.l l.i l.x l.p × (l.tally ≡ tally_of (row l.store.page.now l.op l.clash l.l l.r l.i l.j)) × (l.tally.failing ≤ members_max * l.i + l.j)
 
 abbrev pub invariant-check_binary_any-loop-i : goal.invariant-check_binary_any-loop-i
 invariant-check_binary_any-loop-i l =
-    (l.i ≤ l.m) × (l.tally ≡ tally_of (rows l.page l.op l.clash l.l l.r l.i)) × (l.tally.failing ≤ members_max * l.i)
-
-abbrev pub decreases-check_binary_any-loop-i : goal.decreases-check_binary_any-loop-i
-decreases-check_binary_any-loop-i l = l.m - l.i
+    (l.tally ≡ tally_of (rows l.store.page.now l.op l.clash l.l l.r l.i)) × (l.tally.failing ≤ members_max * l.i)

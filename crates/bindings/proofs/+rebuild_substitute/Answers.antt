@@ -1,115 +1,108 @@
+use Rattle.std.proofs.lemmas.Result.{err_from_is_err_and}
 use mathlib.Core.Path.{sym, ◌∙◌}
-use native.Mathlib.Nat.{sub-zero}
 use native.Mathlib.Omega.{arith}
-use Rattle.bindings.proofs.Rebuilding.{low, done_generic, done_closed, done_before, done_low, done_noted, kids_start, child_asks, child_low, child_works, child_number, kids_next, kids_stop, parent_ready, parent_done}
+use Rattle.bindings.proofs.Rebuilding.{low, done_generic, done_closed, done_low, done_noted, kids_start, child_asks, child_low, child_works, child_number, kids_next, kids_stop, parent_ready, parent_done}
 use borrow.Author.Rules.{rules}
 use Rattle.bindings.proofs.+rebuild_substitute.Goals as goal
 
 pub rebuild-loop-i-init : goal.rebuild-loop-i-init
 rebuild-loop-i-init t c =
     let a = c.args in
-    kids_start a.bindings a.page.now _ _ _ a.t c.requires.working c.arity-n.result c.arity-n.ensures.0 _ (search rules)
+    kids_start a.bindings a.page.now _ _ _ a.t c.requires.working c.arity-n.result (rw c.store-store.ensures.0 at c.arity-n.ensures.0) _ (search rules)
 
-pub rebuild-child_of-child-requires-clause-held : goal.rebuild-child_of-child-requires-clause-held
-rebuild-child_of-child-requires-clause-held t c =
+pub rebuild-child_of-child-requires : goal.rebuild-child_of-child-requires
+rebuild-child_of-child-requires t c =
     let a = c.args in
     let l = c.loop-i in
-    (child_asks a.bindings a.page.now _ _ _ a.t c.requires.working c.arity-n.result c.arity-n.ensures.0 l.i l.kids l.page l.offsets l.depths l.done l.invariant c.loop-i-test.true).0
+    rw c.store.ensures.0 (child_asks a.bindings a.page.now _ _ _ a.t c.requires.working c.arity-n.result (rw c.store-store.ensures.0 at c.arity-n.ensures.0) l.i l.kids l.page l.tables.offsets l.tables.depths l.done l.invariant c.loop-i-test.true)
 
-pub rebuild-child_of-child-requires-clause-t_bound : goal.rebuild-child_of-child-requires-clause-t_bound
-rebuild-child_of-child-requires-clause-t_bound t c =
+pub rebuild-substitute-requires : goal.rebuild-substitute-requires
+rebuild-substitute-requires t c =
     let a = c.args in
     let l = c.loop-i in
-    (child_asks a.bindings a.page.now _ _ _ a.t c.requires.working c.arity-n.result c.arity-n.ensures.0 l.i l.kids l.page l.offsets l.depths l.done l.invariant c.loop-i-test.true).1
+    let c-low = child_low a.bindings a.page.now _ _ _ a.t c.requires.working c.arity-n.result (rw c.store-store.ensures.0 at c.arity-n.ensures.0) l.i l.kids l.page l.tables.offsets l.tables.depths l.done l.invariant c.loop-i-test.true c.child_of-child.result (rw c.store.ensures.0 at c.child_of-child.ensures.0) in
+    (omega (arith, c-low, c.decreases), child_works a.bindings a.page.now _ _ _ a.t c.requires.working c.arity-n.result (rw c.store-store.ensures.0 at c.arity-n.ensures.0) l.i l.kids l.page l.tables.offsets l.tables.depths l.done l.invariant c.loop-i-test.true c.child_of-child.result (rw c.store.ensures.0 at c.child_of-child.ensures.0))
 
-pub rebuild-substitute-made-requires : goal.rebuild-substitute-made-requires
-rebuild-substitute-made-requires t c =
+pub rebuild-returns-in_err-r-clause-value : goal.rebuild-returns-in_err-r-clause-value
+rebuild-returns-in_err-r-clause-value t c =
     let a = c.args in
     let l = c.loop-i in
-    let c-low = child_low a.bindings a.page.now _ _ _ a.t c.requires.working c.arity-n.result c.arity-n.ensures.0 l.i l.kids l.page l.offsets l.depths l.done l.invariant c.loop-i-test.true c.child_of-child.result c.child_of-child.ensures.0 in
-    (omega (arith, c-low, c.decreases), child_works a.bindings a.page.now _ _ _ a.t c.requires.working c.arity-n.result c.arity-n.ensures.0 l.i l.kids l.page l.offsets l.depths l.done l.invariant c.loop-i-test.true c.child_of-child.result c.child_of-child.ensures.0)
-
-pub rebuild-returns-in_default-clause-value : goal.rebuild-returns-in_default-clause-value
-rebuild-returns-in_default-clause-value t c =
-    let a = c.args in
-    let l = c.loop-i in
-    (kids_stop a.bindings a.page.now _ _ _ a.t c.requires.working c.arity-n.result c.arity-n.ensures.0 l.i l.kids l.page l.offsets l.depths l.done l.invariant c.loop-i-test.true c.child_of-child.result c.child_of-child.ensures.0
-    c.substitute-made.result _ _ _ _ (c.substitute-made.ensures.value, c.substitute-made.ensures.measured) c.requires.t_value _ c.in_default.is).0
+    let p = err_from_is_err_and c.from_residual.result c.from_residual.ensures.1 in
+    let z =
+    (kids_stop a.bindings a.page.now _ _ _ a.t c.requires.working c.arity-n.result (rw c.store-store.ensures.0 at c.arity-n.ensures.0) l.i l.kids l.page l.tables.offsets l.tables.depths l.done l.invariant c.loop-i-test.true c.child_of-child.result (rw c.store.ensures.0 at c.child_of-child.ensures.0)
+    c.substitute.result _ _ _ _ (c.substitute.ensures.value, c.substitute.ensures.measured) c.requires.t_value _ c.in_err-r.was).0 in
+    rw (p.1, p.2) (sym c.in_err-r.was ∙ z.0, z.1)
 
 pub rebuild-overflow_cast-kids : goal.rebuild-overflow_cast-kids
 rebuild-overflow_cast-kids t c =
     let a = c.args in
     let l = c.loop-i in
-    let z = child_number a.bindings a.page.now _ _ _ a.t c.requires.working c.arity-n.result c.arity-n.ensures.0 l.i l.kids l.page l.offsets l.depths l.done l.invariant c.loop-i-test.true c.child_of-child.result c.child_of-child.ensures.0
-    c.substitute-made.result _ _ _ _ (c.substitute-made.ensures.value, c.substitute-made.ensures.measured) _ c.in-At.is in
+    let z = child_number a.bindings a.page.now _ _ _ a.t c.requires.working c.arity-n.result (rw c.store-store.ensures.0 at c.arity-n.ensures.0) l.i l.kids l.page l.tables.offsets l.tables.depths l.done l.invariant c.loop-i-test.true c.child_of-child.result (rw c.store.ensures.0 at c.child_of-child.ensures.0)
+    c.substitute.result _ _ _ _ (c.substitute.ensures.value, c.substitute.ensures.measured) _ c.in_ok-r.was in
     search (rules, z)
 
 pub rebuild-loop-i-preserved : goal.rebuild-loop-i-preserved
 rebuild-loop-i-preserved t c =
     let a = c.args in
     let l = c.loop-i in
-    kids_next a.bindings a.page.now _ _ _ a.t c.requires.working c.arity-n.result c.arity-n.ensures.0 l.i l.kids l.page l.offsets l.depths l.done l.invariant c.loop-i-test.true c.child_of-child.result c.child_of-child.ensures.0
-    c.substitute-made.result _ _ _ _ (c.substitute-made.ensures.value, c.substitute-made.ensures.measured) _ c.in-At.is
+    kids_next a.bindings a.page.now _ _ _ a.t c.requires.working c.arity-n.result (rw c.store-store.ensures.0 at c.arity-n.ensures.0) l.i l.kids l.page l.tables.offsets l.tables.depths l.done l.invariant c.loop-i-test.true c.child_of-child.result (rw c.store.ensures.0 at c.child_of-child.ensures.0)
+    c.substitute.result _ _ _ _ (c.substitute.ensures.value, c.substitute.ensures.measured) _ c.in_ok-r.was
 
 pub rebuild-enter_type-requires-clause-ready : goal.rebuild-enter_type-requires-clause-ready
 rebuild-enter_type-requires-clause-ready t c =
     let a = c.args in
     let l = c.loop-i in
-    rw (sub-zero c.arity-n.result)
-    (parent_ready a.bindings a.page.now _ _ _ a.t c.requires.working c.arity-n.result c.arity-n.ensures.0 l.i l.kids l.page l.offsets l.depths l.done l.invariant c.loop-i-test.false c.requires.t_value c.kind_of-kind.result c.kind_of-kind.ensures)
+    parent_ready a.bindings a.page.now _ _ _ a.t c.requires.working c.arity-n.result (rw c.store-store.ensures.0 at c.arity-n.ensures.0) l.i l.kids l.page l.tables.offsets l.tables.depths l.done l.invariant c.loop-i-test.false c.requires.t_value c.kind_of-kind.result (rw c.store-store.ensures.0 at c.kind_of-kind.ensures)
 
 pub rebuild-returns-clause-value : goal.rebuild-returns-clause-value
 rebuild-returns-clause-value t c =
     let a = c.args in
     let l = c.loop-i in
-    let e = rw (sub-zero c.arity-n.result) at c.enter_type.ensures in
-    (parent_done a.bindings a.page.now _ _ _ a.t c.requires.working c.arity-n.result c.arity-n.ensures.0 l.i l.kids l.page l.offsets l.depths l.done l.invariant c.loop-i-test.false c.requires.t_value c.kind_of-kind.result c.kind_of-kind.ensures
+    let e = c.enter_type.ensures in
+    (parent_done a.bindings a.page.now _ _ _ a.t c.requires.working c.arity-n.result (rw c.store-store.ensures.0 at c.arity-n.ensures.0) l.i l.kids l.page l.tables.offsets l.tables.depths l.done l.invariant c.loop-i-test.false c.requires.t_value c.kind_of-kind.result (rw c.store-store.ensures.0 at c.kind_of-kind.ensures)
     c.enter_type.result _ _ _ e.0 e.1 e.2).0
 
 pub rebuild-returns-clause-measured : goal.rebuild-returns-clause-measured
 rebuild-returns-clause-measured t c =
     let a = c.args in
     let l = c.loop-i in
-    let e = rw (sub-zero c.arity-n.result) at c.enter_type.ensures in
-    (parent_done a.bindings a.page.now _ _ _ a.t c.requires.working c.arity-n.result c.arity-n.ensures.0 l.i l.kids l.page l.offsets l.depths l.done l.invariant c.loop-i-test.false c.requires.t_value c.kind_of-kind.result c.kind_of-kind.ensures
+    let e = c.enter_type.ensures in
+    (parent_done a.bindings a.page.now _ _ _ a.t c.requires.working c.arity-n.result (rw c.store-store.ensures.0 at c.arity-n.ensures.0) l.i l.kids l.page l.tables.offsets l.tables.depths l.done l.invariant c.loop-i-test.false c.requires.t_value c.kind_of-kind.result (rw c.store-store.ensures.0 at c.kind_of-kind.ensures)
     c.enter_type.result _ _ _ e.0 e.1 e.2).1
 
 pub substitute-returns-then-kind-eq-GENERIC-clause-value : goal.substitute-returns-then-kind-eq-GENERIC-clause-value
 substitute-returns-then-kind-eq-GENERIC-clause-value t c =
     let a = c.args in
-    (done_generic a.bindings a.page.now _ _ _ a.t c.requires c.kind_of-kind.result c.kind_of-kind.ensures c.name_of-name.result
-    c.bound_or.result c.if-kind-eq-GENERIC.true c.name_of-name.ensures c.bound_or.ensures).0
+    (done_generic a.bindings a.page.now _ _ _ a.t c.requires c.kind_of-kind.result (rw c.store-store.ensures.0 at c.kind_of-kind.ensures) c.name_of.result
+    c.bound_or.result c.if-kind-eq-GENERIC.true (rw c.store-store.ensures.0 at c.name_of.ensures) c.bound_or.ensures).0
 
 pub substitute-returns-then-not-is_entered-clause-value : goal.substitute-returns-then-not-is_entered-clause-value
 substitute-returns-then-not-is_entered-clause-value t c =
     let a = c.args in
-    (done_closed a.bindings a.page.now _ _ _ a.t c.requires c.kind_of-kind.result c.kind_of-kind.ensures c.if-kind-eq-GENERIC.false
+    (done_closed a.bindings a.page.now _ _ _ a.t c.requires c.kind_of-kind.result (rw c.store-store.ensures.0 at c.kind_of-kind.ensures) c.if-kind-eq-GENERIC.false
     (sym c.is_entered.ensures ∙ c.if-not-is_entered.true)).0
 
-pub substitute-done_at-known-requires : goal.substitute-done_at-known-requires
-substitute-done_at-known-requires t c =
+pub substitute-bounds : goal.substitute-bounds
+substitute-bounds t c =
     let a = c.args in
-    (c.requires.remembered.size, low a.bindings a.page.now _ _ _ a.t c.requires)
+    omega (arith, c.requires.remembered.size, low a.bindings a.page.now _ _ _ a.t c.requires)
 
-pub substitute-returns-then-known-ne0-clause-value : goal.substitute-returns-then-known-ne0-clause-value
-substitute-returns-then-known-ne0-clause-value t c =
+pub substitute-rebuild-requires : goal.substitute-rebuild-requires
+substitute-rebuild-requires t c =
+    (omega (arith, c.decreases), (c.requires, rw (← (rw c.store-store.ensures.0 at c.kind_of-kind.ensures)) (sym c.is_entered.ensures ∙ c.if-not-is_entered.false)))
+
+pub substitute-overflow_cast-done : goal.substitute-overflow_cast-done
+substitute-overflow_cast-done t c =
     let a = c.args in
-    (done_before a.bindings a.page.now _ _ _ a.t c.requires c.done_at-known.result c.done_at-known.ensures c.if-known-ne0.true).0
+    search (rules, done_low a.bindings a.page.now _ _ _ a.t c.requires _ _ _ _ c.rebuild.result (c.rebuild.ensures.value, c.rebuild.ensures.measured) _ c.in_ok-r.was)
 
-pub substitute-rebuild-made-requires : goal.substitute-rebuild-made-requires
-substitute-rebuild-made-requires t c =
-    (omega (arith, c.decreases), (c.requires, rw (← c.kind_of-kind.ensures) (sym c.is_entered.ensures ∙ c.if-not-is_entered.false)))
-
-pub substitute-set_done-requires : goal.substitute-set_done-requires
-substitute-set_done-requires t c =
-    let a = c.args in (
-      search (rules, c.rebuild-made.ensures.measured.1.size),
-      low a.bindings a.page.now _ _ _ a.t c.requires,
-      done_low a.bindings a.page.now _ _ _ a.t c.requires _ _ _ _ c.rebuild-made.result (c.rebuild-made.ensures.value, c.rebuild-made.ensures.measured) _ c.in-At.is,
-    )
-
-pub substitute-returns-in-At-clause-measured : goal.substitute-returns-in-At-clause-measured
-substitute-returns-in-At-clause-measured t c =
+pub substitute-bounds-done-t-2 : goal.substitute-bounds-done-t-2
+substitute-bounds-done-t-2 t c =
     let a = c.args in
-    let v = rw c.in-At.is at c.rebuild-made.ensures.value in
-    rw c.set_done.ensures (done_noted a.bindings a.page.now _ _ _ a.t c.requires _ _ _ _ _ (v, c.rebuild-made.ensures.measured)).1
+    omega (arith, c.rebuild.ensures.measured.1.size, low a.bindings a.page.now _ _ _ a.t c.requires)
+
+pub substitute-returns-clause-measured : goal.substitute-returns-clause-measured
+substitute-returns-clause-measured t c =
+    let a = c.args in
+    let v = rw c.in_ok-r.was at c.rebuild.ensures.value in
+    (done_noted a.bindings a.page.now _ _ _ a.t c.requires _ _ _ _ _ (v, c.rebuild.ensures.measured)).1

@@ -1,4 +1,4 @@
-use Prim.Native.Nat.{◌+◌, ◌*◌, ◌-◌}
+use Prim.Native.Nat.{◌+◌, ◌*◌}
 use Rattle.bindings.proofs.Rebuilding.{Kidding}
 use Rattle.bindings.proofs.+rebuild_substitute.Given as goal
 
@@ -9,7 +9,4 @@ abbrev pub decreases-substitute : goal.decreases-substitute
 decreases-substitute l = 2 * l.t + 1
 
 abbrev pub invariant-rebuild-loop-i : goal.invariant-rebuild-loop-i
-invariant-rebuild-loop-i l = Kidding l.bindings l.initial.page l.t l.n l.i l.kids l.page l.offsets l.depths l.done
-
-abbrev pub decreases-rebuild-loop-i : goal.decreases-rebuild-loop-i
-decreases-rebuild-loop-i l = l.n - l.i
+invariant-rebuild-loop-i l = Kidding l.bindings l.initial.page l.t l.n l.i l.kids l.page l.tables.offsets l.tables.depths l.done

@@ -16,5 +16,5 @@ returns c =
     let n : length errors.result ≡ error_bytes = search rules in
     let m : length unit.result ≡ unit_max = search rules in
     put-bytes2.ensures
-    ∙ rw (put-bytes.ensures, c.no_answer_bytes-bytes.ensures) (answer_made errors.result unit.result n m)
+    ∙ rw put-bytes.ensures (answer_made errors.result unit.result n m)
     ∙ ap₂ ◌++◌ errors.ensures unit.ensures

@@ -21,4 +21,4 @@ returns c =
     let b = c.args.bindings in
     let n : length b.names ≡ bindings_max = search rules in
     let t : length b.types ≡ bindings_max = search rules in
-    c.put_words.ensures ∙ rw (c.put_low_bytes.ensures, c.put_bytes.ensures, c.no_binding_bytes-bytes.ensures) (bindings_made b n t)
+    c.put_words.ensures ∙ rw (c.put_low_bytes.ensures, c.put_bytes.ensures) (bindings_made b n t)

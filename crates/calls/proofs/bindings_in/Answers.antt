@@ -1,6 +1,6 @@
 use mathlib.Core.Path.{◌≡◌, refl, ap, ◌∙◌}
 use Prim.Native.Nat.{ℕ}
-use lib.ListN.{length, take, drop}
+use lib.ListN.{length, take, drop, replicate}
 use borrow.Author.Rules.{rules}
 use Rattle.pages.specs.Bytes.{words_at}
 use Rattle.pages.proofs.Words.{read_length}
@@ -14,8 +14,8 @@ unfolding bindings_in
 returns c =
     let p = c.args.bytes in
     let n : length p ≡ binding_bytes = search rules in
-    let names : length c.no_names-names.result ≡ bindings_max = ap length c.no_names-names.ensures in
-    let types : length c.no_types-types.result ≡ bindings_max = ap length c.no_types-types.ensures in
+    let names : length (replicate {A = ℕ} bindings_max 0) ≡ bindings_max = refl in
+    let types : length (replicate {A = ℕ} bindings_max 0) ≡ bindings_max = refl in
     let e = c.read_bytes.ensures ∙ ap (λ (k : ℕ). take k (drop 1 p)) names in
     let f = c.read_words.ensures ∙ ap (λ (k : ℕ). words_at p types_from k) types in (
       rw (c.index.ensures.0, e, f) refl,

@@ -1,20 +1,17 @@
-use mathlib.Core.Path.{◌≡◌, ap, ◌∙◌}
-use Rattle.values.specs.Value.{unit_in}
-use Rattle.values.specs.declared.Value.{Value}
-use Rattle.calls.proofs.Bytes.{text_some}
+use Rattle.std.proofs.Common.{sym}
+use mathlib.Core.Path.{◌∙◌}
+use Rattle.calls.proofs.Bytes.{value_some, value_none, text_some}
 use Rattle.calls.proofs.text_in.Goals as goal
 
-pub returns-then-m : goal.returns-then-m
-returns-then-m c =
-    let a = c.args in
-    let e : c.read_value-value.result.unit ≡ unit_in a.unit.now = ap (λ (v : Value). v.unit) c.read_value-value.ensures in
-    c.unit_text.ensures ∙ rw e (text_some a.page.now a.unit.now (rw e at c.if-m.true))
+pub unread_text-requires-in-Err : goal.unread_text-requires-in-Err
+unread_text-requires-in-Err c = (value_none c.args.unit.now _ (sym c.read_value.ensures ∙ c.in-Err.is)).1
 
 pub unread_text-requires : goal.unread_text-requires
 unread_text-requires c =
-    let a = c.args in
-    let e : c.read_value-value.result.unit ≡ unit_in a.unit.now = ap (λ (v : Value). v.unit) c.read_value-value.ensures in
-    rw e at c.if-m.false
+    let v = value_some c.args.unit.now _ (sym c.read_value.ensures ∙ c.in-Ok-None.is) in
+    sym v.1 ∙ c.in-Ok-None.field-0-is
 
-pub returns : goal.returns
-returns c = c.no_text.ensures ∙ rw (← c.unread_text.ensures)
+pub returns-in-Ok-Some : goal.returns-in-Ok-Some
+returns-in-Ok-Some c =
+    let v = value_some c.args.unit.now _ (sym c.read_value.ensures ∙ c.in-Ok-Some.is) in
+    c.unit_text.ensures ∙ text_some c.args.page.now c.args.unit.now _ (sym v.1 ∙ c.in-Ok-Some.field-0-is)

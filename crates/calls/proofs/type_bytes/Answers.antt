@@ -39,9 +39,8 @@ pub returns : goal.returns
 unfolding bytes_of_type
 returns c =
     let made = c.entry_of-entry in
-    let no-type-bytes = c.no_type_bytes-bytes in
     let put-bytes = c.put_bytes in
     let put-bytes2 = c.put_bytes-2 in
     let s = c.args.shape in
-    put-bytes2.ensures ∙ rw (put-bytes.ensures, no-type-bytes.ensures)
+    put-bytes2.ensures ∙ rw put-bytes.ensures
     (type_made s.depth (entry_of s.kind (take s.count s.children) s.name) made.result.bytes made.ensures.0)

@@ -1,17 +1,23 @@
-use mathlib.Core.Path.{◌≡◌, ap, ◌∙◌}
-use Rattle.values.specs.Value.{unit_in}
-use Rattle.values.specs.declared.Value.{Value}
+use Rattle.std.proofs.Common.{rules, sym}
+use mathlib.Core.Path.{◌∙◌}
 use Rattle.calls.specs.Codes.{unit_or_broken}
+use Rattle.calls.proofs.Bytes.{value_some, value_none}
 use Rattle.calls.proofs.unit_or_broken.Goals as goal
 
-pub returns-then-unit : goal.returns-then-unit
+pub returns-in-Ok-Some : goal.returns-in-Ok-Some
 unfolding unit_or_broken
-returns-then-unit c =
-    let read-value = c.read_value-value in
-    let e : read-value.result.unit ≡ unit_in c.args.bytes.now = ap (λ (v : Value). v.unit) read-value.ensures in rw (← e, c.if-unit.true)
+returns-in-Ok-Some c =
+    let v = value_some c.args.bytes.now _ (sym c.read_value.ensures ∙ c.in-Ok-Some.is) in
+    rw (← v.1) (search rules)
 
-pub returns : goal.returns
+pub returns-in-Ok-None : goal.returns-in-Ok-None
 unfolding unit_or_broken
-returns c =
-    let read-value = c.read_value-value in
-    let e : read-value.result.unit ≡ unit_in c.args.bytes.now = ap (λ (v : Value). v.unit) read-value.ensures in c.broken_unit.ensures ∙ rw (← e, c.if-unit.false)
+returns-in-Ok-None c =
+    let v = value_some c.args.bytes.now _ (sym c.read_value.ensures ∙ c.in-Ok-None.is) in
+    rw (← v.1) (search rules)
+
+pub returns-in-Err : goal.returns-in-Err
+unfolding unit_or_broken
+returns-in-Err c =
+    let v = value_none c.args.bytes.now _ (sym c.read_value.ensures ∙ c.in-Err.is) in
+    rw v.1 (search rules)

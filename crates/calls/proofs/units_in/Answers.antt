@@ -1,12 +1,15 @@
-use mathlib.Core.Path.{◌≡◌, ap}
-use Rattle.values.specs.Value.{unit_in}
-use Rattle.values.specs.declared.Value.{Value}
+use Rattle.std.proofs.Common.{sym}
+use mathlib.Core.Path.{◌∙◌}
+use Rattle.calls.proofs.Bytes.{left_unread, right_unread, both_read}
 use Rattle.calls.proofs.units_in.Goals as goal
+
+pub returns-in_default : goal.returns-in_default
+returns-in_default c = left_unread c.args.left.now c.args.right.now _ (sym c.read_value.ensures ∙ c.in_default.is)
+
+pub returns-in_default-read_value : goal.returns-in_default-read_value
+returns-in_default-read_value c =
+    right_unread c.args.left.now c.args.right.now _ _ (sym c.read_value.ensures ∙ c.in-Ok.is) (sym c.read_value-2.ensures ∙ c.in_default-read_value.is)
 
 pub returns : goal.returns
 returns c =
-    let l = c.args.left.now in
-    let r = c.args.right.now in
-    let a : c.read_value-a.result.unit ≡ unit_in l = ap (λ (v : Value). v.unit) c.read_value-a.ensures in
-    let b : c.read_value-b.result.unit ≡ unit_in r = ap (λ (v : Value). v.unit) c.read_value-b.ensures in
-    rw (c.is_readable.ensures l c.read_value-a.ensures, c.is_readable-2.ensures r c.read_value-b.ensures, a, b)
+    both_read c.args.left.now c.args.right.now _ _ (sym c.read_value.ensures ∙ c.in-Ok.is) (sym c.read_value-2.ensures ∙ c.in-Ok-read_value.is)

@@ -15,29 +15,23 @@ in_use-n-requires c =
     let a = c.args in
     (unbroken_both a.page.now a.names.now a.lent (c.opened.ensures.0 ∙ ap not c.if-not-opened.false)).0
 
-pub is_operand_used-requires : goal.is_operand_used-requires
-is_operand_used-requires c = (c.opened.ensures.1 c.if-not-opened.false).held
-
 pub returns-then-not-is_operand_used : goal.returns-then-not-is_operand_used
 returns-then-not-is_operand_used c =
     let a = c.args in
     let t = c.opened.ensures.0 ∙ ap not c.if-not-opened.false in
     left_operand a.page.now a.names.now a.lent a.left a.unit.now a.right a.other.now c.requires t c.in_use-n.result c.in_use-n.ensures.0
-    (sym c.is_operand_used.ensures ∙ c.if-not-is_operand_used.true)
-
-pub is_operand_used-requires-2 : goal.is_operand_used-requires-2
-is_operand_used-requires-2 c = (c.opened.ensures.1 c.if-not-opened.false).held
+    (sym (rw c.store-store.ensures.0 at c.is_operand_used.ensures) ∙ c.if-not-is_operand_used.true)
 
 pub returns-then-not-is_operand_used-2 : goal.returns-then-not-is_operand_used-2
 returns-then-not-is_operand_used-2 c =
     let a = c.args in
     let t = c.opened.ensures.0 ∙ ap not c.if-not-opened.false in
     right_operand a.page.now a.names.now a.lent a.left a.unit.now a.right a.other.now c.requires t c.in_use-n.result c.in_use-n.ensures.0
-    (sym c.is_operand_used-2.ensures ∙ c.if-not-is_operand_used-2.true)
+    (sym (rw c.store-store.ensures.0 at c.is_operand_used-2.ensures) ∙ c.if-not-is_operand_used-2.true)
 
 pub returns : goal.returns
 returns c =
     let a = c.args in
     let t = c.opened.ensures.0 ∙ ap not c.if-not-opened.false in
     operands_bad a.page.now a.names.now a.lent a.left a.unit.now a.right a.other.now c.requires t c.in_use-n.result c.in_use-n.ensures.0
-    (sym c.is_operand_used.ensures ∙ c.if-not-is_operand_used.false) (sym c.is_operand_used-2.ensures ∙ c.if-not-is_operand_used-2.false)
+    (sym (rw c.store-store.ensures.0 at c.is_operand_used.ensures) ∙ c.if-not-is_operand_used.false) (sym (rw c.store-store.ensures.0 at c.is_operand_used-2.ensures) ∙ c.if-not-is_operand_used-2.false)

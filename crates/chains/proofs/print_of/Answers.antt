@@ -1,17 +1,12 @@
-use mathlib.Core.Path.{refl, ◌∙◌}
-use native.Mathlib.Omega.{arith}
-use Rattle.chains.proofs.Prints.{mixed_on, mixed_end, print_is}
+use Rattle.std.proofs.Common.{rules, ◌≡◌, fold, arith}
+use Rattle.std.proofs.lemmas.Iterator.{YieldsList-from_slice}
+use Rattle.std.proofs.lemmas.Iterator.Consumers.{fold_from_yields_List}
+use Rattle.chains.proofs.Prints.{mix, mixed_is, print_is}
 use Rattle.chains.proofs.print_of.Goals as goal
-
-pub loop-i-init : goal.loop-i-init
-loop-i-init c = (omega arith, omega arith, refl)
-
-pub loop-i-preserved : goal.loop-i-preserved
-loop-i-preserved c =
-    let loop = c.loop-i in
-    (omega arith, omega arith, loop.invariant.2 ∙ mixed_on loop.sum c.args.bytes.now loop.i (omega arith) ∙ rw (← c.index.ensures.0) refl)
 
 pub returns : goal.returns
 returns c =
-    let loop = c.loop-i in
-    (print_is c.args.bytes.now loop.sum (loop.invariant.2 ∙ mixed_end loop.sum c.args.bytes.now loop.i (omega arith)), omega arith)
+    let bytes = c.args.bytes.now in
+    let sum : c.fold-sum.result ≡ fold mix 0 bytes =
+    fold_from_yields_List _ mix 0 c.fold-sum.result c.fold-sum.ensures.ran (YieldsList-from_slice bytes cc) (λ a x b q k. search rules) in
+    (rw (c.from.ensures, sum) (print_is bytes _ (mixed_is 0 bytes)), omega arith)

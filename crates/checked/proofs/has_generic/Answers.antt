@@ -1,6 +1,5 @@
 use mathlib.Core.Path.{◌∙◌, ap}
 use mathlib.Core.Bool.{not}
-use Rattle.types.proofs.Types.{whole}
 use Rattle.checked.proofs.Calls.{generic_broken, generic_unused, generic_says}
 use Rattle.checked.proofs.has_generic.Goals as goal
 
@@ -11,12 +10,6 @@ returns-then-not-opened c =
     generic_broken a.page.now a.names.now a.lent a.t
     (opened.ensures.0 ∙ ap not c.if-not-opened.true)
 
-pub count-requires : goal.count-requires
-count-requires c =
-    let opened = c.opened in
-    let f = (opened.ensures.1 c.if-not-opened.false).held.sound in
-    (whole c.args.page.now f.names f.form).two
-
 pub returns-then-count-t : goal.returns-then-count-t
 returns-then-count-t c =
     let opened = c.opened in
@@ -24,15 +17,7 @@ returns-then-count-t c =
     let count = c.count in
     let a = c.args in
     let b = opened.ensures.0 ∙ ap not if1.false in
-    generic_unused a.page.now a.names.now a.lent a.t b (rw count.ensures at c.if-count-t.true)
-
-pub has_generic-requires : goal.has_generic-requires
-has_generic-requires c =
-    let opened = c.opened in
-    let if1 = c.if-not-opened in
-    let count = c.count in
-    let if2 = c.if-count-t in
-    record { held = (opened.ensures.1 if1.false).held; t_bound = rw count.ensures at if2.false }
+    generic_unused a.page.now a.names.now a.lent a.t b (rw (rw c.store-store.ensures.0 at count.ensures) at c.if-count-t.true)
 
 pub returns : goal.returns
 returns c =
@@ -43,5 +28,5 @@ returns c =
     let has-generic = c.has_generic in
     let a = c.args in
     let b = opened.ensures.0 ∙ ap not if1.false in
-    c.say.ensures ∙ generic_says a.page.now a.names.now a.lent a.t b (rw count.ensures at if2.false)
-    has-generic.result has-generic.ensures
+    generic_says a.page.now a.names.now a.lent a.t b (rw (rw c.store-store.ensures.0 at count.ensures) at if2.false)
+    has-generic.result (rw c.store-store.ensures.0 at has-generic.ensures)

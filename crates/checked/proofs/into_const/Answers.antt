@@ -11,13 +11,7 @@ returns-then-not-opened c =
     let z =
     const_broken a.page.now a.names.now a.lent a.c
     (opened.ensures.0 ∙ ap not if1.true) in
-    (c.of_made.ensures ∙ z.0, z.1)
-
-pub is_used-requires : goal.is_used-requires
-is_used-requires c =
-    let opened = c.opened in
-    let if1 = c.if-not-opened in
-    (opened.ensures.1 if1.false).held
+    z
 
 pub returns-then-not-is_used : goal.returns-then-not-is_used
 returns-then-not-is_used c =
@@ -29,8 +23,8 @@ returns-then-not-is_used c =
     let b = opened.ensures.0 ∙ ap not if1.false in
     let z =
     const_unused a.page.now a.names.now a.lent a.c b
-    (sym is-used.ensures ∙ if2.true) in
-    (c.of_made-then-not-is_used.ensures ∙ z.0, z.1)
+    (sym (rw c.store.ensures.0 at is-used.ensures) ∙ if2.true) in
+    z
 
 pub const_form-requires : goal.const_form-requires
 const_form-requires c =
@@ -38,7 +32,7 @@ const_form-requires c =
     let if2 = c.if-not-is_used in
     let opened = c.opened in
     let if1 = c.if-not-opened in
-    let u = sym is-used.ensures ∙ if2.false in record {
+    let u = sym (rw c.store.ensures.0 at is-used.ensures) ∙ if2.false in record {
       measured = opened.ensures.1 if1.false;
       t_bound = known_used c.args.page.now c.args.c _
           c.in-Known.is u;
@@ -52,9 +46,9 @@ returns-in-Unknown c =
     let if2 = c.if-not-is_used in
     let a = c.args in
     let b = opened.ensures.0 ∙ ap not if1.false in
-    let u = sym is-used.ensures ∙ if2.false in
+    let u = sym (rw c.store.ensures.0 at is-used.ensures) ∙ if2.false in
     let z = const_unknown a.page.now a.names.now a.lent a.c b u c.in-Unknown.is in
-    (c.pass.ensures ∙ z.0, z.1)
+    z
 
 pub returns-in-Function : goal.returns-in-Function
 returns-in-Function c =
@@ -64,9 +58,9 @@ returns-in-Function c =
     let if2 = c.if-not-is_used in
     let a = c.args in
     let b = opened.ensures.0 ∙ ap not if1.false in
-    let u = sym is-used.ensures ∙ if2.false in
+    let u = sym (rw c.store.ensures.0 at is-used.ensures) ∙ if2.false in
     let z = const_function a.page.now a.names.now a.lent a.c b u _ c.in-Function.is in
-    (c.pass-in-Function.ensures ∙ z.0, z.1)
+    z
 
 pub returns-in-Known : goal.returns-in-Known
 returns-in-Known c =
@@ -77,8 +71,8 @@ returns-in-Known c =
     let const-form = c.const_form in
     let a = c.args in
     let b = opened.ensures.0 ∙ ap not if1.false in
-    let u = sym is-used.ensures ∙ if2.false in
+    let u = sym (rw c.store.ensures.0 at is-used.ensures) ∙ if2.false in
     let z =
     const_known a.page.now a.names.now a.lent a.c b u _ c.in-Known.is const-form.result _
     const-form.ensures.0 const-form.ensures.1 in
-    (c.of_made-in-Known.ensures ∙ z.0, z.1)
+    (c.of_made.ensures ∙ z.0, z.1)

@@ -1,8 +1,5 @@
 use mathlib.Core.Path.{sym, ◌∙◌, ap}
 use mathlib.Core.Bool.{not}
-use Prim.Native.Nat.{◌*◌}
-use Rattle.marks.specs.Marks.{tiny_bytes}
-use Rattle.marks.proofs.Marks.{noted_none}
 use Rattle.checked.proofs.Calls.{matches_broken, matches_left, matches_right, matches_says}
 use Rattle.checked.proofs.matches.Goals as goal
 
@@ -13,12 +10,6 @@ returns-then-not-opened c =
     matches_broken a.page.now a.names.now a.lent a.actual a.expected
     (opened.ensures.0 ∙ ap not c.if-not-opened.true)
 
-pub is_used-requires : goal.is_used-requires
-is_used-requires c =
-    let opened = c.opened in
-    let if1 = c.if-not-opened in
-    (opened.ensures.1 if1.false).held
-
 pub returns-then-not-is_used : goal.returns-then-not-is_used
 returns-then-not-is_used c =
     let opened = c.opened in
@@ -27,13 +18,7 @@ returns-then-not-is_used c =
     let a = c.args in
     let b = opened.ensures.0 ∙ ap not if1.false in
     matches_left a.page.now a.names.now a.lent a.actual a.expected b
-    (sym is-used.ensures ∙ c.if-not-is_used.true)
-
-pub is_used-requires-2 : goal.is_used-requires-2
-is_used-requires-2 c =
-    let opened = c.opened in
-    let if1 = c.if-not-opened in
-    (opened.ensures.1 if1.false).held
+    (sym (rw c.store-store.ensures.0 at is-used.ensures) ∙ c.if-not-is_used.true)
 
 pub returns-then-not-is_used-2 : goal.returns-then-not-is_used-2
 returns-then-not-is_used-2 c =
@@ -43,7 +28,7 @@ returns-then-not-is_used-2 c =
     let a = c.args in
     let b = opened.ensures.0 ∙ ap not if1.false in
     matches_right a.page.now a.names.now a.lent a.actual a.expected b
-    (sym is-used2.ensures ∙ c.if-not-is_used-2.true)
+    (sym (rw c.store-store.ensures.0 at is-used2.ensures) ∙ c.if-not-is_used-2.true)
 
 pub matches_in-requires : goal.matches_in-requires
 matches_in-requires c =
@@ -53,11 +38,9 @@ matches_in-requires c =
     let if2 = c.if-not-is_used in
     let is-used2 = c.is_used-2 in
     let if3 = c.if-not-is_used-2 in
-    let tiny-memo = c.tiny_memo-memo in
-    let h = (opened.ensures.1 if1.false).held in
-    let u = sym is-used.ensures ∙ if2.false in
-    let v = sym is-used2.ensures ∙ if3.false in
-    record { held = h; actual_value = (u, v); noted = rw tiny-memo.ensures (noted_none _ (2 * tiny_bytes)) }
+    let u = sym (rw c.store-store.ensures.0 at is-used.ensures) ∙ if2.false in
+    let v = sym (rw c.store-store.ensures.0 at is-used2.ensures) ∙ if3.false in
+    rw c.store-store.ensures.0 (u, v)
 
 pub returns : goal.returns
 returns c =
@@ -70,7 +53,7 @@ returns c =
     let matches-in = c.matches_in in
     let a = c.args in
     let b = opened.ensures.0 ∙ ap not if1.false in
-    let u = sym is-used.ensures ∙ if2.false in
-    let v = sym is-used2.ensures ∙ if3.false in
-    c.say.ensures ∙ matches_says a.page.now a.names.now a.lent a.actual a.expected b u v matches-in.result
-    matches-in.ensures
+    let u = sym (rw c.store-store.ensures.0 at is-used.ensures) ∙ if2.false in
+    let v = sym (rw c.store-store.ensures.0 at is-used2.ensures) ∙ if3.false in
+    matches_says a.page.now a.names.now a.lent a.actual a.expected b u v matches-in.result
+    (rw c.store-store.ensures.0 at matches-in.ensures)

@@ -4,9 +4,8 @@ use Prim.Native.Nat.{◌<◌}
 use Rattle.names.specs.Calls.{used_of}
 use Rattle.types.specs.Types.{types_in}
 use Rattle.bindings.specs.Bindings.{formed}
-use Rattle.types.proofs.Types.{whole}
 use Rattle.types.proofs.Calls.{unbroken_both}
-use Rattle.checked.proofs.Calls.{substitute_broken, substitute_unformed, substitute_unused, substitute_made, substitute_stopped, end_there, end_asks, works, taken_back_lem, back_asks}
+use Rattle.checked.proofs.Calls.{substitute_broken, substitute_unformed, substitute_unused, substitute_made, substitute_stopped, end_there, works, taken_back_lem, back_asks}
 use Rattle.checked.proofs.substitute.Goals as goal
 
 pub returns-then-not-opened : goal.returns-then-not-opened
@@ -15,13 +14,6 @@ returns-then-not-opened c =
     let a = c.args in
     substitute_broken a.page.now a.names.now a.lent a.bound a.t
     (opened.ensures.0 ∙ ap not c.if-not-opened.true)
-
-pub count-n-requires : goal.count-n-requires
-count-n-requires c =
-    let opened = c.opened in
-    let if1 = c.if-not-opened in
-    let f = (opened.ensures.1 if1.false).held.sound in
-    (whole c.args.page.now f.names f.form).two
 
 pub in_use-requires : goal.in_use-requires
 in_use-requires c =
@@ -45,7 +37,7 @@ returns-then-not-is_formed c =
     let names = a.names.now in
     let b = opened.ensures.0 ∙ ap not if1.false in
     substitute_unformed page names a.lent a.bound a.t b
-    (rw (← in_use.ensures.0, ← count.ensures) (sym is-formed.ensures ∙ c.if-not-is_formed.true))
+    (rw (← in_use.ensures.0, ← (rw c.store-store.ensures.0 at count.ensures)) (sym is-formed.ensures ∙ c.if-not-is_formed.true))
 
 pub returns-then-n-t : goal.returns-then-n-t
 returns-then-n-t c =
@@ -60,23 +52,8 @@ returns-then-n-t c =
     let names = a.names.now in
     let b = opened.ensures.0 ∙ ap not if1.false in
     let k : formed (used_of names a.lent) (types_in page) a.bound ≡ true =
-    rw (← in_use.ensures.0, ← count.ensures) (sym is-formed.ensures ∙ if2.false) in
-    substitute_unused page names a.lent a.bound a.t b k (rw count.ensures at c.if-n-t.true)
-
-pub front-front-requires : goal.front-front-requires
-front-front-requires c =
-    let opened = c.opened in
-    let if1 = c.if-not-opened in
-    let f = (opened.ensures.1 if1.false).held.sound in
-    (whole c.args.page.now f.names f.form).two
-
-pub offset_of-end-requires : goal.offset_of-end-requires
-offset_of-end-requires c =
-    let opened = c.opened in
-    let if1 = c.if-not-opened in
-    let count = c.count-n in
-    let m = opened.ensures.1 if1.false in
-    end_asks c.args.page.now _ _ m count.result count.ensures
+    rw (← in_use.ensures.0, ← (rw c.store-store.ensures.0 at count.ensures)) (sym is-formed.ensures ∙ if2.false) in
+    substitute_unused page names a.lent a.bound a.t b k (rw (rw c.store-store.ensures.0 at count.ensures) at c.if-n-t.true)
 
 pub substitute-made-requires : goal.substitute-made-requires
 substitute-made-requires c =
@@ -87,16 +64,15 @@ substitute-made-requires c =
     let is-formed = c.is_formed in
     let if2 = c.if-not-is_formed in
     let if3 = c.if-n-t in
-    let none_done = c.none_done-done in
     let a = c.args in
     let page = a.page.now in
     let names = a.names.now in
     let b = opened.ensures.0 ∙ ap not if1.false in
     let k : formed (used_of names a.lent) (types_in page) a.bound ≡ true =
-    rw (← in_use.ensures.0, ← count.ensures) (sym is-formed.ensures ∙ if2.false) in
-    let l : a.t < types_in page = rw count.ensures at if3.false in
+    rw (← in_use.ensures.0, ← (rw c.store-store.ensures.0 at count.ensures)) (sym is-formed.ensures ∙ if2.false) in
+    let l : a.t < types_in page = rw (rw c.store-store.ensures.0 at count.ensures) at if3.false in
     let m = opened.ensures.1 if1.false in
-    rw none_done.ensures (works page _ _ m a.bound (used_of names a.lent) a.t k l)
+    works page _ _ m a.bound (used_of names a.lent) a.t k l
 
 pub take_back-requires : goal.take_back-requires
 take_back-requires c =
@@ -108,20 +84,20 @@ take_back-requires c =
     let if2 = c.if-not-is_formed in
     let if3 = c.if-n-t in
     let substitute = c.substitute-made in
-    let offset-of = c.offset_of-end in
+    let offset-of = c.place_of-end in
     let a = c.args in
     let page = a.page.now in
     let names = a.names.now in
     let b = opened.ensures.0 ∙ ap not if1.false in
     let k : formed (used_of names a.lent) (types_in page) a.bound ≡ true =
-    rw (← in_use.ensures.0, ← count.ensures) (sym is-formed.ensures ∙ if2.false) in
-    let l : a.t < types_in page = rw count.ensures at if3.false in
+    rw (← in_use.ensures.0, ← (rw c.store-store.ensures.0 at count.ensures)) (sym is-formed.ensures ∙ if2.false) in
+    let l : a.t < types_in page = rw (rw c.store-store.ensures.0 at count.ensures) at if3.false in
     let m = opened.ensures.1 if1.false in
     back_asks page _ _ m a.bound (used_of names a.lent) a.t k l _ substitute.ensures.value.1 offset-of.result
-    (end_there page _ _ m count.result offset-of.result count.ensures offset-of.ensures)
+    (end_there page count.result offset-of.result (rw c.store-store.ensures.0 at count.ensures) (rw c.store-store.ensures.0 at offset-of.ensures))
 
-pub returns-in-Refused : goal.returns-in-Refused
-returns-in-Refused c =
+pub returns-in-Err : goal.returns-in-Err
+returns-in-Err c =
     let opened = c.opened in
     let if1 = c.if-not-opened in
     let in_use = c.in_use in
@@ -129,7 +105,7 @@ returns-in-Refused c =
     let is-formed = c.is_formed in
     let if2 = c.if-not-is_formed in
     let if3 = c.if-n-t in
-    let offset-of = c.offset_of-end in
+    let offset-of = c.place_of-end in
     let substitute = c.substitute-made in
     let take_back = c.take_back in
     let front = c.front-front in
@@ -138,16 +114,16 @@ returns-in-Refused c =
     let names = a.names.now in
     let b = opened.ensures.0 ∙ ap not if1.false in
     let k : formed (used_of names a.lent) (types_in page) a.bound ≡ true =
-    rw (← in_use.ensures.0, ← count.ensures) (sym is-formed.ensures ∙ if2.false) in
-    let l : a.t < types_in page = rw count.ensures at if3.false in
+    rw (← in_use.ensures.0, ← (rw c.store-store.ensures.0 at count.ensures)) (sym is-formed.ensures ∙ if2.false) in
+    let l : a.t < types_in page = rw (rw c.store-store.ensures.0 at count.ensures) at if3.false in
     let m = opened.ensures.1 if1.false in
-    let e = end_there page _ _ m count.result offset-of.result count.ensures offset-of.ensures in
+    let e = end_there page count.result offset-of.result (rw c.store-store.ensures.0 at count.ensures) (rw c.store-store.ensures.0 at offset-of.ensures) in
     let back =
     taken_back_lem page _ _ m a.bound (used_of names a.lent) a.t k l _ substitute.ensures.value.1 offset-of.result e in
     let z =
-    substitute_stopped page names a.lent a.bound a.t b k l substitute.result _ c.in-Refused.is
+    substitute_stopped page names a.lent a.bound a.t b k l substitute.result _ c.in-Err.is
     substitute.ensures.value.0 in
-    (z.0, take_back.ensures ∙ rw front.ensures back ∙ z.1)
+    (z.0, take_back.ensures ∙ rw (front.ensures, c.store-store.ensures.0) back ∙ z.1)
 
 pub returns-in_default : goal.returns-in_default
 returns-in_default c =
@@ -164,7 +140,7 @@ returns-in_default c =
     let names = a.names.now in
     let b = opened.ensures.0 ∙ ap not if1.false in
     let k : formed (used_of names a.lent) (types_in page) a.bound ≡ true =
-    rw (← in_use.ensures.0, ← count.ensures) (sym is-formed.ensures ∙ if2.false) in
-    let l : a.t < types_in page = rw count.ensures at if3.false in
+    rw (← in_use.ensures.0, ← (rw c.store-store.ensures.0 at count.ensures)) (sym is-formed.ensures ∙ if2.false) in
+    let l : a.t < types_in page = rw (rw c.store-store.ensures.0 at count.ensures) at if3.false in
     substitute_made page names a.lent a.bound a.t b k l substitute.result _ _ c.in_default.is
     substitute.ensures.value.0 substitute.ensures.value.1

@@ -3,11 +3,7 @@ use mathlib.Core.Bool.{true, not}
 use Rattle.names.specs.Calls.{used_of}
 use Rattle.types.specs.Types.{types_in}
 use Rattle.bindings.specs.Bindings.{formed}
-use Rattle.types.proofs.Types.{whole}
 use Rattle.types.proofs.Calls.{unbroken_both}
-use Prim.Native.Nat.{◌*◌}
-use Rattle.marks.specs.Marks.{tiny_bytes}
-use Rattle.marks.proofs.Marks.{noted_none}
 use Rattle.bindings.proofs.Bound.{usable}
 use Rattle.checked.proofs.Calls.{unify_broken, unify_unformed, unify_unused, unify_unused_actual, unify_says}
 use Rattle.checked.proofs.unify_arg.Goals as goal
@@ -19,12 +15,6 @@ returns-then-not-opened c =
     let a = c.args in
     c.refuse.ensures ∙ unify_broken a.page.now a.names.now a.lent a.bound a.e a.actual
     (opened.ensures.0 ∙ ap not if1.true)
-
-pub count-n-requires : goal.count-n-requires
-count-n-requires c =
-    let opened = c.opened in
-    let f = (opened.ensures.1 c.if-not-opened.false).held.sound in
-    (whole c.args.page.now f.names f.form).two
 
 pub in_use-requires : goal.in_use-requires
 in_use-requires c =
@@ -49,7 +39,7 @@ returns-then-not-is_formed c =
     let names = a.names.now in
     let b = opened.ensures.0 ∙ ap not if1.false in
     c.refuse-then-not-is_formed.ensures ∙ unify_unformed page names a.lent a.bound a.e a.actual b
-    (rw (← in_use.ensures.0, ← count.ensures) (sym is-formed.ensures ∙ if2.true))
+    (rw (← in_use.ensures.0, ← (rw c.store-store.ensures.0 at count.ensures)) (sym is-formed.ensures ∙ if2.true))
 
 pub returns-then-n-e : goal.returns-then-n-e
 returns-then-n-e c =
@@ -65,14 +55,8 @@ returns-then-n-e c =
     let names = a.names.now in
     let b = opened.ensures.0 ∙ ap not if1.false in
     let k : formed (used_of names a.lent) (types_in page) a.bound ≡ true =
-    rw (← in_use.ensures.0, ← count.ensures) (sym is-formed.ensures ∙ if2.false) in
-    c.refuse-then-n-e.ensures ∙ unify_unused page names a.lent a.bound a.e a.actual b k (rw count.ensures at if3.true)
-
-pub is_used-requires : goal.is_used-requires
-is_used-requires c =
-    let opened = c.opened in
-    let if1 = c.if-not-opened in
-    (opened.ensures.1 if1.false).held
+    rw (← in_use.ensures.0, ← (rw c.store-store.ensures.0 at count.ensures)) (sym is-formed.ensures ∙ if2.false) in
+    c.refuse-then-n-e.ensures ∙ unify_unused page names a.lent a.bound a.e a.actual b k (rw (rw c.store-store.ensures.0 at count.ensures) at if3.true)
 
 pub returns-then-not-is_used : goal.returns-then-not-is_used
 returns-then-not-is_used c =
@@ -89,9 +73,9 @@ returns-then-not-is_used c =
     let names = a.names.now in
     let b = opened.ensures.0 ∙ ap not if1.false in
     let k : formed (used_of names a.lent) (types_in page) a.bound ≡ true =
-    rw (← in_use.ensures.0, ← count.ensures) (sym is-formed.ensures ∙ if2.false) in
+    rw (← in_use.ensures.0, ← (rw c.store-store.ensures.0 at count.ensures)) (sym is-formed.ensures ∙ if2.false) in
     c.refuse-then-not-is_used.ensures ∙ unify_unused_actual page names a.lent a.bound a.e a.actual b k
-    (sym is-used.ensures ∙ if4.true)
+    (sym (rw c.store-store.ensures.0 at is-used.ensures) ∙ if4.true)
 
 pub unify_in-out-requires : goal.unify_in-out-requires
 unify_in-out-requires c =
@@ -104,17 +88,14 @@ unify_in-out-requires c =
     let if3 = c.if-n-e in
     let is-used = c.is_used in
     let if4 = c.if-not-is_used in
-    let tiny-memo = c.tiny_memo-memo in
-    let tiny-seen = c.tiny_seen-seen in
     let a = c.args in
     let page = a.page.now in
     let names = a.names.now in
     let b = opened.ensures.0 ∙ ap not if1.false in
     let k : formed (used_of names a.lent) (types_in page) a.bound ≡ true =
-    rw (← in_use.ensures.0, ← count.ensures) (sym is-formed.ensures ∙ if2.false) in
-    let h = (opened.ensures.1 if1.false).held in
-    let l = rw count.ensures at if3.false in
-    let u = sym is-used.ensures ∙ if4.false in record { held = h; e_bound = (l, u); usable = usable (used_of names a.lent) (types_in page) a.bound k; noted = rw tiny-memo.ensures (noted_none _ (2 * tiny_bytes)); noted_2 = rw tiny-seen.ensures (noted_none _ tiny_bytes) }
+    rw (← in_use.ensures.0, ← (rw c.store-store.ensures.0 at count.ensures)) (sym is-formed.ensures ∙ if2.false) in
+    let l = rw (rw c.store-store.ensures.0 at count.ensures) at if3.false in
+    let u = sym (rw c.store-store.ensures.0 at is-used.ensures) ∙ if4.false in record { e_bound = rw c.store-store.ensures.0 (l, u); usable = rw c.store-store.ensures.0 (usable (used_of names a.lent) (types_in page) a.bound k) }
 
 pub returns : goal.returns
 returns c =
@@ -133,8 +114,8 @@ returns c =
     let names = a.names.now in
     let b = opened.ensures.0 ∙ ap not if1.false in
     let k : formed (used_of names a.lent) (types_in page) a.bound ≡ true =
-    rw (← in_use.ensures.0, ← count.ensures) (sym is-formed.ensures ∙ if2.false) in
-    let l = rw count.ensures at if3.false in
-    let u = sym is-used.ensures ∙ if4.false in
+    rw (← in_use.ensures.0, ← (rw c.store-store.ensures.0 at count.ensures)) (sym is-formed.ensures ∙ if2.false) in
+    let l = rw (rw c.store-store.ensures.0 at count.ensures) at if3.false in
+    let u = sym (rw c.store-store.ensures.0 at is-used.ensures) ∙ if4.false in
     c.kept_by.ensures ∙ unify_says page names a.lent a.bound a.e a.actual b k l u unify-in.result
-    unify-in.ensures
+    (rw c.store-store.ensures.0 at unify-in.ensures)

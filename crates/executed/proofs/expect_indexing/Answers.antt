@@ -5,16 +5,16 @@ use Rattle.executed.proofs.expect_indexing.Goals as goal
 
 pub expect_index-requires : goal.expect_index-requires
 unfolding pad
-expect_index-requires c = rows.null
+expect_index-requires c = rw c.passed-unknown.ensures rows.null
 
 pub expect_index-requires-2 : goal.expect_index-requires-2
 unfolding pad
-expect_index-requires-2 c = rows.tuple
+expect_index-requires-2 c = rw c.passed-unknown.ensures rows.tuple
 
 pub expect_index-requires-3 : goal.expect_index-requires-3
 unfolding pad
-expect_index-requires-3 c = rows.element
+expect_index-requires-3 c = rw c.passed-element.ensures rows.element
 
 pub expect_index-requires-4 : goal.expect_index-requires-4
 unfolding pad
-expect_index-requires-4 c = rows.kept
+expect_index-requires-4 c = rw c.passed-kept.ensures rows.kept

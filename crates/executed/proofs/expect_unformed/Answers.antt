@@ -2,10 +2,8 @@
 use mathlib.Core.Path.{ap, ◌∙◌}
 use mathlib.Core.Bool.{true, false}
 use borrow.Author.Tests.{eq-eqb}
-use Rattle.refusals.specs.Numbers.{code_of}
 use Rattle.units.specs.Calls.{product_answer}
-use Rattle.units.specs.declared.Unit.{Unit}
-use Rattle.units.specs.declared.UnitResult.{UnitResult}
+use Rattle.refusals.specs.Numbers.{code_of}
 use Rattle.executed.proofs.Wide.{form_five, left_five, right_five}
 use Rattle.executed.proofs.expect_unformed.Goals as goal
 
@@ -15,12 +13,10 @@ expect-requires c = eq-eqb c.code.result 5 (c.code.ensures ∙ ap code_of c.unit
 pub expect-requires-2 : goal.expect-requires-2
 expect-requires-2 c =
     eq-eqb c.code-2.result 5
-    (c.code-2.ensures ∙ ap (λ (r : UnitResult). code_of r.verdict) c.product-product.ensures
-    ∙ left_five c.args.u c.requires false c.power-metre.result)
+    (c.code-2.ensures ∙ ap code_of c.product-product.ensures ∙ left_five c.args.u c.requires false c.power-metre.result)
 
 pub expect-requires-3 : goal.expect-requires-3
 expect-requires-3 c =
     let u = c.args.u in
-    let on : Unit → UnitResult = λ m. product_answer true m u in
-    let e = c.product-quotient.ensures ∙ ap on c.power-metre.ensures in
-    eq-eqb c.code-3.result 5 (c.code-3.ensures ∙ ap (λ (r : UnitResult). code_of r.verdict) e ∙ right_five u c.requires true)
+    let e = c.product-quotient.ensures ∙ ap (λ m. product_answer true m u) c.power-metre.ensures in
+    eq-eqb c.code-3.result 5 (c.code-3.ensures ∙ ap code_of e ∙ right_five u c.requires true)

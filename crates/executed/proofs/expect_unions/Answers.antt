@@ -5,7 +5,7 @@ use Rattle.executed.proofs.expect_unions.Goals as goal
 
 pub expect_binary-requires : goal.expect_binary-requires
 unfolding pad
-expect_binary-requires c = rows.member
+expect_binary-requires c = rw c.passed-one_fails.ensures rows.member
 
 pub expect_binary-requires-2 : goal.expect_binary-requires-2
 unfolding pad
@@ -13,4 +13,4 @@ expect_binary-requires-2 c = rows.limit
 
 pub expect_unary-requires : goal.expect_unary-requires
 unfolding pad
-expect_unary-requires c = rows.negated
+expect_unary-requires c = rw c.passed-union.ensures rows.negated

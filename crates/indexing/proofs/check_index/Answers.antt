@@ -8,7 +8,7 @@ kind_of-requires c =
     let a = c.args in
     let pre = c.requires in
     let t = c.in-Known.is in
-    record { held = pre.measured.held; t_bound = known_in_use a.page.now _ (rw t at pre.target_value.0) }
+    rw c.store.ensures.0 (known_in_use a.page.now _ (rw t at pre.target_value.0))
 
 pub check_index_any-requires : goal.check_index_any-requires
 check_index_any-requires c =
@@ -21,7 +21,7 @@ pub returns-then-is_union : goal.returns-then-is_union
 returns-then-is_union c =
     let a = c.args in
     let t = c.in-Known.is in
-    let u = rw c.kind_of.ensures at (sym c.is_union.ensures ∙ c.if-is_union.true) in
+    let u = rw (c.kind_of.ensures, c.store.ensures.0) at (sym c.is_union.ensures ∙ c.if-is_union.true) in
     let any = c.check_index_any.ensures in
     record { page_after = rw t (any.page_after ∙ index_union a.page.now a.key _ u); measured_2 = any.measured_2; noted_2 = any.noted_2 }
 
@@ -30,25 +30,26 @@ check_index_target-requires c =
     let a = c.args in
     let pre = c.requires in
     let t = c.in-Known.is in
-    record { held = pre.measured.held; t_bound = (known_in_use a.page.now _ (rw t at pre.target_value.0), pre.target_value.1); noted = pre.noted }
+    rw c.store-in-Known.ensures.0 record { t_bound = (known_in_use a.page.now _ (rw t at pre.target_value.0), pre.target_value.1); noted = pre.noted }
 
 pub returns-in-Unknown : goal.returns-in-Unknown
 returns-in-Unknown c =
     let a = c.args in
     let same = index_unknown a.page.now a.key in
-    record { page_after = rw (c.in-Unknown.is, c.unknown.ensures, c.no_error.ensures) same; measured_2 = c.requires.measured; noted_2 = c.requires.noted }
+    record { page_after = rw (c.in-Unknown.is, c.unknown.ensures) same; measured_2 = c.requires.measured; noted_2 = c.requires.noted }
 
 pub returns-in-Function : goal.returns-in-Function
 returns-in-Function c =
     let a = c.args in
     let same = index_function a.page.now a.key _ in
-    record { page_after = rw (c.in-Function.is, c.unknown-in-Function.ensures, c.one_error.ensures) same; measured_2 = c.requires.measured; noted_2 = c.requires.noted }
+    record { page_after = rw (c.in-Function.is, c.unknown-in-Function.ensures) same; measured_2 = c.requires.measured; noted_2 = c.requires.noted }
 
 pub returns-else-is_union : goal.returns-else-is_union
 returns-else-is_union c =
     let a = c.args in
     let pre = c.requires in
     let t = c.in-Known.is in
-    let u = rw c.kind_of.ensures at (sym c.is_union.ensures ∙ c.if-is_union.false) in
+    let u = rw (c.kind_of.ensures, c.store.ensures.0) at (sym c.is_union.ensures ∙ c.if-is_union.false) in
     let index = c.check_index_target in
-    record { page_after = rw (t, index.ensures.value.0) (index_other a.page.now a.key _ u); measured_2 = pre.measured; noted_2 = index.ensures.noted_2 }
+    let e = rw c.store-in-Known.ensures.0 at index.ensures in
+    record { page_after = rw (t, e.value.0) (index_other a.page.now a.key _ u); measured_2 = pre.measured; noted_2 = e.noted_2 }

@@ -7,6 +7,7 @@ use Rattle.matching.proofs.Matching.{in_use_known}
 use Rattle.matching.proofs.Parts.{two_children}
 use Rattle.indexing.proofs.Targets.{target_element, target_value, target_unknown, target_none, element_there, target_is}
 use borrow.Author.Rules.{rules}
+use Rattle.types.proofs.Types.{held_by}
 use Rattle.indexing.proofs.check_index_target.Goals as goal
 
 pub child_of-requires : goal.child_of-requires
@@ -15,7 +16,7 @@ child_of-requires c =
     let pre = c.requires in
     let kind = c.kind_of-kind.ensures in
     let e = rw kind at (sym c.has_elements.ensures ∙ c.if-has_elements.true) in
-    record { held = pre.held; t_bound = (pre.t_bound.0, element_there a.page.now pre.held.sound a.t pre.t_bound.0 e) }
+    (pre.t_bound.0, element_there a.store.page.now (held_by c.args.store.held).sound a.t pre.t_bound.0 e)
 
 pub returns-then-has_elements : goal.returns-then-has_elements
 returns-then-has_elements c =
@@ -23,8 +24,8 @@ returns-then-has_elements c =
     let pre = c.requires in
     let kind = c.kind_of-kind.ensures in
     let e = rw kind at (sym c.has_elements.ensures ∙ c.if-has_elements.true) in record {
-      value = target_is a.page.now pre.held.sound a.t pre.t_bound.0 a.key _
-          (c.known.ensures ∙ rw c.child_of.ensures.0 (target_element a.page.now a.key a.t e));
+      value = target_is a.store.page.now (held_by c.args.store.held).sound a.t pre.t_bound.0 a.key _
+          (c.known.ensures ∙ rw c.child_of.ensures.0 (target_element a.store.page.now a.key a.t e));
       noted_2 = pre.noted;
     }
 
@@ -34,7 +35,7 @@ child_of-wanted-requires c =
     let pre = c.requires in
     let kind = c.kind_of-kind.ensures in
     let m = rw kind at (sym c.is_map.ensures ∙ c.if-is_map.true) in
-    record { held = pre.held; t_bound = (pre.t_bound.0, omega (arith, two_children a.page.now pre.held.sound a.t pre.t_bound.0 m)) }
+    (pre.t_bound.0, omega (arith, two_children a.store.page.now (held_by c.args.store.held).sound a.t pre.t_bound.0 m))
 
 pub child_of-value-requires : goal.child_of-value-requires
 child_of-value-requires c =
@@ -42,16 +43,16 @@ child_of-value-requires c =
     let pre = c.requires in
     let kind = c.kind_of-kind.ensures in
     let m = rw kind at (sym c.is_map.ensures ∙ c.if-is_map.true) in
-    record { held = pre.held; t_bound = (pre.t_bound.0, omega (arith, two_children a.page.now pre.held.sound a.t pre.t_bound.0 m)) }
+    (pre.t_bound.0, omega (arith, two_children a.store.page.now (held_by c.args.store.held).sound a.t pre.t_bound.0 m))
 
 pub matches-requires : goal.matches-requires
 matches-requires c =
     let a = c.args in
     let pre = c.requires in
     let wanted = c.child_of-wanted in
-    let w : in_use a.page.now (Known wanted.result) ≡ true =
-    in_use_known a.page.now wanted.result (omega (arith, wanted.ensures.1, pre.t_bound.0)) in
-    record { held = pre.held; actual_value = search rules; noted = pre.noted }
+    let w : in_use a.store.page.now (Known wanted.result) ≡ true =
+    in_use_known a.store.page.now wanted.result (omega (arith, wanted.ensures.1, pre.t_bound.0)) in
+    record { actual_value = search rules; noted = pre.noted }
 
 pub returns-then-matches : goal.returns-then-matches
 returns-then-matches c =
@@ -62,8 +63,8 @@ returns-then-matches c =
     let e = rw kind at (sym c.has_elements.ensures ∙ c.if-has_elements.false) in
     let m = rw kind at (sym c.is_map.ensures ∙ c.if-is_map.true) in
     let h = rw c.child_of-wanted.ensures.0 at (sym matched.value ∙ c.if-matches.true) in
-    let v = target_value a.page.now a.key a.t e m true h in record {
-      value = target_is a.page.now pre.held.sound a.t pre.t_bound.0 a.key _
+    let v = target_value a.store.page.now a.key a.t e m true h in record {
+      value = target_is a.store.page.now (held_by c.args.store.held).sound a.t pre.t_bound.0 a.key _
           (c.known-then-matches.ensures ∙ rw c.child_of-value.ensures.0 v);
       noted_2 = matched.noted_2;
     }
@@ -77,9 +78,9 @@ returns-then-is_map c =
     let e = rw kind at (sym c.has_elements.ensures ∙ c.if-has_elements.false) in
     let m = rw kind at (sym c.is_map.ensures ∙ c.if-is_map.true) in
     let h = rw c.child_of-wanted.ensures.0 at (sym matched.value ∙ c.if-matches.false) in
-    let v = target_value a.page.now a.key a.t e m false h in record {
-      value = target_is a.page.now pre.held.sound a.t pre.t_bound.0 a.key _
-          (rw (c.one_error.ensures, c.child_of-value.ensures.0) v);
+    let v = target_value a.store.page.now a.key a.t e m false h in record {
+      value = target_is a.store.page.now (held_by c.args.store.held).sound a.t pre.t_bound.0 a.key _
+          (rw c.child_of-value.ensures.0 v);
       noted_2 = matched.noted_2;
     }
 
@@ -91,8 +92,8 @@ returns-then-is_unknown c =
     let e = rw kind at (sym c.has_elements.ensures ∙ c.if-has_elements.false) in
     let m = rw kind at (sym c.is_map.ensures ∙ c.if-is_map.false) in
     let n = rw kind at (sym c.is_unknown.ensures ∙ c.if-is_unknown.true) in record {
-      value = target_is a.page.now pre.held.sound a.t pre.t_bound.0 a.key _
-          (c.unknown.ensures ∙ rw c.no_error.ensures (target_unknown a.page.now a.key a.t e m n));
+      value = target_is a.store.page.now (held_by c.args.store.held).sound a.t pre.t_bound.0 a.key _
+          (c.unknown.ensures ∙ target_unknown a.store.page.now a.key a.t e m n);
       noted_2 = pre.noted;
     }
 
@@ -104,7 +105,7 @@ returns c =
     let e = rw kind at (sym c.has_elements.ensures ∙ c.if-has_elements.false) in
     let m = rw kind at (sym c.is_map.ensures ∙ c.if-is_map.false) in
     let n = rw kind at (sym c.is_unknown.ensures ∙ c.if-is_unknown.false) in record {
-      value = target_is a.page.now pre.held.sound a.t pre.t_bound.0 a.key _
-          (c.unknown-2.ensures ∙ rw c.one_error-2.ensures (target_none a.page.now a.key a.t e m n));
+      value = target_is a.store.page.now (held_by c.args.store.held).sound a.t pre.t_bound.0 a.key _
+          (c.unknown-2.ensures ∙ target_none a.store.page.now a.key a.t e m n);
       noted_2 = pre.noted;
     }

@@ -1,10 +1,15 @@
-use Rattle.kinds.proofs.Const.{matches_above, matches_below}
+use Rattle.std.proofs.Common.{rules}
+use Rattle.kinds.specs.Kinds.{const_matches}
 use Rattle.kinds.proofs.const_matches.Goals as goal
 
 pub returns-then-a-b : goal.returns-then-a-b
-returns-then-a-b c =
-    rw c.is_plain.ensures (matches_above c.args.a c.args.b c.if-a-b.true)
+unfolding const_matches
+returns-then-a-b c = search rules
 
-pub returns : goal.returns
-returns c =
-    rw (c.is_plain-2.ensures, c.is_within.ensures) (matches_below c.args.a c.args.b c.if-a-b.false)
+pub returns-then-matches : goal.returns-then-matches
+unfolding const_matches
+returns-then-matches c = search rules
+
+pub returns-else-matches : goal.returns-else-matches
+unfolding const_matches
+returns-else-matches c = search rules

@@ -1,24 +1,23 @@
-use mathlib.Core.Path.{sym, ◌∙◌}
-use borrow.Author.Tests.{eq-eqb, ne_eqb}
+use Rattle.std.proofs.Common.{rules}
 use Rattle.kinds.specs.Kinds.{fewest}
 use Rattle.kinds.proofs.fewest.Goals as goal
 
-pub returns-then-is_within : goal.returns-then-is_within
+pub returns-in-25-to-26 : goal.returns-in-25-to-26
 unfolding fewest
-returns-then-is_within c = rw (sym c.is_within.ensures ∙ c.if-is_within.true)
+returns-in-25-to-26 c = search rules
 
-pub returns-then-is_within-2 : goal.returns-then-is_within-2
+pub returns-in_default : goal.returns-in_default
 unfolding fewest
-returns-then-is_within-2 c = rw (sym c.is_within.ensures ∙ c.if-is_within.false, sym c.is_within-2.ensures ∙ c.if-is_within-2.true)
+returns-in_default c = search rules
 
-pub returns-then-k-eq-CALLBACK : goal.returns-then-k-eq-CALLBACK
+pub returns-in_default-2 : goal.returns-in_default-2
 unfolding fewest
-returns-then-k-eq-CALLBACK c =
-    let is_Within = c.is_within in
-    rw (sym is_Within.ensures ∙ c.if-is_within.false, sym c.is_within-2.ensures ∙ c.if-is_within-2.false, eq-eqb c.args.k 31 c.if-k-eq-CALLBACK.true)
+returns-in_default-2 c = search rules
 
-pub returns : goal.returns
+pub returns-in-19-to-24 : goal.returns-in-19-to-24
 unfolding fewest
-returns c =
-    let is_Within = c.is_within in
-    rw (sym is_Within.ensures ∙ c.if-is_within.false, sym c.is_within-2.ensures ∙ c.if-is_within-2.false, ne_eqb c.args.k 31 c.if-k-eq-CALLBACK.false)
+returns-in-19-to-24 c = search rules
+
+pub returns-in-19-to-24-2 : goal.returns-in-19-to-24-2
+unfolding fewest
+returns-in-19-to-24-2 c = search rules

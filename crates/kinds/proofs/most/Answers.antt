@@ -1,27 +1,23 @@
-use mathlib.Core.Path.{sym, ◌∙◌}
-use native.Mathlib.Omega.{arith}
+use Rattle.std.proofs.Common.{rules}
 use Rattle.kinds.specs.Kinds.{most}
 use Rattle.kinds.proofs.most.Goals as goal
 
-pub returns-then-is_within : goal.returns-then-is_within
+pub returns-in-25-to-26 : goal.returns-in-25-to-26
 unfolding most
-returns-then-is_within c = (rw (sym c.is_within.ensures ∙ c.if-is_within.true), omega arith)
+returns-in-25-to-26 c = search rules
 
-pub returns-then-is_within-2 : goal.returns-then-is_within-2
+pub returns-in_default : goal.returns-in_default
 unfolding most
-returns-then-is_within-2 c =
-    (rw (sym c.is_within.ensures ∙ c.if-is_within.false, sym c.is_within-2.ensures ∙ c.if-is_within-2.true), omega arith)
+returns-in_default c = search rules
 
-pub returns-then-is_within-3 : goal.returns-then-is_within-3
+pub returns-in_default-2 : goal.returns-in_default-2
 unfolding most
-returns-then-is_within-3 c =
-    let is_Within = c.is_within in
-    let if1 = c.if-is_within in
-    (rw (sym is_Within.ensures ∙ if1.false, sym c.is_within-2.ensures ∙ c.if-is_within-2.false, sym c.is_within-3.ensures ∙ c.if-is_within-3.true), omega arith)
+returns-in_default-2 c = search rules
 
-pub returns : goal.returns
+pub returns-in-19-to-24 : goal.returns-in-19-to-24
 unfolding most
-returns c =
-    let is_Within = c.is_within in
-    let if1 = c.if-is_within in
-    (rw (sym is_Within.ensures ∙ if1.false, sym c.is_within-2.ensures ∙ c.if-is_within-2.false, sym c.is_within-3.ensures ∙ c.if-is_within-3.false), omega arith)
+returns-in-19-to-24 c = search rules
+
+pub returns-in-27-to-31 : goal.returns-in-27-to-31
+unfolding most
+returns-in-27-to-31 c = search rules

@@ -1,25 +1,11 @@
-use mathlib.Core.Path.{refl}
-use Prim.Native.Nat.{◌*◌, ◌≤◌}
-use native.Mathlib.Nat.{mul-le-mul, le_of_lt}
-use native.Mathlib.Omega.{arith}
-use Rattle.types.specs.Store.{types_max}
+use Rattle.std.proofs.Common.{inr, refl, sym}
 use Rattle.marks.specs.Marks.{place}
-use Rattle.marks.proofs.place_of.Reads as reads
-use Rattle.marks.proofs.place_of.Lts as lts
 use Rattle.marks.proofs.place_of.Goals as goal
 
--- a row begins below so many
-begins : (c : lts.Start reads.Pre reads.Post) → c.args.row * (2 * c.args.n) ≤ types_max * (2 * types_max)
-begins c =
-    let wide : 2 * c.args.n ≤ 2 * types_max = omega (arith, c.requires.0) in
-    mul-le-mul (le_of_lt c.requires.1) wide
-
-pub overflow_mul-result-2 : goal.overflow_mul-result-2
-overflow_mul-result-2 c = omega (arith, begins c)
-
-pub overflow_add-result : goal.overflow_add-result
-overflow_add-result c = omega (arith, begins c, c.requires.0, c.requires.2)
+pub returns-then-place-table : goal.returns-then-place-table
+unfolding place
+returns-then-place-table c = inr (rw (sym c.room-columns.ensures.0) c.if-place-table.true)
 
 pub returns : goal.returns
 unfolding place
-returns c = refl
+returns c = let e = c.room-columns.ensures.0 in (rw e refl, rw e at c.if-column-columns.false, c.if-place-table.false)

@@ -1,24 +1,19 @@
-use mathlib.Core.Path.{refl}
-use native.Mathlib.Omega.{arith}
-use lib.ListN.{length}
-use borrow.Author.Tests.{lt-ltb, le-ltb}
+use Rattle.std.proofs.Common.{refl, length, lt-ltb, le-ltb, arith}
 use Rattle.marks.specs.Marks.{small_bytes, large_bytes, room}
 use Rattle.marks.proofs.room.Goals as goal
 
-pub returns-then-table-lt-SMALL_BYTES : goal.returns-then-table-lt-SMALL_BYTES
+pub returns-in-0-to-32767 : goal.returns-in-0-to-32767
 unfolding room
-returns-then-table-lt-SMALL_BYTES c =
-    let n = length c.args.table.now in
-    (rw (lt-ltb n small_bytes c.if-table-lt-SMALL_BYTES.true) refl, omega arith)
+returns-in-0-to-32767 c = (rw (lt-ltb (length c.args.table.now) small_bytes (omega arith)) refl, omega arith)
 
-pub returns-then-table-lt-LARGE_BYTES : goal.returns-then-table-lt-LARGE_BYTES
+pub returns-in-0-to-2097151 : goal.returns-in-0-to-2097151
 unfolding room
-returns-then-table-lt-LARGE_BYTES c =
+returns-in-0-to-2097151 c =
     let n = length c.args.table.now in
-    (rw (le-ltb n small_bytes c.if-table-lt-SMALL_BYTES.false, lt-ltb n large_bytes c.if-table-lt-LARGE_BYTES.true) refl, omega arith)
+    (rw (le-ltb n small_bytes (omega arith), lt-ltb n large_bytes (omega arith)) refl, omega arith)
 
-pub returns-else-table-lt-LARGE_BYTES : goal.returns-else-table-lt-LARGE_BYTES
+pub returns-in_default : goal.returns-in_default
 unfolding room
-returns-else-table-lt-LARGE_BYTES c =
+returns-in_default c =
     let n = length c.args.table.now in
-    (rw (le-ltb n small_bytes c.if-table-lt-SMALL_BYTES.false, le-ltb n large_bytes c.if-table-lt-LARGE_BYTES.false) refl, omega arith)
+    (rw (le-ltb n small_bytes (omega arith), le-ltb n large_bytes (omega arith)) refl, omega arith)

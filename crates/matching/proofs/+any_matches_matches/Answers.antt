@@ -1,6 +1,6 @@
 use mathlib.Core.Path.{◌≡◌, sym, ◌∙◌}
 use mathlib.Core.Bool.{true, false}
-use Prim.Native.Nat.{ℕ, ◌+◌, ◌≤◌, ◌<◌}
+use Prim.Native.Nat.{ℕ, ◌<◌}
 use native.Mathlib.Omega.{arith}
 use Rattle.pages.proofs.Quant.{any_none, all_none, any_more, all_more}
 use Rattle.kinds.specs.Kinds.{is_union}
@@ -10,137 +10,153 @@ use Rattle.matching.specs.Memo.{has_partner, member_of}
 use mathlib.Core.List.{List}
 use Rattle.matching.specs.declared.Checked.{Checked}
 use Rattle.matching.specs.declared.Checked.TheVariants.{Known}
-use Rattle.matching.proofs.Memo.{in_use_small, recalled, noted_found, noted_refuting, found_union}
+use Rattle.matching.proofs.Memo.{in_use_small, stored_small, recalled, noted_found, noted_refuting, found_union}
 use Rattle.matching.proofs.Matching.{stands, stands_so, partner_met, partner_missed, refuted_so, any_no, all_met, one_alone, known_in_use, in_use_known, to_unknown, from_unknown, to_function, from_function, to_known, known_free, known_any, known_plain, none_partner}
+use Rattle.types.proofs.Types.{held_by}
 use Rattle.matching.proofs.+any_matches_matches.Goals as goal
-use Rattle.matching.proofs.+any_matches_matches.Goals.{any_matches-then-not-is_refuted+else-matches, any_matches-else-not-is_refuted, any_matches-then-not-recalls+else-recalls+else-j-expected+then-not-is_refuted+then-matches, any_matches-else-not-recalls, any_matches-else-members-test, any_matches-then-members-test+then-not-recalls+then-recalls, any_matches-then-members-test+then-not-recalls+else-recalls+then-j-expected}
+use Rattle.matching.proofs.+any_matches_matches.Goals.{any_matches-else-not-is_refuted-via-then-not-is_refuted+else-matches, any_matches-else-not-is_refuted-via-else-not-is_refuted}
 
 pub any_matches-returns-then-not-is_union : goal.any_matches-returns-then-not-is_union
 any_matches-returns-then-not-is_union t c =
-    let u : is_union (kind_of c.args.page.now c.args.b) ≡ false = rw (← c.kind_of.ensures) (sym c.is_union.ensures ∙ c.if-not-is_union.true) in
-    (any_no c.args.page.now c.args.a c.args.b u, c.requires.held.1)
+    let u : is_union (kind_of c.args.store.page.now c.args.b) ≡ false = rw (← c.kind_of.ensures) (sym c.is_union.ensures ∙ c.if-not-is_union.true) in
+    (any_no c.args.store.page.now c.args.a c.args.b u, c.requires.noted)
 
 pub any_matches-members-init : goal.any_matches-members-init
-any_matches-members-init t c = (omega arith, c.requires.held.1, all_none _)
+any_matches-members-init t c = (c.requires.noted, all_none _)
 
 pub any_matches-recalls-requires : goal.any_matches-recalls-requires
 any_matches-recalls-requires t c =
-    let um : c.member_of-m.result < types_in c.args.page.now = omega (arith, c.member_of-m.ensures.1, c.requires.a_bound.0) in
-    let small = in_use_small c.args.page.now c.requires.held.0.sound in
-    (small c.member_of-m.result um, small c.args.b c.requires.a_bound.1)
-
-pub any_matches-recalls-requires-then-not-recalls : goal.any_matches-recalls-requires-then-not-recalls
-any_matches-recalls-requires-then-not-recalls t c =
-    let um : c.member_of-m.result < types_in c.args.page.now = omega (arith, c.member_of-m.ensures.1, c.requires.a_bound.0) in
-    let small = in_use_small c.args.page.now c.requires.held.0.sound in
+    let um : c.member_of-m.result < types_in c.args.store.page.now = omega (arith, c.member_of-m.ensures.1, c.requires.a_bound.0) in
+    let small = stored_small c.args.store.held in
     (small c.member_of-m.result um, small c.args.b c.requires.a_bound.1)
 
 pub any_matches-loop-j-init : goal.any_matches-loop-j-init
-any_matches-loop-j-init t c = (omega arith, c.members.invariant.1, any_none _)
+any_matches-loop-j-init t c = (c.members.invariant.0, any_none _)
 
 pub any_matches-note-requires : goal.any_matches-note-requires
 any_matches-note-requires t c =
-    let um : c.member_of-m.result < types_in c.args.page.now = omega (arith, c.member_of-m.ensures.1, c.requires.a_bound.0) in
-    let small = in_use_small c.args.page.now c.requires.held.0.sound in
+    let um : c.member_of-m.result < types_in c.args.store.page.now = omega (arith, c.member_of-m.ensures.1, c.requires.a_bound.0) in
+    let small = stored_small c.args.store.held in
     (small c.member_of-m.result um, small c.args.b c.requires.a_bound.1)
 
-pub any_matches-child_of-e-requires-clause-t_bound : goal.any_matches-child_of-e-requires-clause-t_bound
-any_matches-child_of-e-requires-clause-t_bound t c =
-    (c.requires.a_bound.1, omega (arith, c.loop-j.invariant.0, c.if-j-expected.false, c.arity-expected.ensures.0))
+pub any_matches-child_of-e-requires : goal.any_matches-child_of-e-requires
+any_matches-child_of-e-requires t c =
+    (c.requires.a_bound.1, omega (arith, c.loop-j-test.true, c.arity-j-end.ensures.0))
 
 pub any_matches-matches-requires : goal.any_matches-matches-requires
 any_matches-matches-requires t c =
-    let page = c.args.page.now in
+    let page = c.args.store.page.now in
     let e = c.child_of-e in
     let used : e.result < types_in page = omega (arith, e.ensures.1, c.requires.a_bound.1) in
-    let um : c.member_of-m.result < types_in c.args.page.now = omega (arith, c.member_of-m.ensures.1, c.requires.a_bound.0) in (
+    let um : c.member_of-m.result < types_in c.args.store.page.now = omega (arith, c.member_of-m.ensures.1, c.requires.a_bound.0) in (
       omega (arith, c.decreases, e.ensures.1),
-      (c.requires.held.0, ((in_use_known page c.member_of-m.result um, in_use_known page e.result used), c.loop-j.invariant.1)),
+      (((in_use_known page c.member_of-m.result um, in_use_known page e.result used), c.loop-j.invariant.0)),
     )
 
-pub any_matches-loop-j-preserved : goal.any_matches-loop-j-preserved
-any_matches-loop-j-preserved t c =
-    let page = c.args.page.now in
-    let l = c.loop-j in
+pub any_matches-members-preserved-then-recalls : goal.any_matches-members-preserved-then-recalls
+any_matches-members-preserved-then-recalls t c =
+    let page = c.args.store.page.now in
+    let a = c.args.a in
+    let b = c.args.b in
+    let s = c.members in
     let m = c.member_of-m.result in
-    let e = c.child_of-e in
-    let more = any_more (stands page m c.args.b) l.j l.invariant.2 in
-    let below : l.j + 1 ≤ c.arity-expected.result = omega (arith, l.invariant.0, c.if-j-expected.false) in
-    let used : e.result < types_in page = omega (arith, e.ensures.1, c.requires.a_bound.1) in
-    let um : c.member_of-m.result < types_in c.args.page.now = omega (arith, c.member_of-m.ensures.1, c.requires.a_bound.0) in
-    elim c.if-not-is_refuted.branch [
-      | any_matches-then-not-is_refuted+else-matches w ↦
-          (below, rw w.memo-is w.matches.ensures.noted_2, more (stands_so page m c.args.b l.j e.result w.matches.result false e.ensures.0 w.matches.ensures.value w.if-matches.false))
-      | any_matches-else-not-is_refuted w ↦
-          let r = refuted_so page c.requires.held.0.sound l.memo l.invariant.1 m um e.result used (sym c.is_refuted.ensures ∙ w.if-not-is_refuted.false) in
-          (below, rw w.memo-is l.invariant.1, more (rw (← e.ensures.0) r))
-    ]
+    let ub : is_union (kind_of page b) ≡ true = (rw (← c.kind_of.ensures) (sym c.is_union.ensures ∙ c.if-not-is_union.false)) in
+    let r = recalled page s.memo s.invariant.0 m b true c.recalls.result c.recalls.ensures c.if-recalls.true in
+    (s.invariant.0, all_more (λ k. has_partner page (member_of page a k) b) s.i s.invariant.1 (rw (← c.member_of-m.ensures.0) (sym (found_union page m b ub) ∙ r)))
 
-pub any_matches-note-requires-then-not-recalls : goal.any_matches-note-requires-then-not-recalls
-any_matches-note-requires-then-not-recalls t c =
-    let um : c.member_of-m.result < types_in c.args.page.now = omega (arith, c.member_of-m.ensures.1, c.requires.a_bound.0) in
-    let small = in_use_small c.args.page.now c.requires.held.0.sound in
+pub any_matches-recalls-requires-in-members : goal.any_matches-recalls-requires-in-members
+any_matches-recalls-requires-in-members t c =
+    let um : c.member_of-m.result < types_in c.args.store.page.now = omega (arith, c.member_of-m.ensures.1, c.requires.a_bound.0) in
+    let small = stored_small c.args.store.held in
     (small c.member_of-m.result um, small c.args.b c.requires.a_bound.1)
+
+pub any_matches-returns-then-recalls-2 : goal.any_matches-returns-then-recalls-2
+any_matches-returns-then-recalls-2 t c =
+    let page = c.args.store.page.now in
+    let a = c.args.a in
+    let b = c.args.b in
+    let s = c.members in
+    let n = c.members_of-i-end in
+    let m = c.member_of-m.result in
+    let ub : is_union (kind_of page b) ≡ true = (rw (← c.kind_of.ensures) (sym c.is_union.ensures ∙ c.if-not-is_union.false)) in
+    let r = recalled page s.memo s.invariant.0 m b false c.recalls-in-members.result c.recalls-in-members.ensures c.if-recalls-2.true in
+    (one_alone page a b ub n.result n.ensures s.i c.members-test.true (rw (← c.member_of-m.ensures.0) (sym (found_union page m b ub) ∙ r)), s.invariant.0)
 
 pub any_matches-members-preserved : goal.any_matches-members-preserved
 any_matches-members-preserved t c =
-    let page = c.args.page.now in
+    let page = c.args.store.page.now in
     let a = c.args.a in
     let b = c.args.b in
     let s = c.members in
     let m = c.member_of-m.result in
+    let j = c.loop-j.j in
     let ub : is_union (kind_of page b) ≡ true = (rw (← c.kind_of.ensures) (sym c.is_union.ensures ∙ c.if-not-is_union.false)) in
-    let um : c.member_of-m.result < types_in c.args.page.now = omega (arith, c.member_of-m.ensures.1, c.requires.a_bound.0) in
-    let more = all_more (λ k. has_partner page (member_of page a k) b) s.i s.invariant.2 in
-    let next : s.i + 1 ≤ c.members_of-actual.result = omega (arith, c.members-test.true) in
-    elim c.if-not-recalls.branch [
-      | any_matches-then-not-recalls+else-recalls+else-j-expected+then-not-is_refuted+then-matches w ↦
-          let below : w.loop-j.j < arity page b = omega (arith, w.loop-j.invariant.0, w.if-j-expected.false, c.arity-expected.ensures.0) in
-          let met = partner_met page m b w.loop-j.j below
-          (stands_so page m b w.loop-j.j w.child_of-e.result w.matches.result true w.child_of-e.ensures.0 w.matches.ensures.value w.if-matches.true) in
-          let noted = noted_found page w.matches.new.memo w.matches.ensures.noted_2 m b true um c.requires.a_bound.1 (sym (found_union page m b ub ∙ met)) in
-          (next, rw w.memo-is (rw w.note-then-not-recalls.ensures noted), more (rw (← c.member_of-m.ensures.0) met))
-      | any_matches-else-not-recalls w ↦
-          let r = recalled page s.memo s.invariant.1 m b true c.recalls.result c.recalls.ensures w.if-not-recalls.false in
-          (next, rw w.memo-is s.invariant.1, more (rw (← c.member_of-m.ensures.0) (sym (found_union page m b ub) ∙ r)))
+    let um : m < types_in page = omega (arith, c.member_of-m.ensures.1, c.requires.a_bound.0) in
+    let below : j < arity page b = omega (arith, c.loop-j-test.true, c.arity-j-end.ensures.0) in
+    let met = partner_met page m b j below
+    (stands_so page m b j c.child_of-e.result c.matches.result true c.child_of-e.ensures.0 c.matches.ensures.value c.if-matches.true) in
+    let noted = noted_found page c.matches.new.memo c.matches.ensures.noted_2 m b true um c.requires.a_bound.1 (sym (found_union page m b ub ∙ met)) in
+    (rw c.note.ensures noted, all_more (λ k. has_partner page (member_of page a k) b) s.i s.invariant.1 (rw (← c.member_of-m.ensures.0) met))
+
+pub any_matches-loop-j-preserved : goal.any_matches-loop-j-preserved
+any_matches-loop-j-preserved t c =
+    let page = c.args.store.page.now in
+    let l = c.loop-j in
+    let m = c.member_of-m.result in
+    let e = c.child_of-e in
+    let more = any_more (stands page m c.args.b) l.j l.invariant.1 in
+    let used : e.result < types_in page = omega (arith, e.ensures.1, c.requires.a_bound.1) in
+    let um : m < types_in page = omega (arith, c.member_of-m.ensures.1, c.requires.a_bound.0) in
+    elim c.else-not-is_refuted.branch [
+      | any_matches-else-not-is_refuted-via-then-not-is_refuted+else-matches w ↦
+          (rw w.memo-is w.matches.ensures.noted_2, more (stands_so page m c.args.b l.j e.result w.matches.result false e.ensures.0 w.matches.ensures.value w.if-matches.false))
+      | any_matches-else-not-is_refuted-via-else-not-is_refuted w ↦
+          let r = refuted_so page (held_by c.args.store.held).sound l.memo l.invariant.0 m um e.result used (sym c.is_refuted.ensures ∙ w.if-not-is_refuted.false) in
+          (rw w.memo-is l.invariant.0, more (rw (← e.ensures.0) r))
     ]
 
-pub any_matches-returns : goal.any_matches-returns
-any_matches-returns t c =
-    let page = c.args.page.now in
+pub any_matches-note-requires-in-members : goal.any_matches-note-requires-in-members
+any_matches-note-requires-in-members t c =
+    let um : c.member_of-m.result < types_in c.args.store.page.now = omega (arith, c.member_of-m.ensures.1, c.requires.a_bound.0) in
+    let small = stored_small c.args.store.held in
+    (small c.member_of-m.result um, small c.args.b c.requires.a_bound.1)
+
+pub any_matches-returns-in-members : goal.any_matches-returns-in-members
+any_matches-returns-in-members t c =
+    let page = c.args.store.page.now in
     let a = c.args.a in
     let b = c.args.b in
     let s = c.members in
-    let n = c.members_of-actual in
+    let l = c.loop-j in
+    let n = c.members_of-i-end in
+    let m = c.member_of-m.result in
     let ub : is_union (kind_of page b) ≡ true = (rw (← c.kind_of.ensures) (sym c.is_union.ensures ∙ c.if-not-is_union.false)) in
-    let alone = one_alone page a b ub n.result n.ensures s.i in
-    elim c.members-test.branch [
-      | any_matches-else-members-test w ↦
-          (all_met page a b ub n.result n.ensures s.i (omega (arith, s.invariant.0, w.members-test.false)) s.invariant.2, rw w.memo-is s.invariant.1)
-      | any_matches-then-members-test+then-not-recalls+then-recalls w ↦
-          let m = w.member_of-m.result in
-          let r = recalled page s.memo s.invariant.1 m b false w.recalls-then-not-recalls.result w.recalls-then-not-recalls.ensures w.if-recalls.true in
-          (alone w.members-test.true (rw (← w.member_of-m.ensures.0) (sym (found_union page m b ub) ∙ r)), rw w.memo-is s.invariant.1)
-      | any_matches-then-members-test+then-not-recalls+else-recalls+then-j-expected w ↦
-          let m = w.member_of-m.result in
-          let um : m < types_in page = omega (arith, w.member_of-m.ensures.1, c.requires.a_bound.0) in
-          let missed = partner_missed page m b w.loop-j.j (w.if-j-expected.true ∙ c.arity-expected.ensures.0) w.loop-j.invariant.2 in
-          let noted = noted_found page w.loop-j.memo w.loop-j.invariant.1 m b false um c.requires.a_bound.1 (sym (found_union page m b ub ∙ missed)) in
-          (alone w.members-test.true (rw (← w.member_of-m.ensures.0) missed), rw w.memo-is (rw w.note.ensures noted))
-    ]
+    let um : m < types_in page = omega (arith, c.member_of-m.ensures.1, c.requires.a_bound.0) in
+    let all : l.j ≡ arity page b = omega (arith, l.auto.j-end, c.loop-j-test.false, c.arity-j-end.ensures.0) in
+    let missed = partner_missed page m b l.j all l.invariant.1 in
+    let noted = noted_found page l.memo l.invariant.0 m b false um c.requires.a_bound.1 (sym (found_union page m b ub ∙ missed)) in
+    (one_alone page a b ub n.result n.ensures s.i c.members-test.true (rw (← c.member_of-m.ensures.0) missed), rw c.note-in-members.ensures noted)
+
+pub any_matches-returns : goal.any_matches-returns
+any_matches-returns t c =
+    let page = c.args.store.page.now in
+    let s = c.members in
+    let n = c.members_of-i-end in
+    let ub : is_union (kind_of page c.args.b) ≡ true = (rw (← c.kind_of.ensures) (sym c.is_union.ensures ∙ c.if-not-is_union.false)) in
+    (all_met page c.args.a c.args.b ub n.result n.ensures s.i (omega (arith, s.auto.i-end, c.members-test.false)) s.invariant.1, s.invariant.0)
 
 pub matches-returns-in-Unknown-clause-value : goal.matches-returns-in-Unknown-clause-value
-matches-returns-in-Unknown-clause-value t c = rw c.in-Unknown.is (to_unknown c.args.page.now c.args.actual)
+matches-returns-in-Unknown-clause-value t c = rw c.in-Unknown.is (to_unknown c.args.store.page.now c.args.actual)
 
 pub matches-returns-in-Function : goal.matches-returns-in-Function
 matches-returns-in-Function t c = record {
-  value = rw c.in-Function.is (c.function_matches.ensures ∙ from_function c.args.page.now c.in-Function.f c.args.expected);
+  value = rw c.in-Function.is (c.function_matches.ensures ∙ from_function c.args.store.page.now c.in-Function.f c.args.expected);
   noted_2 = c.requires.noted;
 }
 
 pub matches-returns-in_default-actual-2 : goal.matches-returns-in_default-actual-2
 matches-returns-in_default-actual-2 t c = record {
-  value = from_unknown c.args.page.now c.args.actual c.args.expected c.in_default-actual.not-Function c.in_default-actual-2.not-Known;
+  value = from_unknown c.args.store.page.now c.args.actual c.args.expected c.in_default-actual.not-Function c.in_default-actual-2.not-Known;
   noted_2 = c.requires.noted;
 }
 
@@ -154,28 +170,28 @@ both_known page actual expected a b h p q =
 
 pub matches-known_for_function-requires : goal.matches-known_for_function-requires
 matches-known_for_function-requires t c =
-    let u : in_use c.args.page.now (Known c.in-Known.a) ≡ true = rw c.in-Known.is at c.requires.actual_value.0 in
-    record { held = c.requires.held; a_bound = known_in_use c.args.page.now c.in-Known.a u }
+    let u : in_use c.args.store.page.now (Known c.in-Known.a) ≡ true = rw c.in-Known.is at c.requires.actual_value.0 in
+    known_in_use c.args.store.page.now c.in-Known.a u
 
 pub matches-returns-in_default-expected : goal.matches-returns-in_default-expected
 matches-returns-in_default-expected t c = record {
-  value = rw c.in-Known.is (c.known_for_function.ensures ∙ to_function c.args.page.now c.in-Known.a c.args.expected c.in_default.not-Unknown c.in_default-expected.not-Known);
+  value = rw c.in-Known.is (c.known_for_function.ensures ∙ to_function c.args.store.page.now c.in-Known.a c.args.expected c.in_default.not-Unknown c.in_default-expected.not-Known);
   noted_2 = c.requires.noted;
 }
 
 pub matches-is_free-requires : goal.matches-is_free-requires
 matches-is_free-requires t c =
-    let page = c.args.page.now in
-    let f = c.requires.held.sound in
+    let page = c.args.store.page.now in
+    let f = (held_by c.args.store.held).sound in
     let a = c.in-Known.a in
     let b = c.in-Known-expected.b in
     let k = both_known page c.args.actual c.args.expected a b c.requires.actual_value c.in-Known.is c.in-Known-expected.is in
-    record { held = c.requires.held; a_bound = (k.0, k.1) }
+    (k.0, k.1)
 
 pub matches-returns-then-is_free : goal.matches-returns-then-is_free
 matches-returns-then-is_free t c =
-    let page = c.args.page.now in
-    let f = c.requires.held.sound in
+    let page = c.args.store.page.now in
+    let f = (held_by c.args.store.held).sound in
     let a = c.in-Known.a in
     let b = c.in-Known-expected.b in
     let k = both_known page c.args.actual c.args.expected a b c.requires.actual_value c.in-Known.is c.in-Known-expected.is in
@@ -184,27 +200,27 @@ matches-returns-then-is_free t c =
 
 pub matches-kind_of-requires : goal.matches-kind_of-requires
 matches-kind_of-requires t c =
-    let page = c.args.page.now in
-    let f = c.requires.held.sound in
+    let page = c.args.store.page.now in
+    let f = (held_by c.args.store.held).sound in
     let a = c.in-Known.a in
     let b = c.in-Known-expected.b in
     let k = both_known page c.args.actual c.args.expected a b c.requires.actual_value c.in-Known.is c.in-Known-expected.is in
-    record { held = c.requires.held; t_bound = k.1 }
+    k.1
 
 pub matches-find-requires : goal.matches-find-requires
 matches-find-requires t c =
-    let page = c.args.page.now in
-    let f = c.requires.held.sound in
+    let page = c.args.store.page.now in
+    let f = (held_by c.args.store.held).sound in
     let a = c.in-Known.a in
     let b = c.in-Known-expected.b in
     let k = both_known page c.args.actual c.args.expected a b c.requires.actual_value c.in-Known.is c.in-Known-expected.is in
     let u : is_union (kind_of page b) ≡ false = rw (← c.kind_of.ensures) (sym c.is_union.ensures ∙ c.if-not-is_union.true) in
-    record { held = c.requires.held; a_bound = (k.0, k.1, u); noted = c.requires.noted }
+    record { a_bound = (k.0, k.1, u); noted = c.requires.noted }
 
 pub matches-returns-then-not-is_union : goal.matches-returns-then-not-is_union
 matches-returns-then-not-is_union t c =
-    let page = c.args.page.now in
-    let f = c.requires.held.sound in
+    let page = c.args.store.page.now in
+    let f = (held_by c.args.store.held).sound in
     let a = c.in-Known.a in
     let b = c.in-Known-expected.b in
     let k = both_known page c.args.actual c.args.expected a b c.requires.actual_value c.in-Known.is c.in-Known-expected.is in
@@ -214,18 +230,18 @@ matches-returns-then-not-is_union t c =
 
 pub matches-any_matches-requires : goal.matches-any_matches-requires
 matches-any_matches-requires t c =
-    let page = c.args.page.now in
-    let f = c.requires.held.sound in
+    let page = c.args.store.page.now in
+    let f = (held_by c.args.store.held).sound in
     let a = c.in-Known.a in
     let b = c.in-Known-expected.b in
     let k = both_known page c.args.actual c.args.expected a b c.requires.actual_value c.in-Known.is c.in-Known-expected.is in
     let w = rw c.in-Known-expected.is at c.decreases in
-    (omega (arith, w), ((c.requires.held, c.requires.noted), (k.0, k.1)))
+    (omega (arith, w), (c.requires.noted, (k.0, k.1)))
 
 pub matches-returns-then-any_matches : goal.matches-returns-then-any_matches
 matches-returns-then-any_matches t c =
-    let page = c.args.page.now in
-    let f = c.requires.held.sound in
+    let page = c.args.store.page.now in
+    let f = (held_by c.args.store.held).sound in
     let a = c.in-Known.a in
     let b = c.in-Known-expected.b in
     let k = both_known page c.args.actual c.args.expected a b c.requires.actual_value c.in-Known.is c.in-Known-expected.is in
@@ -237,8 +253,8 @@ matches-returns-then-any_matches t c =
 
 pub matches-refute-requires : goal.matches-refute-requires
 matches-refute-requires t c =
-    let page = c.args.page.now in
-    let f = c.requires.held.sound in
+    let page = c.args.store.page.now in
+    let f = (held_by c.args.store.held).sound in
     let a = c.in-Known.a in
     let b = c.in-Known-expected.b in
     let k = both_known page c.args.actual c.args.expected a b c.requires.actual_value c.in-Known.is c.in-Known-expected.is in
@@ -246,8 +262,8 @@ matches-refute-requires t c =
 
 pub matches-returns : goal.matches-returns
 matches-returns t c =
-    let page = c.args.page.now in
-    let f = c.requires.held.sound in
+    let page = c.args.store.page.now in
+    let f = (held_by c.args.store.held).sound in
     let a = c.in-Known.a in
     let b = c.in-Known-expected.b in
     let k = both_known page c.args.actual c.args.expected a b c.requires.actual_value c.in-Known.is c.in-Known-expected.is in

@@ -1,6 +1,5 @@
 use mathlib.Core.Path.{◌≡◌}
 use mathlib.Core.Bool.{true}
-use Prim.Native.Nat.{◌-◌, ◌≤◌}
 use Rattle.pages.specs.Quant.{all_to}
 use Rattle.matching.specs.Matching.{null_array_elision}
 use Rattle.marks.specs.Marks.{Noted}
@@ -13,7 +12,4 @@ decreases-null_array_elision l = l.a
 
 abbrev pub invariant-loop-i : goal.invariant-loop-i
 invariant-loop-i l =
-    (l.i ≤ l.n) × Noted (Found l.page) l.memo × (all_to l.i (elided l.page (null_array_elision l.page) l.a l.b) ≡ true)
-
-abbrev pub decreases-loop-i : goal.decreases-loop-i
-decreases-loop-i l = l.n - l.i
+    Noted (Found l.store.page.now) l.memo × (all_to l.i (elided l.store.page.now (null_array_elision l.store.page.now) l.a l.b) ≡ true)

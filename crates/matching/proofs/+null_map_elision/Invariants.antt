@@ -1,6 +1,5 @@
 use mathlib.Core.Path.{◌≡◌}
 use mathlib.Core.Bool.{true}
-use Prim.Native.Nat.{◌-◌, ◌≤◌}
 use Rattle.pages.specs.Quant.{all_to}
 use Rattle.matching.specs.Matching.{null_map_elision}
 use Rattle.marks.specs.Marks.{Noted}
@@ -13,7 +12,4 @@ decreases-null_map_elision l = l.a
 
 abbrev pub invariant-loop-i : goal.invariant-loop-i
 invariant-loop-i l =
-    (l.i ≤ 2) × Noted (Found l.page) l.memo × (all_to l.i (elided l.page (part_rule l.page (null_map_elision l.page)) l.a l.b) ≡ true)
-
-abbrev pub decreases-loop-i : goal.decreases-loop-i
-decreases-loop-i l = 2 - l.i
+    Noted (Found l.store.page.now) l.memo × (all_to l.i (elided l.store.page.now (part_rule l.store.page.now (null_map_elision l.store.page.now)) l.a l.b) ≡ true)

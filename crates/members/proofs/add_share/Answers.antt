@@ -3,6 +3,7 @@ use native.Mathlib.Omega.{arith}
 use Rattle.types.specs.Types.{arity}
 use Rattle.types.proofs.Types.{types_few}
 use Rattle.members.proofs.Flattening.{gathered_none, alone, share_size, share_room, share_more, share_all, share_place, share_itself}
+use Rattle.types.proofs.Types.{held_by}
 use Rattle.members.proofs.add_share.Goals as goal
 
 pub set_type-requires : goal.set_type-requires
@@ -12,8 +13,8 @@ set_type-requires c =
     let a = c.args in
     let pre = c.requires in
     let u = rw kind-of.ensures at (sym is_union.ensures ∙ c.if-not-is_union.true) in (
-      share_place a.page.now a.x u a.types.now a.n pre.x_in_bounds,
-      omega (arith, pre.x_bound, types_few a.page.now pre.held.sound),
+      share_place a.store.page.now a.x u a.types.now a.n pre.x_in_bounds,
+      omega (arith, pre.x_bound, types_few a.store.page.now (held_by c.args.store.held).sound),
     )
 
 pub returns-then-not-is_union : goal.returns-then-not-is_union
@@ -23,12 +24,12 @@ returns-then-not-is_union c =
     let if1 = c.if-not-is_union in
     let a = c.args in
     let u = rw kind-of.ensures at (sym is_union.ensures ∙ if1.true) in
-    rw c.set_type.ensures (share_itself a.page.now a.x u a.types.now a.n c.requires.x_in_bounds)
+    rw c.set_type.ensures (share_itself a.store.page.now a.x u a.types.now a.n c.requires.x_in_bounds)
 
 pub loop-i-init : goal.loop-i-init
 loop-i-init c =
     let a = c.args in
-    (omega arith, gathered_none (alone a.page.now a.x) a.types.now a.n)
+    gathered_none (alone a.store.page.now a.x) a.types.now a.n
 
 pub overflow_add-n : goal.overflow_add-n
 overflow_add-n c =
@@ -37,12 +38,12 @@ overflow_add-n c =
     let if1 = c.if-not-is_union in
     let a = c.args in
     let u = rw kind-of.ensures at (sym is_union.ensures ∙ if1.false) in
-    let size = share_size a.page.now a.x u a.types.now a.n c.requires.x_in_bounds in
+    let size = share_size a.store.page.now a.x u a.types.now a.n c.requires.x_in_bounds in
     omega (arith, c.requires.x_in_bounds, size, c.arity-k.ensures.0, c.loop-i-test.true)
 
 pub child_of-requires : goal.child_of-requires
 child_of-requires c =
-    record { held = c.requires.held; t_bound = (c.requires.x_bound, omega (arith, c.arity-k.ensures.0, c.loop-i-test.true)) }
+    (c.requires.x_bound, omega (arith, c.arity-k.ensures.0, c.loop-i-test.true))
 
 pub set_type-requires-in-loop-i : goal.set_type-requires-in-loop-i
 set_type-requires-in-loop-i c =
@@ -55,11 +56,11 @@ set_type-requires-in-loop-i c =
     let a = c.args in
     let pre = c.requires in
     let u = rw kind-of.ensures at (sym is_union.ensures ∙ if1.false) in
-    let size = share_size a.page.now a.x u a.types.now a.n pre.x_in_bounds in
-    let room = share_room a.page.now a.x u a.types.now a.n pre.x_in_bounds loop.i
+    let size = share_size a.store.page.now a.x u a.types.now a.n pre.x_in_bounds in
+    let room = share_room a.store.page.now a.x u a.types.now a.n pre.x_in_bounds loop.i
     (omega (arith, children.ensures.0, loop-test.true)) in (
-      rw loop.invariant.1 (omega (arith, room, size, pre.x_in_bounds, children.ensures.0, loop-test.true)),
-      omega (arith, c.child_of.ensures.1, pre.x_bound, types_few a.page.now pre.held.sound),
+      rw loop.invariant (omega (arith, room, size, pre.x_in_bounds, children.ensures.0, loop-test.true)),
+      omega (arith, c.child_of.ensures.1, pre.x_bound, types_few a.store.page.now (held_by c.args.store.held).sound),
     )
 
 pub loop-i-preserved : goal.loop-i-preserved
@@ -71,13 +72,11 @@ loop-i-preserved c =
     let if1 = c.if-not-is_union in
     let children = c.arity-k in
     let a = c.args in
-    let u = rw kind-of.ensures at (sym is_union.ensures ∙ if1.false) in (
-      omega (arith, loop-test.true),
-      c.set_type-in-loop-i.ensures
-          ∙ rw (loop.invariant.1, c.child_of.ensures.0)
-          (share_more a.page.now a.x u a.types.now a.n c.requires.x_in_bounds loop.i
-          (omega (arith, children.ensures.0, loop-test.true))),
-    )
+    let u = rw kind-of.ensures at (sym is_union.ensures ∙ if1.false) in
+    c.set_type-in-loop-i.ensures
+    ∙ rw (loop.invariant, c.child_of.ensures.0)
+    (share_more a.store.page.now a.x u a.types.now a.n c.requires.x_in_bounds loop.i
+    (omega (arith, children.ensures.0, loop-test.true)))
 
 pub overflow_add-result-2 : goal.overflow_add-result-2
 overflow_add-result-2 c =
@@ -89,7 +88,7 @@ overflow_add-result-2 c =
     omega (
       arith,
       c.requires.x_in_bounds,
-      share_size a.page.now a.x u a.types.now a.n c.requires.x_in_bounds,
+      share_size a.store.page.now a.x u a.types.now a.n c.requires.x_in_bounds,
       c.arity-k.ensures.0,
     )
 
@@ -101,9 +100,9 @@ shape_of-types c =
     let if1 = c.if-not-is_union in
     let a = c.args in
     let u = rw kind-of.ensures at (sym is_union.ensures ∙ if1.false) in
-    rw loop.invariant.1
-    (share_room a.page.now a.x u a.types.now a.n c.requires.x_in_bounds loop.i
-    (omega (arith, loop.invariant.0, c.arity-k.ensures.0)))
+    rw loop.invariant
+    (share_room a.store.page.now a.x u a.types.now a.n c.requires.x_in_bounds loop.i
+    (omega (arith, loop.auto.i-end, c.arity-k.ensures.0)))
 
 pub returns : goal.returns
 returns c =
@@ -114,7 +113,7 @@ returns c =
     let if1 = c.if-not-is_union in
     let a = c.args in
     let u = rw kind-of.ensures at (sym is_union.ensures ∙ if1.false) in
-    let e : loop.i ≡ arity a.page.now a.x = omega (arith, loop.invariant.0, c.loop-i-test.false, children.ensures.0) in (
-      omega (arith, children.ensures.0, share_size a.page.now a.x u a.types.now a.n c.requires.x_in_bounds),
-      loop.invariant.1 ∙ share_all a.page.now a.x u a.types.now a.n c.requires.x_in_bounds loop.i e,
+    let e : loop.i ≡ arity a.store.page.now a.x = omega (arith, loop.auto.i-end, c.loop-i-test.false, children.ensures.0) in (
+      omega (arith, children.ensures.0, share_size a.store.page.now a.x u a.types.now a.n c.requires.x_in_bounds),
+      loop.invariant ∙ share_all a.store.page.now a.x u a.types.now a.n c.requires.x_in_bounds loop.i e,
     )

@@ -1,12 +1,13 @@
+use Prim.Native.Nat.{ℕ}
+use Rattle.std.proofs.Common.{Result}
+use Rattle.refusals.specs.declared.Refusal.{Refusal}
 use mathlib.Core.Path.{◌∙◌, ap₂}
 use mathlib.Core.List.{List}
 use Prim.Native.Nat.{◌≤◌}
-use native.Mathlib.Nat.{sub-zero}
 use native.Mathlib.Omega.{arith}
 use lib.ListN.{length, take}
 use lib.Seq.{length-take-le}
 use Rattle.kinds.specs.Kinds.{children_max}
-use Rattle.types.specs.declared.Made.{Made}
 use Rattle.members.specs.Members.{entered}
 use Rattle.members.proofs.Merging.{union_one, union_wide, union_several, union_ready}
 use Rattle.members.proofs.enter_union.Goals as goal
@@ -31,7 +32,7 @@ enter_type-requires c =
     let pre = c.requires in
     let ts = take a.n a.types.now in
     let few : length ts ≤ children_max = omega (arith, length-take-le a.n a.types.now pre.n_nonzero.1, if2.false) in
-    rw (sub-zero a.n) record { children_len_bound = few; ready = union_ready a.page.now a.offsets.now a.depths.now ts pre.measured pre.n_nonzero.2 few }
+    record { children_len_bound = few; ready = union_ready a.page.now a.tables.now.offsets a.tables.now.depths ts pre.measured pre.n_nonzero.2 few }
 
 pub returns : goal.returns
 returns c =
@@ -41,8 +42,8 @@ returns c =
     let pre = c.requires in
     let n = length-take-le a.n a.types.now pre.n_nonzero.1 in
     let ts = take a.n a.types.now in
-    let e = rw (sub-zero a.n) at c.enter_type.ensures in record {
-      page_after = ap₂ (λ (r : Made) (page : List _). entered r page) e.0 e.1
+    let e = c.enter_type.ensures in record {
+      page_after = ap₂ (λ (r : Result ℕ Refusal) (page : List _). entered r page) e.0 e.1
           ∙ union_several a.page.now ts (omega (arith, n, pre.n_nonzero.0, if1.false)) (omega (arith, n, if2.false));
       measured_2 = e.2;
     }

@@ -1,4 +1,4 @@
-use mathlib.Core.Path.{◌≡◌, sym, ◌∙◌}
+use mathlib.Core.Path.{◌≡◌, refl, sym, ◌∙◌}
 use native.Mathlib.Omega.{arith}
 use Rattle.names.proofs.Table.{bad_past, bad_long, bad_name, unformed_short, unformed_many, unformed_at, formed_when}
 use Rattle.names.proofs.Prints.{tables_none, tables_more, head_is, known_name}
@@ -17,8 +17,7 @@ pub loop-i-init : goal.loop-i-init
 loop-i-init c =
     let if1 = c.if-page-lt-COUNT_BYTES in
     let no-heads = c.no_heads-heads in
-    let no-links = c.no_links-links in
-    (omega arith, omega (arith, if1.false), tables_none c.args.page.now _ _ _ if1.false no-heads.ensures no-links.ensures c.no_offsets-offsets.ensures)
+    (omega arith, omega (arith, if1.false), tables_none c.args.page.now _ _ _ if1.false no-heads.ensures refl refl)
 
 pub returns-then-at-page : goal.returns-then-at-page
 returns-then-at-page c =
@@ -90,18 +89,6 @@ returns-then-is_among c =
     (unformed_at c.args.page.now _ count.ensures.0 if1.false if2.false loop.i loop-test.true)
     (known_name c.args.page.now loop.i loop.at index.result loop.heads loop.links loop.offsets loop.invariant.2 index.ensures.0 if4.false (sym is_name.ensures ∙ if5.false) is_among.result is_among.ensures c.if-is_among.true)
 
-pub slice_bounds-note-end : goal.slice_bounds-note-end
-slice_bounds-note-end c =
-    let loop = c.loop-i in
-    sym loop.invariant.2.notes
-
-pub note-requires : goal.note-requires
-note-requires c =
-    let if2 = c.if-n-gt-NAMES in
-    let loop = c.loop-i in
-    let loop-test = c.loop-i-test in
-    omega (arith, loop.invariant.2.notes, loop-test.true, if2.false)
-
 pub slice_bounds-link-end : goal.slice_bounds-link-end
 slice_bounds-link-end c =
     let loop = c.loop-i in
@@ -134,9 +121,8 @@ loop-i-preserved c =
     let print-of = c.print_of-print in
     let is_among = c.is_among in
     let if6 = c.if-is_among in
-    let note = c.note in
     let link = c.link in
-    (omega (arith, loop-test.true), if4.false, tables_more c.args.page.now loop.i loop.at index.result loop.heads loop.links loop.offsets loop.invariant.2 index.ensures.0 if4.false (sym is_name.ensures ∙ if5.false) print-of.result print-of.ensures.0 print-of.ensures.1 is_among.result is_among.ensures if6.false (omega (arith, loop-test.true, if2.false)) _ _ _ link.ensures.0 link.ensures.1 note.ensures)
+    (omega (arith, loop-test.true), if4.false, tables_more c.args.page.now loop.i loop.at index.result loop.heads loop.links loop.offsets loop.invariant.2 index.ensures.0 if4.false (sym is_name.ensures ∙ if5.false) print-of.result print-of.ensures.0 print-of.ensures.1 is_among.result is_among.ensures if6.false (omega (arith, loop-test.true, if2.false)) _ _ _ link.ensures.0 link.ensures.1 refl)
 
 pub returns : goal.returns
 returns c =

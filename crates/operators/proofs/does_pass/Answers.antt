@@ -1,14 +1,15 @@
+use Rattle.std.proofs.Common.{rules}
 use Rattle.operators.specs.Outcome.{passes}
 use Rattle.operators.proofs.does_pass.Goals as goal
 
-pub returns-in-Known : goal.returns-in-Known
+pub returns-in-Known-None : goal.returns-in-Known-None
 unfolding passes
-returns-in-Known c = rw c.in-Known.is
+returns-in-Known-None c = search rules
 
-pub returns-in-Unknown : goal.returns-in-Unknown
+pub returns-in_default : goal.returns-in_default
 unfolding passes
-returns-in-Unknown c = rw c.in-Unknown.is
+returns-in_default c = search rules
 
-pub returns-in-Function : goal.returns-in-Function
+pub returns-in_default-2 : goal.returns-in_default-2
 unfolding passes
-returns-in-Function c = rw c.in-Function.is
+returns-in_default-2 c = search rules

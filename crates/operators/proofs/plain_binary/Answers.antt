@@ -1,14 +1,12 @@
-use Rattle.operators.specs.Outcome.{plain_binary}
+use Rattle.std.proofs.Common.{rules}
+use Rattle.operators.specs.Operators.{takes, looks, gives, suits, fits}
+use Rattle.operators.specs.Outcome.{misfit, plain_binary}
 use Rattle.operators.proofs.plain_binary.Goals as goal
 
-pub returns-then-does_fit : goal.returns-then-does_fit
-unfolding plain_binary
-returns-then-does_fit c =
-    let does-fit = c.does_fit in
-    let if1 = c.if-does_fit in
-    let given = c.given in
-    rw (← does-fit.ensures, if1.true, ← given.ensures) c.known.ensures
+pub returns-then-not-does_look : goal.returns-then-not-does_look
+unfolding plain_binary misfit fits suits takes looks gives
+returns-then-not-does_look c = search rules
 
-pub returns : goal.returns
-unfolding plain_binary
-returns c = rw (← c.does_fit.ensures, c.if-does_fit.false) c.misfit_of.ensures
+pub returns-else-suit : goal.returns-else-suit
+unfolding plain_binary misfit fits suits takes looks gives
+returns-else-suit c = search rules

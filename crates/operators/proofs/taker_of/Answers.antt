@@ -1,15 +1,15 @@
-use borrow.Author.Tests.{eq-eqb, ne_eqb}
+use Rattle.std.proofs.Common.{rules}
 use Rattle.operators.specs.Operators.{taker_of}
 use Rattle.operators.proofs.taker_of.Goals as goal
 
-pub returns-then-f : goal.returns-then-f
+pub returns-in-1 : goal.returns-in-1
 unfolding taker_of
-returns-then-f c = rw (← c.family_of-f.ensures, c.if-f.true)
+returns-in-1 c = search rules
 
-pub returns-then-f-eq-BOOL : goal.returns-then-f-eq-BOOL
+pub returns-in-7 : goal.returns-in-7
 unfolding taker_of
-returns-then-f-eq-BOOL c = rw (← c.family_of-f.ensures, c.if-f.false, eq-eqb _ _ c.if-f-eq-BOOL.true)
+returns-in-7 c = search rules
 
-pub returns : goal.returns
+pub returns-in_default : goal.returns-in_default
 unfolding taker_of
-returns c = rw (← c.family_of-f.ensures, c.if-f.false, ne_eqb _ _ c.if-f-eq-BOOL.false)
+returns-in_default c = search rules

@@ -16,34 +16,26 @@ loop-i-init c =
 
 pub placed-w-requires : goal.placed-w-requires
 placed-w-requires c =
-    let loop = c.loop-i in
-    let loop-test = c.loop-i-test in
-    let g = c.args in
-    let page = g.page.now in
-    let l = loop in
-    let z = sorting_count page (count_of page) g.u l.w l.i l.invariant in (
+    let u = c.args.u in
+    let l = c.loop-i in
+    let n = count_of c.args.page.now in
+    let z = sorting_count c.args.page.now n u l.w l.i l.invariant in (
       c.requires.0,
-      omega (arith, z, loop-test.true, c.requires.1),
-      sorting_used page (count_of page) g.u l.w l.i l.invariant loop-test.true,
-      rw (l.invariant.held, terms_unit l.invariant.done (omega (arith, l.invariant.size, loop-test.true, c.requires.1))) l.invariant.used,
+      omega (arith, z),
+      sorting_used c.args.page.now n u l.w l.i l.invariant c.loop-i-test.true,
+      rw (l.invariant.held, terms_unit l.invariant.done (omega (arith, l.invariant.size))) l.invariant.used,
     )
 
 pub loop-i-preserved : goal.loop-i-preserved
 loop-i-preserved c =
-    let loop = c.loop-i in
-    let loop-test = c.loop-i-test in
-    let g = c.args in
-    let page = g.page.now in
-    let l = loop in
+    let u = c.args.u in
+    let page = c.args.page.now in
+    let l = c.loop-i in
     let d = l.invariant.done in
-    sorting_next page (count_of page) g.u l.w l.i l.invariant loop-test.true c.placed-w.result
+    sorting_next page (count_of page) u l.w l.i l.invariant c.loop-i-test.true c.placed-w.result
     (c.placed-w.ensures
-    ∙ ap (λ z. unit_of (place page (term (sym_at (places_of g.u) l.i) z) (terms_of l.w))) (back (exp_at (places_of g.u) l.i) c.placed-arg-in-loop-i-1.given)
-    ∙ ap (λ t. unit_of (place page (term_at g.u l.i) t)) (ap terms_of l.invariant.held ∙ terms_unit d (omega (arith, l.invariant.size, loop-test.true, c.requires.1))))
+    ∙ ap (λ z. unit_of (place page (term (sym_at (places_of u) l.i) z) (terms_of l.w))) (back (exp_at (places_of u) l.i) (omega arith))
+    ∙ ap (λ t. unit_of (place page (term_at u l.i) t)) (ap terms_of l.invariant.held ∙ terms_unit d (omega (arith, l.invariant.size))))
 
 pub returns : goal.returns
-returns c =
-    let g = c.args in
-    let page = g.page.now in
-    let l = c.loop-i in
-    sorting_end page (count_of page) g.u l.w l.i l.invariant c.loop-i-test.false
+returns c = sorting_end c.args.page.now (count_of c.args.page.now) c.args.u c.loop-i.w c.loop-i.i c.loop-i.invariant c.loop-i-test.false

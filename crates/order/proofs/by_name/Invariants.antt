@@ -1,10 +1,6 @@
-use Prim.Native.Nat.{◌-◌}
 use Rattle.pages.specs.Bytes.{count_of}
 use Rattle.order.proofs.Order.{Sorting}
 use Rattle.order.proofs.by_name.Given as goal
 
 abbrev pub invariant-loop-i : goal.invariant-loop-i
 invariant-loop-i l = Sorting l.page (count_of l.page) l.u l.w l.i
-
-abbrev pub decreases-loop-i : goal.decreases-loop-i
-decreases-loop-i l = l.n - l.i

@@ -1,3 +1,4 @@
+use Rattle.pages.proofs.Bytes.{eqs_is}
 use mathlib.Core.Path.{◌≡◌, sym, ◌∙◌}
 use Prim.Native.Nat.{◌*◌}
 use native.Mathlib.Omega.{arith}
@@ -22,8 +23,8 @@ returns-then-not-all_used c =
     form_unused c.args.t c.args.n
     if1.false (sym all-used.ensures ∙ c.if-not-all_used.true)
 
-pub replayed-given-requires : goal.replayed-given-requires
-replayed-given-requires c =
+pub replayed-requires : goal.replayed-requires
+replayed-requires c =
     let if1 = c.if-k-gt-PAIRS in
     let z : length c.args.t.pairs ≡ pair_bytes * pairs_max = search rules in
     omega (arith, z, if1.false)
@@ -32,4 +33,4 @@ pub returns : goal.returns
 returns c =
     let a = c.args in
     let u = sym c.all_used.ensures ∙ c.if-not-all_used.false in
-    c.are_same.ensures ∙ rw c.replayed-given.ensures (form_rest a.t a.n c.if-k-gt-PAIRS.false u)
+    c.eq.ensures ∙ eqs_is a.t.parents c.replayed.result ∙ rw c.replayed.ensures (form_rest a.t a.n c.if-k-gt-PAIRS.false u)

@@ -1,48 +1,36 @@
-use mathlib.Core.Path.{sym, ◌∙◌}
-use native.Mathlib.Omega.{arith}
-use Rattle.refusals.proofs.Lowest.{passed_is}
+use Rattle.std.proofs.Common.{sym, arith}
+use Rattle.std.proofs.lemmas.Result.{err_from_is_err_and}
+use mathlib.Core.Path.{◌∙◌}
 use Rattle.groups.specs.Groups.{walk}
 use Rattle.pairs.specs.Page.{parents_in}
 use Rattle.sums.proofs.Calls.{passed_held, passed_root, passed_left, sums_refused, sums_given}
 use Rattle.sums.proofs.canonicalize.Goals as goal
 
-pub returns-then-is_refused : goal.returns-then-is_refused
-returns-then-is_refused c =
-    let units-verdict = c.units_verdict-verdict in
-    let a = c.args in
-    rw c.no_sums.ensures
-    (sums_refused a.page.now a.names.now a.lent a.u units-verdict.result units-verdict.ensures (sym c.is_refused.ensures ∙ c.if-is_refused.true))
+pub returns-in_err-units_verdict : goal.returns-in_err-units_verdict
+returns-in_err-units_verdict c =
+    let p = err_from_is_err_and c.from_residual.result c.from_residual.ensures.1 in
+    rw (p.1, p.2) (sums_refused _ _ _ _ _ (sym c.in_err-units_verdict.was ∙ c.units_verdict.ensures))
 
 pub parents_of-parents-requires : goal.parents_of-parents-requires
 parents_of-parents-requires c =
-    let units-verdict = c.units_verdict-verdict in
     let a = c.args in
-    let v = sym units-verdict.ensures ∙ passed_is units-verdict.result (sym c.is_refused.ensures ∙ c.if-is_refused.false) in
-    passed_held a.page.now a.names.now a.lent a.u a.u v
+    passed_held a.page.now a.names.now a.lent a.u a.u (sym c.units_verdict.ensures ∙ c.in_ok-units_verdict.was)
 
 pub count-requires : goal.count-requires
 count-requires c =
-    let units-verdict = c.units_verdict-verdict in
     let a = c.args in
-    let v = sym units-verdict.ensures ∙ passed_is units-verdict.result (sym c.is_refused.ensures ∙ c.if-is_refused.false) in
-    let h = passed_held a.page.now a.names.now a.lent a.u a.u v in
+    let h = passed_held a.page.now a.names.now a.lent a.u a.u (sym c.units_verdict.ensures ∙ c.in_ok-units_verdict.was) in
     omega (arith, h.room)
 
-pub group_sums-sums-requires : goal.group_sums-sums-requires
-group_sums-sums-requires c =
-    let units-verdict = c.units_verdict-verdict in
+pub group_sums-requires : goal.group_sums-requires
+group_sums-requires c =
     let a = c.args in
-    let v = sym units-verdict.ensures ∙ passed_is units-verdict.result (sym c.is_refused.ensures ∙ c.if-is_refused.false) in
-    passed_left a.page.now a.names.now a.lent a.u a.u v
+    passed_left a.page.now a.names.now a.lent a.u a.u (sym c.units_verdict.ensures ∙ c.in_ok-units_verdict.was)
 
 pub returns : goal.returns
 returns c =
-    let units-verdict = c.units_verdict-verdict in
-    let is-refused = c.is_refused in
-    let count = c.count in
     let a = c.args in
-    let p = passed_is units-verdict.result (sym is-refused.ensures ∙ c.if-is_refused.false) in
-    let v = sym units-verdict.ensures ∙ p in
-    let k = count.result in
-    rw (c.group_sums-sums.ensures, c.parents_of-parents.ensures.0)
-    (sums_given a.page.now a.names.now a.lent a.u units-verdict.result units-verdict.ensures p (walk k (parents_in a.page.now)) (λ s. passed_root a.page.now a.names.now a.lent a.u a.u v k s count.ensures.0))
+    let v = sym c.units_verdict.ensures ∙ c.in_ok-units_verdict.was in
+    let k = c.count.result in
+    rw (c.group_sums.ensures, c.parents_of-parents.ensures.0)
+    (sums_given a.page.now a.names.now a.lent a.u (sym v) (walk k (parents_in a.page.now)) (λ s. passed_root a.page.now a.names.now a.lent a.u a.u v k s c.count.ensures.0))

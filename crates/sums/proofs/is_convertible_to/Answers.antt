@@ -1,73 +1,40 @@
-use mathlib.Core.Path.{sym, ◌∙◌}
-use native.Mathlib.Omega.{arith}
+use Rattle.std.proofs.Common.{sym, arith}
+use Rattle.std.proofs.lemmas.Result.{err_from_is_err_and}
+use mathlib.Core.Path.{◌∙◌}
 use Rattle.groups.specs.Groups.{walk}
 use Rattle.pairs.specs.Page.{parents_in}
 use Rattle.sums.specs.Calls.{or_empty}
-use Rattle.sums.proofs.Calls.{passed_held, passed_root, passed_left, passed_right, convert_refused, convert_yes, convert_no}
+use Rattle.sums.proofs.Calls.{passed_held, passed_root, passed_left, passed_right, convert_refused, convert_given}
 use Rattle.sums.proofs.is_convertible_to.Goals as goal
 
-pub returns-in-Refused : goal.returns-in-Refused
-returns-in-Refused c =
-    let or-empty = c.or_empty-a in
-    let or-empty2 = c.or_empty-b in
-    let a = c.args in
-    let v = rw (or-empty.ensures, or-empty2.ensures) at c.units_verdict-verdict.ensures in
-    convert_refused a.page.now a.names.now a.lent a.left a.right _ (sym c.in-Refused.is ∙ v)
+pub returns-in_err-units_verdict : goal.returns-in_err-units_verdict
+returns-in_err-units_verdict c =
+    let p = err_from_is_err_and c.from_residual.result c.from_residual.ensures.1 in
+    let v = rw (c.or_empty-a.ensures, c.or_empty-b.ensures) at c.units_verdict.ensures in
+    rw (p.1, p.2) (convert_refused _ _ _ _ _ _ (sym c.in_err-units_verdict.was ∙ v))
 
 pub parents_of-parents-requires : goal.parents_of-parents-requires
 parents_of-parents-requires c =
-    let or-empty = c.or_empty-a in
     let a = c.args in
-    passed_held a.page.now a.names.now a.lent or-empty.result c.or_empty-b.result
-    (sym c.units_verdict-verdict.ensures ∙ c.in_default.is)
+    passed_held a.page.now a.names.now a.lent c.or_empty-a.result c.or_empty-b.result (sym c.units_verdict.ensures ∙ c.in_ok-units_verdict.was)
 
 pub count-requires : goal.count-requires
 count-requires c =
-    let or-empty = c.or_empty-a in
-    let or-empty2 = c.or_empty-b in
     let a = c.args in
-    let h =
-    passed_held a.page.now a.names.now a.lent or-empty.result
-    or-empty2.result (sym c.units_verdict-verdict.ensures ∙ c.in_default.is) in
+    let h = passed_held a.page.now a.names.now a.lent c.or_empty-a.result c.or_empty-b.result (sym c.units_verdict.ensures ∙ c.in_ok-units_verdict.was) in
     omega (arith, h.room)
 
 pub convertible-requires : goal.convertible-requires
 convertible-requires c =
-    let units-verdict = c.units_verdict-verdict in
-    let or-empty = c.or_empty-a in
-    let or-empty2 = c.or_empty-b in
     let a = c.args in
-    let v = sym units-verdict.ensures ∙ c.in_default.is in (
-      passed_left a.page.now a.names.now a.lent or-empty.result
-          or-empty2.result v,
-      passed_right a.page.now a.names.now a.lent or-empty.result
-          or-empty2.result v,
-    )
-
-pub returns-then-convertible : goal.returns-then-convertible
-returns-then-convertible c =
-    let count = c.count in
-    let or-empty = c.or_empty-a in
-    let or-empty2 = c.or_empty-b in
-    let units-verdict = c.units_verdict-verdict in
-    let a = c.args in
-    let k = count.result in
-    let v = rw (or-empty.ensures, or-empty2.ensures) at (sym units-verdict.ensures ∙ c.in_default.is) in
-    let h =
-    rw (or-empty.ensures, or-empty2.ensures, c.parents_of-parents.ensures.0) at (sym c.convertible.ensures ∙ c.if-convertible.true) in
-    convert_yes a.page.now a.names.now a.lent a.left a.right v (walk k (parents_in a.page.now))
-    (λ s. passed_root a.page.now a.names.now a.lent (or_empty a.left) (or_empty a.right) v k s count.ensures.0) h
+    let v = sym c.units_verdict.ensures ∙ c.in_ok-units_verdict.was in
+    (passed_left a.page.now a.names.now a.lent c.or_empty-a.result c.or_empty-b.result v, passed_right a.page.now a.names.now a.lent c.or_empty-a.result c.or_empty-b.result v)
 
 pub returns : goal.returns
 returns c =
-    let count = c.count in
-    let or-empty = c.or_empty-a in
-    let or-empty2 = c.or_empty-b in
-    let units-verdict = c.units_verdict-verdict in
     let a = c.args in
-    let k = count.result in
-    let v = rw (or-empty.ensures, or-empty2.ensures) at (sym units-verdict.ensures ∙ c.in_default.is) in
-    let h =
-    rw (or-empty.ensures, or-empty2.ensures, c.parents_of-parents.ensures.0) at (sym c.convertible.ensures ∙ c.if-convertible.false) in
-    convert_no a.page.now a.names.now a.lent a.left a.right v (walk k (parents_in a.page.now))
-    (λ s. passed_root a.page.now a.names.now a.lent (or_empty a.left) (or_empty a.right) v k s count.ensures.0) h
+    let k = c.count.result in
+    let v = rw (c.or_empty-a.ensures, c.or_empty-b.ensures) at (sym c.units_verdict.ensures ∙ c.in_ok-units_verdict.was) in
+    convert_given a.page.now a.names.now a.lent a.left a.right (sym v) (walk k (parents_in a.page.now))
+    (λ s. passed_root a.page.now a.names.now a.lent (or_empty a.left) (or_empty a.right) v k s c.count.ensures.0) _
+    (rw (c.or_empty-a.ensures, c.or_empty-b.ensures, c.parents_of-parents.ensures.0) at c.convertible.ensures)

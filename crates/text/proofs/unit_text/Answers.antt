@@ -1,4 +1,5 @@
-use mathlib.Core.Path.{sym, ◌∙◌}
+use Rattle.std.proofs.Common.{Ok}
+use mathlib.Core.Path.{sym, ap, ◌∙◌}
 use Rattle.names.proofs.Calls.{form}
 use Rattle.text.proofs.Calls.{text_broken, text_unused, text_bad_unit, formed_few, formed_used, sorted_writable, text_given}
 use Rattle.text.proofs.unit_text.Goals as goal
@@ -6,7 +7,7 @@ use Rattle.text.proofs.unit_text.Goals as goal
 pub returns-then-not-is_formed : goal.returns-then-not-is_formed
 returns-then-not-is_formed c =
     let is-formed = c.is_formed in
-    c.no_text.ensures ∙ text_broken c.args.page.now c.args.u (sym is-formed.ensures ∙ c.if-not-is_formed.true)
+    text_broken c.args.page.now c.args.u (sym is-formed.ensures ∙ c.if-not-is_formed.true)
 
 pub count-requires : goal.count-requires
 count-requires c =
@@ -19,7 +20,7 @@ returns-then-not-is_used c =
     let if1 = c.if-not-is_formed in
     let count = c.count in
     let is-used = c.is_used in
-    c.no_text-then-not-is_used.ensures ∙ text_unused c.args.page.now c.args.u
+    text_unused c.args.page.now c.args.u
     (sym is-formed.ensures ∙ if1.false) count.result count.ensures.0
     (sym is-used.ensures ∙ c.if-not-is_used.true)
 
@@ -31,7 +32,7 @@ returns-then-not-is_formed-2 c =
     let is-used = c.is_used in
     let if2 = c.if-not-is_used in
     let is-formed2 = c.is_formed-2 in
-    c.no_text-then-not-is_formed-2.ensures ∙ text_bad_unit c.args.page.now c.args.u
+    text_bad_unit c.args.page.now c.args.u
     (sym is-formed.ensures ∙ if1.false) count.result count.ensures.0
     (sym is-used.ensures ∙ if2.false)
     (sym is-formed2.ensures ∙ c.if-not-is_formed-2.true)
@@ -68,6 +69,6 @@ returns c =
     let is-formed2 = c.is_formed-2 in
     let if3 = c.if-not-is_formed-2 in
     let by_name = c.by_name in
-    c.written.ensures ∙ text_given c.args.page.now c.args.u (sym is-formed.ensures ∙ if1.false)
+    ap Ok c.written.ensures ∙ text_given c.args.page.now c.args.u (sym is-formed.ensures ∙ if1.false)
     count.result count.ensures.0 (sym is-used.ensures ∙ if2.false)
     (sym is-formed2.ensures ∙ if3.false) by_name.result by_name.ensures

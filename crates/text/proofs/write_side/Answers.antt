@@ -20,7 +20,7 @@ write_separator-a-requires c =
     let g = c.args in
     let l = loop in
     let w = writing_length g.page.now g.above (places_of g.v) g.out.now g.start l.out l.at l.i l.invariant in
-    let r = here_room g.page.now g.above (places_of g.v) g.out.now g.start l.out l.at l.i l.invariant loop-test.true (sym (c.is_on.ensures ∙ ap (stands c.args.above) (back (exp_at (places_of c.args.v) c.loop-i.i) c.e-1.given)) ∙ c.if-is_on.true) in
+    let r = here_room g.page.now g.above (places_of g.v) g.out.now g.start l.out l.at l.i l.invariant loop-test.true (sym (c.is_on.ensures ∙ ap (stands c.args.above) (back (exp_at (places_of c.args.v) c.loop-i.i) c.e-1.given)) ∙ c.if-not-is_on.false) in
     omega (arith, w, r)
 
 pub name_of-requires : goal.name_of-requires
@@ -45,22 +45,22 @@ pub write_power-at-requires : goal.write_power-at-requires
 write_power-at-requires c =
     let loop = c.loop-i in
     let loop-test = c.loop-i-test in
-    let if1 = c.if-is_on in
+    let if1 = c.if-not-is_on in
     let write-separator = c.write_separator-a in
     let g = c.args in
     let l = loop in
     let w = writing_length g.page.now g.above (places_of g.v) g.out.now g.start l.out l.at l.i l.invariant in
-    let r = here_room g.page.now g.above (places_of g.v) g.out.now g.start l.out l.at l.i l.invariant loop-test.true (sym (c.is_on.ensures ∙ ap (stands c.args.above) (back (exp_at (places_of c.args.v) c.loop-i.i) c.e-1.given)) ∙ if1.true) in
+    let r = here_room g.page.now g.above (places_of g.v) g.out.now g.start l.out l.at l.i l.invariant loop-test.true (sym (c.is_on.ensures ∙ ap (stands c.args.above) (back (exp_at (places_of c.args.v) c.loop-i.i) c.e-1.given)) ∙ if1.false) in
     let z = write-separator.ensures l.invariant.text l.invariant.wrote.0 in
     let y = separator_short g.above l.invariant.text in
     (c.name_of.ensures.2, c.size.ensures.1, omega (arith, w, r, z.0, y, write-separator.auto.out))
 
-pub loop-i-preserved-then-is_on : goal.loop-i-preserved-then-is_on
-loop-i-preserved-then-is_on c =
+pub loop-i-preserved : goal.loop-i-preserved
+loop-i-preserved c =
     let loop = c.loop-i in
     let loop-test = c.loop-i-test in
     let e = c.e-1 in
-    let if1 = c.if-is_on in
+    let if1 = c.if-not-is_on in
     let write-separator = c.write_separator-a in
     let symbol-index = c.symbol_index in
     let name_of = c.name_of in
@@ -69,19 +69,19 @@ loop-i-preserved-then-is_on c =
     let g = c.args in
     let l = loop in
     writing_on g.page.now g.above (places_of g.v) g.out.now g.start l.out l.at l.i l.invariant loop-test.true
-    (sym (c.is_on.ensures ∙ ap (stands c.args.above) (back (exp_at (places_of c.args.v) c.loop-i.i) c.e-1.given)) ∙ if1.true)
+    (sym (c.is_on.ensures ∙ ap (stands c.args.above) (back (exp_at (places_of c.args.v) c.loop-i.i) c.e-1.given)) ∙ if1.false)
     c.requires.0.form _ _ _ _
     (write-separator.ensures l.invariant.text l.invariant.wrote.0)
     (rw (name_of.ensures.0, symbol-index.ensures.0, size.ensures.0, back (exp_at (places_of g.v) l.i) e.given) at write-power.ensures)
 
-pub loop-i-preserved : goal.loop-i-preserved
-loop-i-preserved c =
+pub loop-i-preserved-then-not-is_on : goal.loop-i-preserved-then-not-is_on
+loop-i-preserved-then-not-is_on c =
     let loop = c.loop-i in
     let loop-test = c.loop-i-test in
     let g = c.args in
     let l = loop in
     writing_off g.page.now g.above (places_of g.v) g.out.now g.start l.out l.at l.i l.invariant loop-test.true
-    (sym (c.is_on.ensures ∙ ap (stands c.args.above) (back (exp_at (places_of c.args.v) c.loop-i.i) c.e-1.given)) ∙ c.if-is_on.false)
+    (sym (c.is_on.ensures ∙ ap (stands c.args.above) (back (exp_at (places_of c.args.v) c.loop-i.i) c.e-1.given)) ∙ c.if-not-is_on.true)
 
 pub shape_of-out : goal.shape_of-out
 shape_of-out c =

@@ -1,11 +1,6 @@
-use mathlib.Core.Path.{◌≡◌}
-use Prim.Native.Nat.{◌-◌, ◌≤◌}
-use lib.ListN.{length, drop}
+use Rattle.std.proofs.Common.{◌≡◌, drop}
 use Rattle.types.specs.Calls.{all_below}
 use Rattle.types.proofs.all_below.Given as goal
 
-abbrev pub invariant-loop-i : goal.invariant-loop-i
-invariant-loop-i l = (l.i ≤ length l.children) × (all_below l.t l.children ≡ all_below l.t (drop l.i l.children))
-
-abbrev pub decreases-loop-i : goal.decreases-loop-i
-decreases-loop-i l = length l.children - l.i
+abbrev pub invariant-loop-child : goal.invariant-loop-child
+invariant-loop-child l = all_below l.t l.children ≡ all_below l.t (drop l.child-index l.children)

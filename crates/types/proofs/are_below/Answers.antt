@@ -1,12 +1,11 @@
-use mathlib.Core.Path.{◌≡◌, sym}
-use native.Mathlib.Omega.{arith}
-use borrow.Author.Tests.{lt-ltb, le-ltb}
+use Rattle.std.proofs.Common.{sym}
+use borrow.Author.Tests.{le-ltb, lt-ltb}
 use Rattle.pages.proofs.Quant.{all_none, all_more, all_failed}
 use Rattle.types.specs.Store.{is_below}
 use Rattle.types.proofs.are_below.Goals as goal
 
 pub loop-i-init : goal.loop-i-init
-loop-i-init c = (omega arith, all_none (is_below c.args.page.now c.args.o c.args.t))
+loop-i-init c = all_none (is_below c.args.page.now c.args.o c.args.t)
 
 pub returns-then-t-word_at : goal.returns-then-t-word_at
 returns-then-t-word_at c =
@@ -15,12 +14,5 @@ returns-then-t-word_at c =
 
 pub loop-i-preserved : goal.loop-i-preserved
 loop-i-preserved c =
-    let loop = c.loop-i in
     let a = c.args in
-    (omega arith, all_more (is_below a.page.now a.o a.t) loop.i loop.invariant.1 (lt-ltb _ _ (rw c.word_at.ensures.0 at c.if-t-word_at.false)))
-
-pub returns : goal.returns
-returns c =
-    let loop = c.loop-i in
-    let e : loop.i ≡ c.args.k = omega arith in
-    sym (rw e at loop.invariant.1)
+    all_more (is_below a.page.now a.o a.t) c.loop-i.i c.loop-i.invariant (lt-ltb _ _ (rw c.word_at.ensures.0 at c.if-t-word_at.false))

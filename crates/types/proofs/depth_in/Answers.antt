@@ -1,6 +1,6 @@
 use mathlib.Core.Path.{◌∙◌}
 use native.Mathlib.Omega.{arith}
-use Rattle.types.proofs.Store.{depth_fixed, depth_entry}
+use Rattle.types.proofs.Placing.{depth_fixed, depth_entry}
 use Rattle.types.proofs.depth_in.Goals as goal
 
 pub returns-then-t-lt-FIXED : goal.returns-then-t-lt-FIXED

@@ -1,4 +1,3 @@
-use native.Mathlib.Omega.{arith}
 use Rattle.types.proofs.Making.{enter_two, enter_end, enter_asks, enter_depth, enter_place, enter_known, enter_deep, enter_many, enter_short, enter_new}
 use borrow.Author.Rules.{rules}
 use Rattle.types.proofs.enter.Goals as goal
@@ -32,7 +31,7 @@ returns-then-depth-gt-DEPTH c =
     let if1 = c.if-k-n in
     let a = c.args in
     let d =
-    enter_depth a.page.now a.offsets.now a.depths.now a.entry.now c.requires entry-depth.result
+    enter_depth a.page.now a.tables.now.offsets a.tables.now.depths a.entry.now c.requires entry-depth.result
     entry-depth.ensures.0 in
     enter_deep a.page.now _ _ a.entry.now c.requires count.result find-entry.result count.ensures.0
     find-entry.ensures.0 if1.false entry-depth.result d c.if-depth-gt-DEPTH.true
@@ -46,7 +45,7 @@ returns-then-n-ge-ENTRIES c =
     let if2 = c.if-depth-gt-DEPTH in
     let a = c.args in
     let d =
-    enter_depth a.page.now a.offsets.now a.depths.now a.entry.now c.requires entry-depth.result
+    enter_depth a.page.now a.tables.now.offsets a.tables.now.depths a.entry.now c.requires entry-depth.result
     entry-depth.ensures.0 in
     enter_many a.page.now _ _ a.entry.now c.requires count.result find-entry.result count.ensures.0
     find-entry.ensures.0 if1.false entry-depth.result d if2.false c.if-n-ge-ENTRIES.true
@@ -55,13 +54,11 @@ pub overflow_add-end : goal.overflow_add-end
 overflow_add-end c =
     let count = c.count-n in
     let a = c.args in
-    let e =
-    enter_place a.page.now a.offsets.now a.depths.now a.entry.now c.requires count.result
-    c.offset_of-end.result count.ensures.0 c.offset_of-end.ensures in
+    let e = enter_place a.page.now a.tables.now.offsets a.tables.now.depths a.entry.now c.requires count.result count.ensures.0 in
     search (
       rules,
       e,
-      enter_end a.page.now a.offsets.now a.depths.now a.entry.now c.requires count.result
+      enter_end a.page.now a.tables.now.offsets a.tables.now.depths a.entry.now c.requires count.result
           count.ensures.0,
     )
 
@@ -69,46 +66,31 @@ pub returns-then-page-end : goal.returns-then-page-end
 returns-then-page-end c =
     let entry-depth = c.entry_depth-depth in
     let count = c.count-n in
-    let offset-of = c.offset_of-end in
     let find-entry = c.find_entry-k in
     let if1 = c.if-k-n in
     let if2 = c.if-depth-gt-DEPTH in
     let if3 = c.if-n-ge-ENTRIES in
     let a = c.args in
     let d =
-    enter_depth a.page.now a.offsets.now a.depths.now a.entry.now c.requires entry-depth.result
+    enter_depth a.page.now a.tables.now.offsets a.tables.now.depths a.entry.now c.requires entry-depth.result
     entry-depth.ensures.0 in
-    let e =
-    enter_place a.page.now a.offsets.now a.depths.now a.entry.now c.requires count.result
-    offset-of.result count.ensures.0 offset-of.ensures in
+    let e = enter_place a.page.now a.tables.now.offsets a.tables.now.depths a.entry.now c.requires count.result count.ensures.0 in
     enter_short a.page.now _ _ a.entry.now c.requires count.result find-entry.result count.ensures.0
-    find-entry.ensures.0 if1.false entry-depth.result d if2.false if3.false offset-of.result e c.if-page-end.true
+    find-entry.ensures.0 if1.false entry-depth.result d if2.false if3.false _ e c.if-page-end.true
 
 pub put_bytes-requires-2 : goal.put_bytes-requires-2
 put_bytes-requires-2 c =
     let two =
-    enter_two c.args.page.now c.args.offsets.now c.args.depths.now c.args.entry.now
+    enter_two c.args.page.now c.args.tables.now.offsets c.args.tables.now.depths c.args.entry.now
     c.requires in
     search (rules, two)
-
-pub set_depth-requires : goal.set_depth-requires
-set_depth-requires c =
-    let start =
-    c
-    in
-    let if3 = c.if-n-ge-ENTRIES in
-    let if2 = c.if-depth-gt-DEPTH in
-    (omega (arith, c.requires.measured.size, if3.false), omega (arith, if2.false))
 
 pub returns : goal.returns
 returns c =
     let entry-depth = c.entry_depth-depth in
     let count = c.count-n in
-    let offset-of = c.offset_of-end in
     let put-bytes2 = c.put_bytes-2 in
     let put-bytes = c.put_bytes in
-    let set-offset = c.set_offset in
-    let set-depth = c.set_depth in
     let count-bytes = c.count_bytes-number in
     let find-entry = c.find_entry-k in
     let if1 = c.if-k-n in
@@ -117,11 +99,9 @@ returns c =
     let if4 = c.if-page-end in
     let a = c.args in
     let d =
-    enter_depth a.page.now a.offsets.now a.depths.now a.entry.now c.requires entry-depth.result
+    enter_depth a.page.now a.tables.now.offsets a.tables.now.depths a.entry.now c.requires entry-depth.result
     entry-depth.ensures.0 in
-    let e =
-    enter_place a.page.now a.offsets.now a.depths.now a.entry.now c.requires count.result
-    offset-of.result count.ensures.0 offset-of.ensures in
-    rw (put-bytes2.ensures, put-bytes.ensures, set-offset.ensures, set-depth.ensures, count-bytes.ensures)
+    let e = enter_place a.page.now a.tables.now.offsets a.tables.now.depths a.entry.now c.requires count.result count.ensures.0 in
+    rw (put-bytes2.ensures, put-bytes.ensures, count-bytes.ensures)
     (enter_new a.page.now _ _ a.entry.now c.requires count.result find-entry.result count.ensures.0
-    find-entry.ensures.0 if1.false entry-depth.result d if2.false if3.false offset-of.result e if4.false)
+    find-entry.ensures.0 if1.false entry-depth.result d if2.false if3.false _ e if4.false)

@@ -1,6 +1,6 @@
 use mathlib.Core.Path.{sym, ◌∙◌}
 use native.Mathlib.Omega.{arith}
-use Rattle.types.proofs.Store.{size_named, size_children}
+use Rattle.types.proofs.Placing.{size_named, size_children}
 use Rattle.types.proofs.Width.{name_width}
 use Rattle.types.proofs.entry_size.Goals as goal
 

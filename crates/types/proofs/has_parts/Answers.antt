@@ -1,6 +1,6 @@
 use mathlib.Core.Path.{sym, ◌∙◌}
 use native.Mathlib.Omega.{arith}
-use Rattle.types.proofs.Store.{size_named, size_children, parts_unstored, parts_childful, parts_name, parts_few, parts_many, parts_rest}
+use Rattle.types.proofs.Placing.{size_named, size_children, parts_unstored, parts_childful, parts_name, parts_few, parts_many, parts_rest}
 use Rattle.types.proofs.Width.{name_width, name_byte_lem}
 use Rattle.types.proofs.has_parts.Goals as goal
 

@@ -3,7 +3,7 @@ use native.Mathlib.Omega.{arith}
 use lib.ListN.{get_or}
 use borrow.Author.Rules.{rules}
 use Rattle.chains.specs.Prints.{print_of}
-use Rattle.types.proofs.Store.{size_head}
+use Rattle.types.proofs.Placing.{size_head}
 use Rattle.types.proofs.Prints.{head_is, chained_more, entry_in, entry_is, new_is}
 use Rattle.types.proofs.is_new.Goals as goal
 

@@ -7,7 +7,7 @@ pub returns-then-is_broken : goal.returns-then-is_broken
 returns-then-is_broken c =
     let is-broken = c.is_broken in
     let a = c.args in
-    c.no_type.ensures a.page.now ∙ read_unnamed a.page.now a.names.now a.lent a.t (sym is-broken.ensures ∙ c.if-is_broken.true)
+    read_unnamed a.page.now a.names.now a.lent a.t (sym is-broken.ensures ∙ c.if-is_broken.true)
 
 pub in_use-n-requires : goal.in_use-n-requires
 in_use-n-requires c = sym c.is_broken.ensures ∙ c.if-is_broken.false
@@ -21,7 +21,7 @@ returns-then-not-survey c =
     let a = c.args in
     let l = sym is-broken.ensures ∙ if1.false in
     let f = sym survey.ensures.0 ∙ c.if-not-survey.true in
-    c.no_type-then-not-survey.ensures a.page.now ∙ read_unformed a.page.now a.names.now a.lent a.t l in_use.result in_use.ensures.0 f
+    read_unformed a.page.now a.names.now a.lent a.t l in_use.result in_use.ensures.0 f
 
 pub count-requires : goal.count-requires
 count-requires c =
@@ -41,7 +41,7 @@ returns-then-count-t c =
     let l = sym is-broken.ensures ∙ if1.false in
     let f = sym survey.ensures.0 ∙ if2.false in
     let h = rw count.ensures.0 at c.if-count-t.true in
-    c.no_type-then-count-t.ensures a.page.now ∙ read_unused a.page.now a.names.now a.lent a.t l in_use.result in_use.ensures.0 f h
+    read_unused a.page.now a.names.now a.lent a.t l in_use.result in_use.ensures.0 f h
 
 pub shape_of-requires : goal.shape_of-requires
 shape_of-requires c =

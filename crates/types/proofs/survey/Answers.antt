@@ -1,11 +1,10 @@
-use mathlib.Core.Path.{sym, ◌∙◌, ap}
+use mathlib.Core.Path.{sym, refl, ◌∙◌, ap}
 use Prim.Native.Nat.{ℕ, ◌+◌}
 use native.Mathlib.Omega.{arith}
-use lib.ListN.{length-set}
 use borrow.Author.Rules.{rules}
-use Rattle.types.proofs.Store.{size_head}
+use Rattle.types.proofs.Placing.{size_head}
 use Rattle.types.proofs.Form.{depth_asks}
-use Rattle.types.proofs.Surveyed.{Looked, survey_short, survey_many, going_start, going_room, going_reached, going_placed, going_broken, going_parts, going_in, going_equal, going_next, going_end}
+use Rattle.types.proofs.Surveyed.{Looked, survey_short, survey_many, going_start, going_reached, going_placed, going_broken, going_parts, going_in, going_equal, going_next, going_end}
 use Rattle.types.proofs.survey.Goals as goal
 
 pub returns-then-page-lt-COUNT_BYTES : goal.returns-then-page-lt-COUNT_BYTES
@@ -24,41 +23,16 @@ loop-j-init c =
     let count = c.count-k in
     let if2 = c.if-k-gt-ENTRIES in
     let no-heads = c.no_heads-heads in
-    let look : Looked c.args.page.now count.result c.args.offsets.now c.args.depths.now =
-    record { two = if1.false; is = count.ensures.0; few = if2.false; room = c.requires.0; size = c.requires.1 } in
-    going_start look c.args.n _ _ no-heads.ensures c.no_links-links.ensures
-
-pub set_offset-requires : goal.set_offset-requires
-set_offset-requires c = going_room c.loop-j.invariant
-
-pub is_whole-requires : goal.is_whole-requires
-is_whole-requires c =
-    let loop = c.loop-j in
-    let loop-test = c.loop-j-test in
-    going_reached loop.invariant loop-test.true
-
-pub shape_of-offsets-then-not-is_whole : goal.shape_of-offsets-then-not-is_whole
-shape_of-offsets-then-not-is_whole c =
-    let loop = c.loop-j in
-    let set-offset = c.set_offset in
-    rw (set-offset.ensures, length-set) (search (rules, loop.invariant.room))
-
-pub shape_of-depths-then-not-is_whole : goal.shape_of-depths-then-not-is_whole
-shape_of-depths-then-not-is_whole c = search (rules, c.loop-j.invariant.size)
+    let look : Looked c.args.page.now count.result c.args.tables.now.offsets c.args.tables.now.depths =
+    record { two = if1.false; is = count.ensures.0; few = if2.false; room = search rules; size = search rules } in
+    going_start look c.args.n _ _ no-heads.ensures refl
 
 pub returns-then-not-is_whole : goal.returns-then-not-is_whole
 returns-then-not-is_whole c =
     let loop = c.loop-j in
     let loop-test = c.loop-j-test in
-    let set-offset = c.set_offset in
     let is_whole = c.is_whole in
-    rw set-offset.ensures (going_broken loop.invariant loop-test.true (sym is_whole.ensures ∙ c.if-not-is_whole.true))
-
-pub slice_bounds-is_new-end : goal.slice_bounds-is_new-end
-slice_bounds-is_new-end c = sym c.loop-j.invariant.chained.prints
-
-pub slice_bounds-is_new-end-in-loop-j : goal.slice_bounds-is_new-end-in-loop-j
-slice_bounds-is_new-end-in-loop-j c = sym c.loop-j.invariant.chained.linked
+    (going_broken loop.invariant loop-test.true (sym is_whole.ensures ∙ c.if-not-is_whole.true))
 
 pub is_new-requires : goal.is_new-requires
 is_new-requires c =
@@ -66,18 +40,8 @@ is_new-requires c =
     let loop-test = c.loop-j-test in
     let is_whole = c.is_whole in
     let if3 = c.if-not-is_whole in
-    let set-offset = c.set_offset in
     let w = sym is_whole.ensures ∙ if3.false in
-    rw set-offset.ensures ((going_reached loop.invariant loop-test.true).few, going_in loop.invariant loop-test.true w, going_placed loop.invariant loop-test.true, loop.invariant.chained)
-
-pub shape_of-offsets-then-not-is_new : goal.shape_of-offsets-then-not-is_new
-shape_of-offsets-then-not-is_new c =
-    let loop = c.loop-j in
-    let set-offset = c.set_offset in
-    rw (set-offset.ensures, length-set) (search (rules, loop.invariant.room))
-
-pub shape_of-depths-then-not-is_new : goal.shape_of-depths-then-not-is_new
-shape_of-depths-then-not-is_new c = search (rules, c.loop-j.invariant.size)
+    ((going_reached loop.invariant loop-test.true).few, going_in loop.invariant loop-test.true w, going_placed loop.invariant loop-test.true, loop.invariant.chained)
 
 pub returns-then-not-is_new : goal.returns-then-not-is_new
 returns-then-not-is_new c =
@@ -85,30 +49,29 @@ returns-then-not-is_new c =
     let loop-test = c.loop-j-test in
     let is_whole = c.is_whole in
     let if3 = c.if-not-is_whole in
-    let set-offset = c.set_offset in
     let is_new_lem = c.is_new in
     let w = sym is_whole.ensures ∙ if3.false in
-    rw set-offset.ensures (going_equal loop.invariant loop-test.true w (sym is_new_lem.ensures.0 ∙ c.if-not-is_new.true))
+    (going_equal loop.invariant loop-test.true w (sym is_new_lem.ensures.0 ∙ c.if-not-is_new.true))
 
-pub entry_depth-depth-requires : goal.entry_depth-depth-requires
-entry_depth-depth-requires c =
+pub entry_depth-requires : goal.entry_depth-requires
+entry_depth-requires c =
     let loop = c.loop-j in
     let loop-test = c.loop-j-test in
     let is_whole = c.is_whole in
     let if3 = c.if-not-is_whole in
     let q = going_parts loop.invariant loop-test.true (sym is_whole.ensures ∙ if3.false) in
-    depth_asks c.args.page.now loop.depths loop.j loop.o (going_reached loop.invariant loop-test.true) c.args.n q.1 q.0
+    depth_asks c.args.page.now loop.tables.depths loop.j loop.o (going_reached loop.invariant loop-test.true) c.args.n q.1 q.0
 
-pub set_depth-requires : goal.set_depth-requires
-set_depth-requires c =
+pub overflow_cast-tables : goal.overflow_cast-tables
+overflow_cast-tables c =
     let loop = c.loop-j in
     let loop-test = c.loop-j-test in
     let is_whole = c.is_whole in
     let if3 = c.if-not-is_whole in
-    let entry-depth = c.entry_depth-depth in
+    let entry-depth = c.entry_depth in
     let r = going_reached loop.invariant loop-test.true in
     let q = going_parts loop.invariant loop-test.true (sym is_whole.ensures ∙ if3.false) in
-    (omega (arith, r.few, r.size), omega (arith, q.2, entry-depth.ensures.0))
+    search (rules, q.2, entry-depth.ensures.0)
 
 pub entry_size-o-requires : goal.entry_size-o-requires
 entry_size-o-requires c =
@@ -134,35 +97,16 @@ loop-j-preserved c =
     let loop-test = c.loop-j-test in
     let is_whole = c.is_whole in
     let if3 = c.if-not-is_whole in
-    let set-offset = c.set_offset in
     let is_new_lem = c.is_new in
     let if4 = c.if-not-is_new in
-    let entry-depth = c.entry_depth-depth in
-    let set-depth = c.set_depth in
+    let entry-depth = c.entry_depth in
     let w = sym is_whole.ensures ∙ if3.false in
     let b = sym is_new_lem.ensures.0 ∙ if4.false in
-    rw (set-depth.ensures, set-offset.ensures)
     (going_next loop.invariant loop-test.true w b entry-depth.result _ entry-depth.ensures.0
     (ap (λ (x : ℕ). loop.o + x) c.entry_size-o.ensures.0) _ _ is_new_lem.ensures.1)
-
-pub set_offset-requires-2 : goal.set_offset-requires-2
-set_offset-requires-2 c =
-    let loop = c.loop-j in
-    let if2 = c.if-k-gt-ENTRIES in
-    omega (arith, loop.invariant.room, if2.false)
-
-pub shape_of-offsets : goal.shape_of-offsets
-shape_of-offsets c =
-    let loop = c.loop-j in
-    let set-offset2 = c.set_offset-2 in
-    rw (set-offset2.ensures, length-set) (search (rules, loop.invariant.room))
-
-pub shape_of-depths : goal.shape_of-depths
-shape_of-depths c = search (rules, c.loop-j.invariant.size)
 
 pub returns : goal.returns
 returns c =
     let loop = c.loop-j in
     let loop-test = c.loop-j-test in
-    let set-offset2 = c.set_offset-2 in
-    rw set-offset2.ensures (going_end loop.invariant loop-test.false _ c.zeros_from.ensures)
+    (going_end loop.invariant loop-test.false _ c.zeros_from.ensures)

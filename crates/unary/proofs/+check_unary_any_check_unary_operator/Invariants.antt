@@ -1,4 +1,4 @@
-use Prim.Native.Nat.{◌+◌, ◌*◌, ◌-◌}
+use Prim.Native.Nat.{◌+◌, ◌*◌}
 use Rattle.unary.proofs.Checking.{Trying}
 use Rattle.unary.proofs.+check_unary_any_check_unary_operator.Given as goal
 
@@ -9,7 +9,4 @@ abbrev pub decreases-check_unary_operator : goal.decreases-check_unary_operator
 decreases-check_unary_operator l = 2 * l.t + 1
 
 abbrev pub invariant-check_unary_any-loop-i : goal.invariant-check_unary_any-loop-i
-invariant-check_unary_any-loop-i l = Trying l.initial.page l.t l.n l.i l.k l.results l.page l.offsets l.depths l.done
-
-abbrev pub decreases-check_unary_any-loop-i : goal.decreases-check_unary_any-loop-i
-decreases-check_unary_any-loop-i l = l.n - l.i
+invariant-check_unary_any-loop-i l = Trying l.initial.page l.t l.n l.i l.k l.results l.page l.tables.offsets l.tables.depths l.done

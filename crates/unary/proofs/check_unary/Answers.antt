@@ -15,7 +15,7 @@ pub returns-in-Unknown : goal.returns-in-Unknown
 returns-in-Unknown c =
     let a = c.args in
     let is = unknown_checked a.page.now a.op in
-    record { page_after = rw (c.in-Unknown.is, c.unknown.ensures, c.no_error.ensures) is; measured_2 = c.requires.measured }
+    record { page_after = rw (c.in-Unknown.is, c.unknown.ensures) is; measured_2 = c.requires.measured }
 
 pub returns-in-Known : goal.returns-in-Known
 returns-in-Known c =

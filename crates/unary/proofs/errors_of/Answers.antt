@@ -9,7 +9,7 @@ pub any_errors-requires : goal.any_errors-requires
 any_errors-requires c =
     let pre = c.requires in
     let union = ap is_union (sym c.kind_of-kind.ensures) ∙ sym c.is_union.ensures ∙ c.if-is_union.true in
-    record { held = pre.held; leaves = pre.leaves; op_nonzero = (pre.op_nonzero.0, pre.op_nonzero.1, union) }
+    record { leaves = pre.leaves; op_nonzero = (pre.op_nonzero.0, pre.op_nonzero.1, union) }
 
 pub returns : goal.returns
 returns c =
@@ -17,4 +17,4 @@ returns c =
     let kind = c.kind_of-kind.ensures in
     let union = ap is_union (sym kind) ∙ sym c.is_union.ensures ∙ c.if-is_union.false in
     ap (λ (o : Outcome). o.errors) (c.plain_unary-plain.ensures ∙ ap (plain_unary a.op) kind)
-    ∙ errors_plain a.page.now a.op a.t union
+    ∙ errors_plain a.store.page.now a.op a.t union

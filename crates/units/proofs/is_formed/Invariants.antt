@@ -1,4 +1,3 @@
-use Prim.Native.Nat.{◌-◌}
 use Rattle.names.specs.Table.{names_max}
 use Rattle.units.specs.Unit.{places_max}
 use Rattle.units.proofs.Form.{Judging}
@@ -7,6 +6,3 @@ use Rattle.units.proofs.is_formed.Given as goal
 
 abbrev pub invariant-loop-i : goal.invariant-loop-i
 invariant-loop-i l = Judging places_max names_max (places_of l.u) l.lo l.i
-
-abbrev pub decreases-loop-i : goal.decreases-loop-i
-decreases-loop-i l = l.n - l.i

@@ -1,3 +1,5 @@
+use Rattle.std.proofs.Common.{◌+◌, ◌*◌}
+use Rattle.values.specs.Value.{term_bytes}
 use mathlib.Core.Path.{◌≡◌, ap, ap₂, ◌∙◌}
 use mathlib.Core.List.{[], ◌∷◌, ◌++◌}
 use Prim.Native.Nat.{◌+◌, ◌*◌}
@@ -48,13 +50,7 @@ pub with_term-u-requires : goal.with_term-u-requires
 with_term-u-requires c =
     let loop = c.loop-i in
     let loop-test = c.loop-i-test in
-    let z = reading_count c.args.bytes.now c.args.n loop.u loop.at loop.i loop.invariant in omega (arith, z, loop-test.true, c.requires.0)
-
-pub overflow_add-at-in-loop-i-2 : goal.overflow_add-at-in-loop-i-2
-overflow_add-at-in-loop-i-2 c =
-    let loop = c.loop-i in
-    let loop-test = c.loop-i-test in
-    let p = loop.invariant.place in omega (arith, p, loop-test.true, c.requires.1)
+    let z = reading_count c.args.bytes.now c.args.n loop.u (1 + term_bytes * loop.i) loop.i loop.invariant in omega (arith, z, loop-test.true, c.requires.0)
 
 pub loop-i-preserved : goal.loop-i-preserved
 loop-i-preserved c =
@@ -63,11 +59,14 @@ loop-i-preserved c =
     let signed = c.signed in
     let bytes = c.args.bytes.now in
     let l = loop in
-    let e : signed_of (get_or bytes (l.at + 1) 0 * 256 + get_or bytes (l.at + 2) 0) ≡ signed_of (word_at bytes (l.at + 1)) =
-    let z : l.at + 2 ≡ l.at + 1 + 1 = omega arith in ap (λ k. signed_of (get_or bytes (l.at + 1) 0 * 256 + get_or bytes k 0)) z in
-    reading_next bytes c.args.n l.u l.at l.i l.invariant loop-test.true c.with_term-u.result
+    let e : signed_of (get_or bytes ((1 + term_bytes * l.i) + 1) 0 * 256 + get_or bytes ((1 + term_bytes * l.i) + 2) 0) ≡ signed_of (word_at bytes ((1 + term_bytes * l.i) + 1)) =
+    let z : (1 + term_bytes * l.i) + 2 ≡ (1 + term_bytes * l.i) + 1 + 1 = omega arith in ap (λ k. signed_of (get_or bytes ((1 + term_bytes * l.i) + 1) 0 * 256 + get_or bytes k 0)) z in
+    let next : 1 + term_bytes * (l.i + 1) ≡ 1 + term_bytes * l.i + term_bytes = omega arith in
+    rw next (
+    reading_next bytes c.args.n l.u (1 + term_bytes * l.i) l.i l.invariant loop-test.true c.with_term-u.result
     (λ k q. c.with_term-u.ensures ∙ grown _ _ _ k q ∙ ap₂ (λ x z. unit_of (k ++ (term x z ∷ []))) c.index-symbol.ensures.0 (back signed.result signed.type_inv ∙ signed.ensures ∙ e))
+    )
 
 pub returns : goal.returns
 returns c =
-    let l = c.loop-i in reading_end c.args.bytes.now c.args.n l.u l.at l.i l.invariant c.loop-i-test.false
+    let l = c.loop-i in reading_end c.args.bytes.now c.args.n l.u (1 + term_bytes * l.i) l.i l.invariant c.loop-i-test.false

@@ -1,3 +1,5 @@
+use Rattle.std.proofs.Common.{◌+◌, ◌*◌}
+use Rattle.values.specs.Value.{term_bytes}
 use mathlib.Core.Path.{◌≡◌, ap, ◌∙◌}
 use native.Mathlib.Omega.{arith}
 use Rattle.units.proofs.Signed.{back}
@@ -20,12 +22,6 @@ put_bytes-requires c =
     let loop-test = c.loop-i-test in
     let p = loop.invariant.place in let q = loop.invariant.long in omega (arith, p, q, loop-test.true, c.requires.0, c.requires.1)
 
-pub overflow_add-at : goal.overflow_add-at
-overflow_add-at c =
-    let loop = c.loop-i in
-    let loop-test = c.loop-i-test in
-    let p = loop.invariant.place in omega (arith, p, loop-test.true, c.requires.0)
-
 pub loop-i-preserved : goal.loop-i-preserved
 loop-i-preserved c =
     let loop = c.loop-i in
@@ -38,9 +34,12 @@ loop-i-preserved c =
     let u = c.args.u in
     let l = loop in
     let r : raw.result ≡ raw_of (exp_at (places_of u) l.i) = raw.ensures.0 ∙ ap raw_of (back (exp_at (places_of u) l.i) raw-arg.given) in
-    writing_next page u l.out l.at l.i l.invariant loop-test.true c.requires.0 c.requires.1 _
+    let next : 1 + term_bytes * (l.i + 1) ≡ 1 + term_bytes * l.i + term_bytes = omega arith in
+    rw next (
+    writing_next page u l.out (1 + term_bytes * l.i) l.i l.invariant loop-test.true c.requires.0 c.requires.1 _
     (put-bytes.ensures ∙ rw (count-bytes.ensures, r))
+    )
 
 pub returns : goal.returns
 returns c =
-    let l = c.loop-i in writing_end c.args.out.now c.args.u l.out l.at l.i l.invariant c.loop-i-test.false
+    let l = c.loop-i in writing_end c.args.out.now c.args.u l.out (1 + term_bytes * l.i) l.i l.invariant c.loop-i-test.false

@@ -1,4 +1,0 @@
-use Rattle.answers.proofs.no_unit.Goals as goal
-
-pub returns : goal.returns
-returns c = rw c.dimensionless.ensures

@@ -1,0 +1,22 @@
+-- A list tested for zeros a block at a time. Assumes nothing.
+use Rattle.std.proofs.Common.{◌≡◌, refl, sym, ap, ◌∙◌, ℕ, zero, suc, ◌+◌, ◌*◌, ◌&&◌, List, take, drop, take-append-drop, drop-drop, arith}
+use mathlib.Core.Bool.{and_assoc}
+use Rattle.std.specs.List.{list_all}
+use Rattle.std.specs.Simd.{first_chunks}
+use Rattle.pages.specs.Bytes.{zeros}
+use Rattle.pages.proofs.Bytes.{zeros_append}
+
+zeros_split : (l : List ℕ) (i : ℕ) → (zeros (take i l) && zeros (drop i l)) ≡ zeros l
+zeros_split l i = sym (zeros_append (take i l) (drop i l)) ∙ ap zeros (take-append-drop i l)
+
+-- k blocks of n bytes, and what is after them
+zeros_blocks : (n k : ℕ) (l : List ℕ) → (list_all zeros (first_chunks n k l) && zeros (drop (k * n) l)) ≡ zeros l
+zeros_blocks n zero l = let e : zero * n ≡ 0 = omega arith in rw e refl
+zeros_blocks n (suc k) l =
+    let e : suc k * n ≡ n + k * n = omega arith in
+    and_assoc (zeros (take n l)) (list_all zeros (first_chunks n k (drop n l))) (zeros (drop (suc k * n) l))
+    ∙ rw (e, ← drop-drop (k * n) n l, zeros_blocks n k (drop n l)) (zeros_split l n)
+
+-- a list cut into blocks and a rest
+pub zeros_cut : (l : List ℕ) (blocks : List (List ℕ)) (rest : List ℕ) (k : ℕ) → blocks ≡ first_chunks 256 k l → rest ≡ drop (k * 256) l → (list_all zeros blocks && zeros rest) ≡ zeros l
+zeros_cut l blocks rest k b r = rw (b, r) (zeros_blocks 256 k l)

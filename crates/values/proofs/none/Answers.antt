@@ -1,4 +1,0 @@
-use Rattle.values.proofs.none.Goals as goal
-
-pub returns : goal.returns
-returns c = rw c.dimensionless.ensures
