@@ -151,6 +151,15 @@ module _ (t : ConversionTable) (n s f b : ℕ) where
       let v = answer_of_err (insert_verdict t n (pair s b)) (with_pair t s f b) r e in
       (sym v, rw v)
 
+  -- and what the table that is lent is afterwards, what it answers
+  pub inserted_ok : (x : ConversionTable) → Ok tt ≡ insert_verdict t n (pair s b) → x ≡ after_insertion t n s f b → Ok x ≡ insertion t n s f b
+  unfolding insertion after_insertion
+  inserted_ok x v e = rw (e, ← v)
+
+  pub inserted_err : (r : Refusal) → Err r ≡ insert_verdict t n (pair s b) → Err r ≡ insertion t n s f b
+  unfolding insertion
+  inserted_err r v = rw (← v)
+
   pub insert_ok : (x : ConversionTable) → Ok x ≡ insertion t n s f b → (Ok tt ≡ insert_verdict t n (pair s b)) × (x ≡ after_insertion t n s f b)
   unfolding insertion after_insertion
   insert_ok x e =

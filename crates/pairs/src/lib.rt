@@ -308,7 +308,8 @@ pub fn insert_pair(
         return Err(Refusal::Broken);
     }
     let n = names::in_use(names, lent);
-    let t = inserted(table_in(page), n, symbol, factor, base)?;
+    let mut t = table_in(page);
+    insert(&mut t, n, symbol, factor, base)?;
     if page.len() < size_of(t.count) {
         return Err(Refusal::Full);
     }

@@ -287,19 +287,35 @@ pub fn survey(page: &[u8], n: usize, tables: &mut Tables) -> bool
     pages::zeros_from(page, o)
 }
 
+// How many types there are in a page, and so the next one's number.
+pub fn count(page: &[u8]) -> usize
+    requires { count_bytes ≤ length page.now }
+    ensures { result ≡ types_in page.now }
+{
+    FIXED + pages::count(page)
+}
+
+// The bytes of a page's count of entries.
+pub fn front(page: &[u8]) -> Word
+    requires { count_bytes ≤ length page.now }
+    ensures { result ≡ get_or page.now 0 0 ∷ get_or page.now 1 0 ∷ [] }
+{
+    [page[0], page[1]]
+}
+
 impl Store<'_> {
     // How many types there are, and so the next one's number.
     pub fn count(self) -> usize
         ensures { result ≡ types_in self.entry.page.now }
     {
-        FIXED + pages::count(self.page)
+        count(self.page)
     }
 
     // The bytes of the count of entries.
     pub fn front(self) -> Word
         ensures { result ≡ get_or self.entry.page.now 0 0 ∷ get_or self.entry.page.now 1 0 ∷ [] }
     {
-        [self.page[0], self.page[1]]
+        front(self.page)
     }
 
     // Where the entry of a type begins; for the next type's number, where the last entry ends.
@@ -481,7 +497,7 @@ fn parts_used(page: &[u8], n: usize, kind: Kind, children: &[u16], name: Symbol)
     requires { count_bytes ≤ length page.now }
     ensures { result ≡ parts_used page.now n kind children.now name }
 {
-    if !all_below(children, FIXED + pages::count(page)) {
+    if !all_below(children, count(page)) {
         return false;
     }
     if kinds::is_named(kind) {
@@ -567,7 +583,7 @@ pub fn read_type(page: &[u8], names: &[u8], lent: bool, t: usize) -> Result<Shap
     if !survey(page, n, &mut tables) {
         return Err(Refusal::Broken);
     }
-    if FIXED + pages::count(page) <= t {
+    if count(page) <= t {
         return Err(Refusal::Unused);
     }
     Ok(shape_of(page, &tables, t))

@@ -2,6 +2,7 @@ use Rattle.std.proofs.lemmas.Result.{err_from_is_err_and}
 use mathlib.Core.Path.{sym, ◌∙◌}
 use native.Mathlib.Omega.{arith}
 use Rattle.pairs.proofs.Page.{held_parts}
+use Rattle.pairs.proofs.Table.{inserted_ok, inserted_err}
 use Rattle.pairs.proofs.Calls.{pair_unnamed, pair_unheld, pair_refused, pair_few, count_grown, grown_below, pair_cramped, pair_done}
 use Rattle.pairs.proofs.insert_pair.Goals as goal
 
@@ -24,19 +25,20 @@ in_use-n-requires c =
     let is-broken = c.is_broken in
     sym is-broken.ensures ∙ c.if-is_broken.false
 
-pub table_in-requires : goal.table_in-requires
-table_in-requires c =
+pub table_in-t-requires : goal.table_in-t-requires
+table_in-t-requires c =
     let holds-table = c.holds_table in
     held_parts c.args.page.now
     (sym holds-table.ensures ∙ c.if-not-holds_table.false)
 
-pub returns-in_err-t : goal.returns-in_err-t
-returns-in_err-t c =
+pub returns-in_err-insert : goal.returns-in_err-insert
+returns-in_err-insert c =
     let a = c.args in
     let l = sym c.is_broken.ensures ∙ c.if-is_broken.false in
     let h = sym c.holds_table.ensures ∙ c.if-not-holds_table.false in
     let p = err_from_is_err_and c.from_residual.result c.from_residual.ensures.1 in
-    let o = sym c.in_err-t.was ∙ rw (c.table_in.ensures, c.in_use-n.ensures.0) at c.inserted.ensures in
+    let i = rw (c.table_in-t.ensures, c.in_use-n.ensures.0) at c.insert.ensures in
+    let o = inserted_err _ _ _ _ _ _ (sym c.in_err-insert.was ∙ i.verdict) in
     rw (p.1, p.2) (pair_refused a.page.now a.names.now a.lent a.symbol a.factor a.base l h _ o)
 
 pub size_of-requires : goal.size_of-requires
@@ -44,7 +46,8 @@ size_of-requires c =
     let a = c.args in
     let l = sym c.is_broken.ensures ∙ c.if-is_broken.false in
     let h = sym c.holds_table.ensures ∙ c.if-not-holds_table.false in
-    let o = sym c.in_ok-t.was ∙ rw (c.table_in.ensures, c.in_use-n.ensures.0) at c.inserted.ensures in
+    let i = rw (c.table_in-t.ensures, c.in_use-n.ensures.0) at c.insert.ensures in
+    let o = inserted_ok _ _ _ _ _ _ (sym c.in_ok-insert.was ∙ i.verdict) i.table_after in
     let few = pair_few a.page.now a.names.now a.lent a.symbol a.factor a.base l h _ o in
     let grown = count_grown a.page.now a.names.now a.lent a.symbol a.factor a.base l h _ o in
     omega (arith, few, grown)
@@ -54,7 +57,8 @@ returns-then-page-size_of c =
     let a = c.args in
     let l = sym c.is_broken.ensures ∙ c.if-is_broken.false in
     let h = sym c.holds_table.ensures ∙ c.if-not-holds_table.false in
-    let o = sym c.in_ok-t.was ∙ rw (c.table_in.ensures, c.in_use-n.ensures.0) at c.inserted.ensures in
+    let i = rw (c.table_in-t.ensures, c.in_use-n.ensures.0) at c.insert.ensures in
+    let o = inserted_ok _ _ _ _ _ _ (sym c.in_ok-insert.was ∙ i.verdict) i.table_after in
     pair_cramped a.page.now a.names.now a.lent a.symbol a.factor a.base l h _ o (rw c.size_of.ensures at c.if-page-size_of.true)
 
 pub write_table-requires : goal.write_table-requires
@@ -62,7 +66,8 @@ write_table-requires c =
     let a = c.args in
     let l = sym c.is_broken.ensures ∙ c.if-is_broken.false in
     let h = sym c.holds_table.ensures ∙ c.if-not-holds_table.false in
-    let o = sym c.in_ok-t.was ∙ rw (c.table_in.ensures, c.in_use-n.ensures.0) at c.inserted.ensures in
+    let i = rw (c.table_in-t.ensures, c.in_use-n.ensures.0) at c.insert.ensures in
+    let o = inserted_ok _ _ _ _ _ _ (sym c.in_ok-insert.was ∙ i.verdict) i.table_after in
     let few = pair_few a.page.now a.names.now a.lent a.symbol a.factor a.base l h _ o in
     let grown = count_grown a.page.now a.names.now a.lent a.symbol a.factor a.base l h _ o in
     (omega (arith, few, grown), rw c.size_of.ensures at c.if-page-size_of.false, grown_below a.page.now a.names.now a.lent a.symbol a.factor a.base l h _ o)
@@ -72,6 +77,7 @@ returns c =
     let a = c.args in
     let l = sym c.is_broken.ensures ∙ c.if-is_broken.false in
     let h = sym c.holds_table.ensures ∙ c.if-not-holds_table.false in
-    let o = sym c.in_ok-t.was ∙ rw (c.table_in.ensures, c.in_use-n.ensures.0) at c.inserted.ensures in
+    let i = rw (c.table_in-t.ensures, c.in_use-n.ensures.0) at c.insert.ensures in
+    let o = inserted_ok _ _ _ _ _ _ (sym c.in_ok-insert.was ∙ i.verdict) i.table_after in
     let d = pair_done a.page.now a.names.now a.lent a.symbol a.factor a.base l h _ o (rw c.size_of.ensures at c.if-page-size_of.false) in
     (d.0, c.write_table.ensures ∙ d.1)

@@ -40,7 +40,7 @@ returns-then-count-t c =
     let a = c.args in
     let l = sym is-broken.ensures ∙ if1.false in
     let f = sym survey.ensures.0 ∙ if2.false in
-    let h = rw count.ensures.0 at c.if-count-t.true in
+    let h = rw count.ensures at c.if-count-t.true in
     read_unused a.page.now a.names.now a.lent a.t l in_use.result in_use.ensures.0 f h
 
 pub shape_of-requires : goal.shape_of-requires
@@ -49,7 +49,7 @@ shape_of-requires c =
     let if2 = c.if-not-survey in
     let count = c.count in
     let if3 = c.if-count-t in
-    record { measured = survey.ensures.1 if2.false; t_bound = rw count.ensures.0 at if3.false }
+    record { measured = survey.ensures.1 if2.false; t_bound = rw count.ensures at if3.false }
 
 pub returns : goal.returns
 returns c =
@@ -63,5 +63,5 @@ returns c =
     let a = c.args in
     let l = sym is-broken.ensures ∙ if1.false in
     let f = sym survey.ensures.0 ∙ if2.false in
-    let h = rw count.ensures.0 at if3.false in
+    let h = rw count.ensures at if3.false in
     read_given a.page.now a.names.now a.lent a.t l in_use.result in_use.ensures.0 f h c.shape_of.result c.shape_of.ensures
