@@ -2,7 +2,7 @@
 use Rattle.units.specs.declared.Unit.{Unit}
 use Rattle.std.proofs.Common.{Result, Ok, Err, Option}
 use mathlib.Core.Path.{◌≡◌, refl, sym, ap, fun_ext, ◌∙◌}
-use mathlib.Core.Bool.{Bool, true, false, ◌&&◌, ◌||◌, not}
+use mathlib.Core.Bool.{true, false, ◌&&◌, ◌||◌, not}
 use mathlib.Core.List.{List, [], ◌∷◌}
 use Prim.Native.Nat.{ℕ, ◌<◌, ◌≤◌}
 use native.Mathlib.Nat.{le_refl}
@@ -82,30 +82,30 @@ module _ (page : List ℕ) (n : ℕ) (left right : CheckedExpr) where
 
 -- ---- binary operators
 
-module _ (page names : List ℕ) (lent : Bool) (pairs : List ℕ) (op : ℕ) (left right : CheckedExpr) where
-  binary_refused : (r : Refusal) → binary_verdict page names lent pairs op left right ≡ Err r → Err r ≡ binary_answer page names lent pairs op left right
+module _ (page : List ℕ) (names : Option (List ℕ)) (pairs : List ℕ) (op : ℕ) (left right : CheckedExpr) where
+  binary_refused : (r : Refusal) → binary_verdict page names pairs op left right ≡ Err r → Err r ≡ binary_answer page names pairs op left right
   unfolding binary_answer
   binary_refused r v = rw v
 
-  pub binary_undefined : is_operator op ≡ false → Err Undefined ≡ binary_answer page names lent pairs op left right
+  pub binary_undefined : is_operator op ≡ false → Err Undefined ≡ binary_answer page names pairs op left right
   binary_undefined d =
       binary_refused Undefined
       (rw d
       (first_holds Undefined
-      ((Broken when (store_broken page names lent || table_broken pairs names lent)) ∷ operand_conditions page (used_of names lent) left right) refl))
+      ((Broken when (store_broken page names || table_broken pairs names)) ∷ operand_conditions page (used_of names) left right) refl))
 
   module _ (d : is_operator op ≡ true) where
-    pub binary_broken : (store_broken page names lent || table_broken pairs names lent) ≡ true → Err Broken ≡ binary_answer page names lent pairs op left right
-    binary_broken b = binary_refused Broken (rw (d, b) (first_holds Broken (operand_conditions page (used_of names lent) left right) refl))
+    pub binary_broken : (store_broken page names || table_broken pairs names) ≡ true → Err Broken ≡ binary_answer page names pairs op left right
+    binary_broken b = binary_refused Broken (rw (d, b) (first_holds Broken (operand_conditions page (used_of names) left right) refl))
 
-    module _ (b : store_broken page names lent ≡ false) (t : table_broken pairs names lent ≡ false) where
-      pub binary_unfit : (r : Refusal) → Err r ≡ lowest (operand_conditions page (used_of names lent) left right)
-          → Err r ≡ binary_answer page names lent pairs op left right
+    module _ (b : store_broken page names ≡ false) (t : table_broken pairs names ≡ false) where
+      pub binary_unfit : (r : Refusal) → Err r ≡ lowest (operand_conditions page (used_of names) left right)
+          → Err r ≡ binary_answer page names pairs op left right
       binary_unfit r v = binary_refused r (rw (d, b, t) (sym v))
 
-      pub binary_passed : Ok tt ≡ lowest (operand_conditions page (used_of names lent) left right)
+      pub binary_passed : Ok tt ≡ lowest (operand_conditions page (used_of names) left right)
           → (root : ℕ → ℕ) → ((s : ℕ) → root s ≡ roots_in pairs s)
-          → binary_checked page root op left right ≡ binary_answer page names lent pairs op left right
+          → binary_checked page root op left right ≡ binary_answer page names pairs op left right
       unfolding binary_answer
       binary_passed v root same = rw (d, b, t, ← v) (ap (λ (by : ℕ → ℕ). binary_checked page by op left right) (fun_ext same))
 
@@ -148,52 +148,52 @@ module _ (page : List ℕ) (z : Concluded) (r : Result Outcome Refusal) (after :
 
 -- ---- operators with one operand
 
-module _ (page names : List ℕ) (lent : Bool) (op : ℕ) (x : CheckedExpr) where
+module _ (page : List ℕ) (names : Option (List ℕ)) (op : ℕ) (x : CheckedExpr) where
   -- an answer and a page are those of the call
   abbrev Unary : Result Answered Refusal → List ℕ → Type 0
-  Unary a after = (a ≡ unary_answer page names lent op x) × (after ≡ unary_page page names lent op x)
+  Unary a after = (a ≡ unary_answer page names op x) × (after ≡ unary_page page names op x)
 
-  unary_refused : (r : Refusal) → unary_verdict page names lent op x ≡ Err r → Unary (Err r) page
+  unary_refused : (r : Refusal) → unary_verdict page names op x ≡ Err r → Unary (Err r) page
   unfolding unary_answer unary_page
   unary_refused r v = (rw v refl, rw v refl)
 
   pub unary_undefined : is_operator op ≡ false → Unary (Err Undefined) page
   unary_undefined d =
       unary_refused Undefined
-      (rw d (first_holds Undefined ((Broken when store_broken page names lent) ∷ operand_conditions page (used_of names lent) x x) refl))
+      (rw d (first_holds Undefined ((Broken when store_broken page names) ∷ operand_conditions page (used_of names) x x) refl))
 
   module _ (d : is_operator op ≡ true) where
-    pub unary_broken : store_broken page names lent ≡ true → Unary (Err Broken) page
-    unary_broken b = unary_refused Broken (rw (d, b) (first_holds Broken (operand_conditions page (used_of names lent) x x) refl))
+    pub unary_broken : store_broken page names ≡ true → Unary (Err Broken) page
+    unary_broken b = unary_refused Broken (rw (d, b) (first_holds Broken (operand_conditions page (used_of names) x x) refl))
 
-    module _ (b : store_broken page names lent ≡ false) where
-      pub unary_unfit : (r : Refusal) → Err r ≡ lowest (operand_conditions page (used_of names lent) x x) → Unary (Err r) page
+    module _ (b : store_broken page names ≡ false) where
+      pub unary_unfit : (r : Refusal) → Err r ≡ lowest (operand_conditions page (used_of names) x x) → Unary (Err r) page
       unary_unfit r v = unary_refused r (rw (d, b) (sym v))
 
-      pub unary_passed : Ok tt ≡ lowest (operand_conditions page (used_of names lent) x x) → {a : Result Answered Refusal} {after : List ℕ}
+      pub unary_passed : Ok tt ≡ lowest (operand_conditions page (used_of names) x x) → {a : Result Answered Refusal} {after : List ℕ}
           → a ≡ unary_checked (check_unary page op x.checked) op x.unit → after ≡ store_after (check_unary page op x.checked) page → Unary a after
       unfolding unary_answer unary_page
       unary_passed v p q = (rw (d, b, ← v) p, rw (d, b, ← v) q)
 
 -- ---- indexing
 
-module _ (page names : List ℕ) (lent : Bool) (target : CheckedExpr) (key : Checked) where
+module _ (page : List ℕ) (names : Option (List ℕ)) (target : CheckedExpr) (key : Checked) where
   -- an answer and a page are those of the call
   abbrev Indexed : Result Answered Refusal → List ℕ → Type 0
-  Indexed a after = (a ≡ index_answer page names lent target key) × (after ≡ index_page page names lent target key)
+  Indexed a after = (a ≡ index_answer page names target key) × (after ≡ index_page page names target key)
 
-  index_refused : (r : Refusal) → index_verdict page names lent target key ≡ Err r → Indexed (Err r) page
+  index_refused : (r : Refusal) → index_verdict page names target key ≡ Err r → Indexed (Err r) page
   unfolding index_answer index_page
   index_refused r v = (rw v refl, rw v refl)
 
-  pub index_broken : store_broken page names lent ≡ true → Indexed (Err Broken) page
-  index_broken b = index_refused Broken (rw b (first_holds Broken (operand_conditions page (used_of names lent) target (keyed key)) refl))
+  pub index_broken : store_broken page names ≡ true → Indexed (Err Broken) page
+  index_broken b = index_refused Broken (rw b (first_holds Broken (operand_conditions page (used_of names) target (keyed key)) refl))
 
-  module _ (b : store_broken page names lent ≡ false) where
-    pub index_unfit : (r : Refusal) → Err r ≡ lowest (operand_conditions page (used_of names lent) target (keyed key)) → Indexed (Err r) page
+  module _ (b : store_broken page names ≡ false) where
+    pub index_unfit : (r : Refusal) → Err r ≡ lowest (operand_conditions page (used_of names) target (keyed key)) → Indexed (Err r) page
     index_unfit r v = index_refused r (rw b (sym v))
 
-    pub index_passed : Ok tt ≡ lowest (operand_conditions page (used_of names lent) target (keyed key)) → {a : Result Answered Refusal} {after : List ℕ}
+    pub index_passed : Ok tt ≡ lowest (operand_conditions page (used_of names) target (keyed key)) → {a : Result Answered Refusal} {after : List ℕ}
         → a ≡ concluded_by (check_index page key target.checked).conclusion target.unit
         → after ≡ store_after (check_index page key target.checked) page → Indexed a after
     unfolding index_answer index_page

@@ -104,32 +104,32 @@ module _ (page : List ℕ) (f : Formed page) where
 
 -- ---- any operands
 
-module _ (page names : List ℕ) (lent : Bool) where
-  formed : store_broken page names lent ≡ false → Formed page
-  formed b = record { names = used_of names lent; form = (unbroken_both page names lent b).1 }
+module _ (page : List ℕ) (names : Option (List ℕ)) where
+  formed : store_broken page names ≡ false → Formed page
+  formed b = record { names = used_of names; form = (unbroken_both page names b).1 }
 
-  pub unary_page_grown : (op : ℕ) (x : CheckedExpr) → Grows page (unary_page page names lent op x)
+  pub unary_page_grown : (op : ℕ) (x : CheckedExpr) → Grows page (unary_page page names op x)
   unfolding unary_page
-  unary_page_grown op x = go (unary_verdict page names lent op x) refl
+  unary_page_grown op x = go (unary_verdict page names op x) refl
     where
-      go : (v : Verdict) → unary_verdict page names lent op x ≡ v
+      go : (v : Verdict) → unary_verdict page names op x ≡ v
           → Grows page (unless_refused v (store_after (check_unary page op x.checked) page) page)
       go (Err r) e = grows_refl page
       go (Ok _) e =
-          let operands = operand_conditions page (used_of names lent) x x in
-          let p = passed_parts Undefined (not (is_operator op)) ((Broken when store_broken page names lent) ∷ operands) e in
-          let q = passed_parts Broken (store_broken page names lent) operands p.1 in
+          let operands = operand_conditions page (used_of names) x x in
+          let p = passed_parts Undefined (not (is_operator op)) ((Broken when store_broken page names) ∷ operands) e in
+          let q = passed_parts Broken (store_broken page names) operands p.1 in
           (unary_left page (formed q.0) op (not-false (is_operator op) p.0) x.checked
-          (passed_used page (used_of names lent) x x q.1).0).0
+          (passed_used page (used_of names) x x q.1).0).0
 
-  pub index_page_grown : (target : CheckedExpr) (key : Checked) → Grows page (index_page page names lent target key)
+  pub index_page_grown : (target : CheckedExpr) (key : Checked) → Grows page (index_page page names target key)
   unfolding index_page
-  index_page_grown target key = go (index_verdict page names lent target key) refl
+  index_page_grown target key = go (index_verdict page names target key) refl
     where
-      go : (v : Verdict) → index_verdict page names lent target key ≡ v
+      go : (v : Verdict) → index_verdict page names target key ≡ v
           → Grows page (unless_refused v (store_after (check_index page key target.checked) page) page)
       go (Err r) e = grows_refl page
       go (Ok _) e =
-          let operands = operand_conditions page (used_of names lent) target (keyed key) in
-          let q = passed_parts Broken (store_broken page names lent) operands e in
-          (index_left page (formed q.0) key target.checked (passed_used page (used_of names lent) target (keyed key) q.1).0).0
+          let operands = operand_conditions page (used_of names) target (keyed key) in
+          let q = passed_parts Broken (store_broken page names) operands e in
+          (index_left page (formed q.0) key target.checked (passed_used page (used_of names) target (keyed key) q.1).0).0

@@ -6,7 +6,7 @@ use Rattle.units.specs.declared.Unit.{Unit}
 use Rattle.std.proofs.Common.{Result, Ok, Err, Option}
 use Rattle.refusals.specs.declared.Refusal.{Refusal}
 use mathlib.Core.Path.{◌≡◌, refl}
-use mathlib.Core.Bool.{Bool, true, false}
+use mathlib.Core.Bool.{true, false}
 use mathlib.Core.List.{List}
 use Prim.Native.Nat.{ℕ}
 use Rattle.refusals.specs.Numbers.{Verdict}
@@ -43,10 +43,10 @@ concluded_unit (Ok o) u = refl
 concluded_unit (Err r) u = tt
 
 -- an index that is not refused has its target's unit
-pub index_keeps : (page names : List ℕ) (lent : Bool) (target : CheckedExpr) (key : Checked)
-    → IfOk (index_answer page names lent target key) (λ a. a.unit ≡ target.unit)
+pub index_keeps : (page : List ℕ) (names : Option (List ℕ)) (target : CheckedExpr) (key : Checked)
+    → IfOk (index_answer page names target key) (λ a. a.unit ≡ target.unit)
 unfolding index_answer
-index_keeps page names lent target key = go (index_verdict page names lent target key)
+index_keeps page names target key = go (index_verdict page names target key)
   where
     c : Result Outcome Refusal
     c = (check_index page key target.checked).conclusion

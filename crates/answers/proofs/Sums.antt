@@ -2,6 +2,8 @@
 -- number, is answered without an error (`sum_errs`); where they are, a type that is answered has the left's unit (`sum_keeps`). The same
 -- by the roots of any groups: `checked_errs`, `checked_keeps`, and that without an error the units are convertible, `checked_agrees`.
 -- Assumes nothing.
+use Rattle.std.specs.Prelude.{IfOk}
+use Rattle.std.specs.Prelude.{Option}
 use Rattle.refusals.specs.declared.Refusal.{Refusal}
 use Rattle.sums.specs.Calls.{or_empty}
 use Rattle.std.proofs.Common.{Ok, Err, Result}
@@ -191,14 +193,14 @@ module _ (page : List ℕ) (form : Formed page) (root : ℕ → ℕ) (op : ℕ) 
 
 -- ---- and of the call
 
-module _ (page names : List ℕ) (lent : Bool) (pairs : List ℕ) (op : ℕ) (left right : CheckedExpr) (sum : unit_rule op ≡ Adopted)
+module _ (page : List ℕ) (names : Option (List ℕ)) (pairs : List ℕ) (op : ℕ) (left right : CheckedExpr) (sum : unit_rule op ≡ Adopted)
     (l : unitless left.unit ≡ false) (r : unitless right.unit ≡ false)
-    (a : Answered) (given : binary_answer page names lent pairs op left right ≡ Ok a) where
+    (a : Answered) (given : binary_answer page names pairs op left right ≡ Ok a) where
   not_refused : (v : Verdict) (x : Result Answered Refusal) → guarded v x ≡ Ok a → (v ≡ Ok tt) × (x ≡ Ok a)
   not_refused (Ok _) x e = (refl, e)
   not_refused (Err q) x e = absurd (let z : ◌≡◌ {A = ℕ} 0 1 = cc in omega arith)
 
-  verdict : binary_verdict page names lent pairs op left right ≡ Ok tt
+  verdict : binary_verdict page names pairs op left right ≡ Ok tt
   unfolding binary_answer
   verdict = (not_refused _ (binary_checked page (roots_in pairs) op left right) given).0
 
@@ -206,26 +208,29 @@ module _ (page names : List ℕ) (lent : Bool) (pairs : List ℕ) (op : ℕ) (le
   unfolding binary_answer
   is_checked = (not_refused _ (binary_checked page (roots_in pairs) op left right) given).1
 
-  behind : (store_broken page names lent ≡ false) × (lowest (operand_conditions page (used_of names lent) left right) ≡ Ok tt)
+  behind : (store_broken page names ≡ false) × (lowest (operand_conditions page (used_of names) left right) ≡ Ok tt)
   behind =
-      let broken = store_broken page names lent || table_broken pairs names lent in
-      let p = passed_parts Undefined (not (is_operator op)) ((Broken when broken) ∷ operand_conditions page (used_of names lent) left right) verdict in
-      let q = passed_parts Broken broken (operand_conditions page (used_of names lent) left right) p.1 in
-      (first (store_broken page names lent) (table_broken pairs names lent) q.0, q.1)
+      let broken = store_broken page names || table_broken pairs names in
+      let p = passed_parts Undefined (not (is_operator op)) ((Broken when broken) ∷ operand_conditions page (used_of names) left right) verdict in
+      let q = passed_parts Broken broken (operand_conditions page (used_of names) left right) p.1 in
+      (first (store_broken page names) (table_broken pairs names) q.0, q.1)
     where
       first : (a b : Bool) → (a || b) ≡ false → a ≡ false
       first true b e = absurd (never (sym e))
       first false b e = refl
 
   form : Formed page
-  form = record { names = used_of names lent; form = (unbroken_both page names lent behind.0).1 }
+  form = record { names = used_of names; form = (unbroken_both page names behind.0).1 }
 
   used : (in_use page left.checked ≡ true) × (in_use page right.checked ≡ true)
-  used = passed_used page (used_of names lent) left right behind.1
+  used = passed_used page (used_of names) left right behind.1
 
   module _ (t : ℕ) (known : a.checked ≡ Known t) where
     pub sum_errs : convertible names_max (roots_in pairs) (terms_of (or_empty left.unit)) (terms_of (or_empty right.unit)) ≡ false → 0 < count_of a.errors
     sum_errs apart = checked_errs page form (roots_in pairs) op left right sum l r used.0 used.1 a is_checked t known apart
+
+    pub is_known_lem : IfOk (binary_checked page (roots_in pairs) op left right) (λ x. x.checked ≡ Known t)
+    is_known_lem = rw is_checked known
 
     pub sum_keeps : convertible names_max (roots_in pairs) (terms_of (or_empty left.unit)) (terms_of (or_empty right.unit)) ≡ true → a.unit ≡ left.unit
     sum_keeps together = checked_keeps page form (roots_in pairs) op left right sum l r used.0 used.1 a is_checked t known together

@@ -1,5 +1,4 @@
 -- What the calls for operators and indexing answer, and leave in the store's page (document 01, "Answers" and the table of refusals).
--- Names are lent where `lent` is true.
 use Rattle.units.specs.declared.Unit.{Unit}
 use Rattle.std.specs.Prelude.{Bool, ◌&&◌, ◌||◌, not, cond, List, [], ◌∷◌, ℕ, eqb, Result, Ok, Err, Option}
 use Rattle.refusals.specs.Lowest.{Condition, ◌when◌, lowest, unless_refused, guarded}
@@ -54,12 +53,12 @@ answered o u = record { checked = o.checked; unit = u; errors = o.errors }
 -- ---- `check_binary_operator`
 
 -- 1 the operator; 2 the names, the store or the pairs
-abbrev pub binary_verdict : List ℕ → List ℕ → Bool → List ℕ → ℕ → CheckedExpr → CheckedExpr → Verdict
-binary_verdict page names lent pairs op left right =
+abbrev pub binary_verdict : List ℕ → Option (List ℕ) → List ℕ → ℕ → CheckedExpr → CheckedExpr → Verdict
+binary_verdict page names pairs op left right =
     lowest
     ((Undefined when not (is_operator op))
-    ∷ (Broken when (store_broken page names lent || table_broken pairs names lent))
-    ∷ operand_conditions page (used_of names lent) left right)
+    ∷ (Broken when (store_broken page names || table_broken pairs names))
+    ∷ operand_conditions page (used_of names) left right)
 
 -- a check that passes has the unit of its operator's rule, refused by 8 and 9; with an error there is none
 abbrev pub beside : Outcome → Result (Option Unit) Refusal → Result Answered Refusal
@@ -75,9 +74,9 @@ binary_checked page root op left right =
     with_unit (check_binary page op (clashes root left.unit right.unit) left.checked right.checked)
     (binary_unit op left.unit right.unit)
 
-unfoldable pub binary_answer : List ℕ → List ℕ → Bool → List ℕ → ℕ → CheckedExpr → CheckedExpr → Result Answered Refusal
-binary_answer page names lent pairs op left right =
-    guarded (binary_verdict page names lent pairs op left right) (binary_checked page (roots_in pairs) op left right)
+unfoldable pub binary_answer : List ℕ → Option (List ℕ) → List ℕ → ℕ → CheckedExpr → CheckedExpr → Result Answered Refusal
+binary_answer page names pairs op left right =
+    guarded (binary_verdict page names pairs op left right) (binary_checked page (roots_in pairs) op left right)
 
 -- ---- calls whose answer may enter a union into the store
 
@@ -93,12 +92,12 @@ store_after q page = unless_refused q.conclusion q.store page
 -- ---- `check_unary_operator`
 
 -- the operand is judged as if it were given twice
-abbrev pub unary_verdict : List ℕ → List ℕ → Bool → ℕ → CheckedExpr → Verdict
-unary_verdict page names lent op x =
+abbrev pub unary_verdict : List ℕ → Option (List ℕ) → ℕ → CheckedExpr → Verdict
+unary_verdict page names op x =
     lowest
     ((Undefined when not (is_operator op))
-    ∷ (Broken when store_broken page names lent)
-    ∷ operand_conditions page (used_of names lent) x x)
+    ∷ (Broken when store_broken page names)
+    ∷ operand_conditions page (used_of names) x x)
 
 -- − keeps its operand's unit where it passes, ! has none
 unfoldable pub unary_unit : List ℕ → ℕ → Outcome → Option Unit → Option Unit
@@ -113,13 +112,13 @@ unary_concluded (Err r) store op u = Err r
 abbrev pub unary_checked : Concluded → ℕ → Option Unit → Result Answered Refusal
 unary_checked q op u = unary_concluded q.conclusion q.store op u
 
-unfoldable pub unary_answer : List ℕ → List ℕ → Bool → ℕ → CheckedExpr → Result Answered Refusal
-unary_answer page names lent op x =
-    guarded (unary_verdict page names lent op x) (unary_checked (check_unary page op x.checked) op x.unit)
+unfoldable pub unary_answer : List ℕ → Option (List ℕ) → ℕ → CheckedExpr → Result Answered Refusal
+unary_answer page names op x =
+    guarded (unary_verdict page names op x) (unary_checked (check_unary page op x.checked) op x.unit)
 
-unfoldable pub unary_page : List ℕ → List ℕ → Bool → ℕ → CheckedExpr → List ℕ
-unary_page page names lent op x =
-    unless_refused (unary_verdict page names lent op x) (store_after (check_unary page op x.checked) page) page
+unfoldable pub unary_page : List ℕ → Option (List ℕ) → ℕ → CheckedExpr → List ℕ
+unary_page page names op x =
+    unless_refused (unary_verdict page names op x) (store_after (check_unary page op x.checked) page) page
 
 -- ---- `check_index_target` and `check_index_any`
 
@@ -127,15 +126,15 @@ unary_page page names lent op x =
 abbrev pub keyed : Checked → CheckedExpr
 keyed key = record { checked = key; unit = no_unit }
 
-abbrev pub index_verdict : List ℕ → List ℕ → Bool → CheckedExpr → Checked → Verdict
-index_verdict page names lent target key =
-    lowest ((Broken when store_broken page names lent) ∷ operand_conditions page (used_of names lent) target (keyed key))
+abbrev pub index_verdict : List ℕ → Option (List ℕ) → CheckedExpr → Checked → Verdict
+index_verdict page names target key =
+    lowest ((Broken when store_broken page names) ∷ operand_conditions page (used_of names) target (keyed key))
 
 -- "An index keeps its target's unit"
-unfoldable pub index_answer : List ℕ → List ℕ → Bool → CheckedExpr → Checked → Result Answered Refusal
-index_answer page names lent target key =
-    guarded (index_verdict page names lent target key) (concluded_by (check_index page key target.checked).conclusion target.unit)
+unfoldable pub index_answer : List ℕ → Option (List ℕ) → CheckedExpr → Checked → Result Answered Refusal
+index_answer page names target key =
+    guarded (index_verdict page names target key) (concluded_by (check_index page key target.checked).conclusion target.unit)
 
-unfoldable pub index_page : List ℕ → List ℕ → Bool → CheckedExpr → Checked → List ℕ
-index_page page names lent target key =
-    unless_refused (index_verdict page names lent target key) (store_after (check_index page key target.checked) page) page
+unfoldable pub index_page : List ℕ → Option (List ℕ) → CheckedExpr → Checked → List ℕ
+index_page page names target key =
+    unless_refused (index_verdict page names target key) (store_after (check_index page key target.checked) page) page

@@ -2,7 +2,7 @@
 // the source's structs.rs).
 #![tactic(auto)]
 
-ghost use Rattle.std.specs.Prelude.{◌≡◌, true, false, ◌*◌, ◌≤◌, ◌<◌};
+ghost use Rattle.std.specs.Prelude.{◌≡◌, true, false, ◌*◌, ◌≤◌, ◌<◌, option_copied};
 ghost use Rattle.refusals.specs.Lowest.{lowest};
 ghost use Rattle.types.specs.Types.{types_in, Measured};
 ghost use Rattle.matching.specs.Matching.{in_use};
@@ -20,6 +20,7 @@ ghost use Rattle.answers.specs.Calls.{operand_used, operand_formed, operand_cond
 
 use marks::{SMALL, TINY};
 use matching::{Checked, LARGE_MEMO, SMALL_MEMO, TINY_MEMO};
+use members::Leafed;
 use names::Symbol;
 use operators::{Errors, MINUS, Outcome, UnitRule};
 use refusals::Refusal;
@@ -122,7 +123,6 @@ fn combine_units(
 // The unit of a binary operator's answer, where its check passes.
 #[tactic(auto, unfolding(crate::specs::Units::binary_unit))]
 fn binary_unit(op: usize, left: Option<Unit>, right: Option<Unit>) -> Result<Option<Unit>, Refusal>
-    requires { is_operator op ≡ true }
     ensures { result ≡ binary_unit op left right }
 {
     match operators::row_of(op).unit {
@@ -138,7 +138,7 @@ fn binary_unit(op: usize, left: Option<Unit>, right: Option<Unit>) -> Result<Opt
 fn with_unit(o: Outcome, u: Result<Option<Unit>, Refusal>) -> Result<Answered, Refusal>
     ensures { result ≡ with_unit o u }
 {
-    if !operators::does_pass(o) {
+    if o.passed().is_none() {
         return Ok(answer(o, None));
     }
     Ok(answer(o, u?))
@@ -186,56 +186,54 @@ fn operands_verdict(
 // What a binary operator answers for two operands in use, by the parents of symbols and the leaves of types, for crates above
 // (`check_binary_operator` is the entry call, and tests the forms).
 pub fn binary_checked(
-    store: Store,
-    leaves: &[u16],
+    leafed: Leafed<'_, 2>,
     parents: &[Symbol],
     steps: usize,
     op: usize,
     left: CheckedExpr,
     right: CheckedExpr,
 ) -> Result<Answered, Refusal>
-    requires leaves { Leaves false store.page.now leaves.now (types_in store.page.now) }
-    requires op_value { (is_operator op ≡ true) × (in_use store.page.now left.checked ≡ true) × (in_use store.page.now right.checked ≡ true) }
+    requires left_used { (in_use leafed.store.page.now left.checked ≡ true) × (in_use leafed.store.page.now right.checked ≡ true) }
     requires left_value { (operand_formed left ≡ true) × (operand_formed right ≡ true) }
-    ensures { result ≡ binary_checked store.entry.page.now (walk steps parents.now) op left right }
+    ensures { result ≡ binary_checked leafed.entry.store.page.now (walk steps parents.now) op left right }
 {
     let clash = add_unit_mismatch(parents, steps, left, right);
     let l = left.checked;
     let r = right.checked;
-    let o = binary::check_binary(store, leaves, op, clash, l, r);
+    let o = binary::check_binary(leafed, op, clash, l, r);
     with_unit(o, binary_unit(op, left.unit, right.unit))
 }
 
 // What a binary operator answers for two operands, over a store of types and a table of pairs.
 pub fn check_binary_operator(
     page: &[u8],
-    names: &[u8],
-    lent: bool,
+    names: Option<&[u8]>,
     table: &[u8],
     op: usize,
     left: CheckedExpr,
     right: CheckedExpr,
 ) -> Result<Answered, Refusal>
-    ensures { result ≡ binary_answer page.now names.now lent table.now op left right }
+    ensures { result ≡ binary_answer page.now (option_copied names.entry) table.now op left right }
 {
     if !operators::is_operator(op) {
         return Err(Refusal::Undefined);
     }
     let mut tables = Tables::new();
-    if !types::opened(page, names, lent, &mut tables) {
+    if !types::opened(page, names, &mut tables) {
         return Err(Refusal::Broken);
     }
-    if pairs::is_broken(table, names, lent) {
+    if pairs::is_broken(table, names) {
         return Err(Refusal::Broken);
     }
-    let n = names::in_use(names, lent);
+    let n = names::in_use(names);
     let store = tables.store(page);
     operands_verdict(store, n, left, right)?;
     let mut leaves = [0; TYPES];
-    members::fill_leaves(store, &mut leaves, false, 0);
+    members::fill_leaves::<2>(store, &mut leaves, 0);
     let parents = pairs::parents_of(table);
     let steps = pages::count(table);
-    binary_checked(store, &leaves, &parents, steps, op, left, right)
+    let leafed = Leafed::new(store, &leaves);
+    binary_checked(leafed, &parents, steps, op, left, right)
 }
 
 // The unit of an operator's answer on one operand with that unit: − keeps it, unless its answer is a union.
@@ -247,11 +245,8 @@ fn unary_unit(store: Store, op: usize, outcome: Outcome, unit: Option<Unit>) -> 
     if op != MINUS {
         return None;
     }
-    if !operators::does_pass(outcome) {
-        return None;
-    }
-    let c = outcome.checked;
-    if kinds::is_union(store.kind_of(operators::number_of(c))) {
+    let t = outcome.passed()?;
+    if kinds::is_union(store.kind_of(t)) {
         return None;
     }
     unit
@@ -271,7 +266,7 @@ fn unary_answer(
     ensures value { result ≡ answered outcome (unary_unit store.entry.page.now op outcome unit) }
     ensures leaves { Leaves true store.entry.page.now leaves.new (types_in store.entry.page.now) }
 {
-    members::fill_leaves(store, leaves, true, n);
+    members::fill_leaves::<1>(store, leaves, n);
     answer(outcome, unary_unit(store, op, outcome, unit))
 }
 
@@ -309,25 +304,24 @@ pub fn unary_checked(
 // What an operator answers for one operand, over a store of types.
 pub fn check_unary_operator(
     page: &mut [u8],
-    names: &[u8],
-    lent: bool,
+    names: Option<&[u8]>,
     op: usize,
     x: CheckedExpr,
 ) -> Result<Answered, Refusal>
-    ensures { (result ≡ unary_answer page.old names.now lent op x) × (page.new ≡ unary_page page.old names.now lent op x) }
+    ensures { (result ≡ unary_answer page.old (option_copied names.entry) op x) × (page.new ≡ unary_page page.old (option_copied names.entry) op x) }
 {
     if !operators::is_operator(op) {
         return Err(Refusal::Undefined);
     }
     let mut tables = Tables::new();
-    if !types::opened(page, names, lent, &mut tables) {
+    if !types::opened(page, names, &mut tables) {
         return Err(Refusal::Broken);
     }
-    let n = names::in_use(names, lent);
+    let n = names::in_use(names);
     let store = tables.store(page);
     operands_verdict(store, n, x, x)?;
     let mut leaves = [0; TYPES];
-    members::fill_leaves(store, &mut leaves, true, 0);
+    members::fill_leaves::<1>(store, &mut leaves, 0);
     unary_checked(page, &mut tables, &mut leaves, op, x)
 }
 
@@ -396,18 +390,17 @@ fn index_in(
 // What indexing a target by a key answers, over a store of types.
 pub fn check_index(
     page: &mut [u8],
-    names: &[u8],
-    lent: bool,
+    names: Option<&[u8]>,
     target: CheckedExpr,
     key: Checked,
 ) -> Result<Answered, Refusal>
-    ensures { (result ≡ index_answer page.old names.now lent target key) × (page.new ≡ index_page page.old names.now lent target key) }
+    ensures { (result ≡ index_answer page.old (option_copied names.entry) target key) × (page.new ≡ index_page page.old (option_copied names.entry) target key) }
 {
     let mut tables = Tables::new();
-    if !types::opened(page, names, lent, &mut tables) {
+    if !types::opened(page, names, &mut tables) {
         return Err(Refusal::Broken);
     }
-    let n = names::in_use(names, lent);
+    let n = names::in_use(names);
     let keyed = CheckedExpr {
         checked: key,
         unit: None,

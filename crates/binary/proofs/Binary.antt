@@ -13,10 +13,7 @@ use Rattle.types.specs.Store.{Formed}
 use Rattle.types.specs.Types.{types_in, kind_of}
 use Rattle.types.specs.Recur.{below, cov}
 use Rattle.types.proofs.Recur.{below_lt, cov_eq}
-use Rattle.matching.specs.declared.Checked.{Checked}
-use Rattle.matching.specs.declared.Checked.TheVariants.{Known, Unknown}
-use Rattle.matching.specs.Matching.{in_use}
-use Rattle.matching.proofs.Matching.{known_in_use}
+use Rattle.matching.specs.declared.Checked.TheVariants.{Unknown}
 use Rattle.operators.specs.Operators.{fits}
 use Rattle.operators.specs.Outcome.{no_error, outcome, is_known, passes, plain_binary}
 use Rattle.operators.specs.declared.Outcome.{Outcome}
@@ -187,11 +184,3 @@ module _ (page : List ℕ) (form : Formed page) (op : ℕ) (clash : Bool) where
     pub any_unknown : passes (binary_any page op clash l r) ≡ false → (binary_any page op clash l r).checked ≡ Unknown
     any_unknown h =
         rw any_tally at (settle_unknown (tally_of trials) (ap (λ (o : Outcome). is_known o.checked) any_tally ∙ sym any_passes ∙ h))
-
--- ---- checked types
-
--- a Known operand that is in use
-pub known_used : (page : List ℕ) (c : Checked) (t : ℕ) → c ≡ Known t → in_use page c ≡ true → t < types_in page
-known_used page c t e h = known_in_use page t (rw e at h)
-
--- which Function an operand is makes no difference

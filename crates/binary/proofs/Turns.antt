@@ -1,18 +1,18 @@
 -- The loops over pairs of members, turn by turn, on plain values. Assumes nothing.
-use mathlib.Core.Path.{◌≡◌, refl, ap, ap₂, sym, ◌∙◌}
+use mathlib.Core.Path.{◌≡◌, refl, ap, ap₂, ◌∙◌}
 use mathlib.Core.Bool.{Bool, true, false}
 use mathlib.Core.List.{List, []}
 use Prim.Native.Nat.{ℕ, ◌+◌, ◌<◌, ◌≤◌}
 use native.Mathlib.Omega.{arith}
 use native.Mathlib.Numerals.{add-one}
-use lib.ListN.{get_or, take}
-use lib.Seq.{get_or-take}
+use lib.ListN.{get_or}
 use Rattle.types.specs.Store.{Formed}
 use Rattle.types.specs.Types.{types_in}
 use Rattle.operators.specs.declared.Outcome.{Outcome}
-use Rattle.members.specs.Members.{members_of, size_of, member}
+use Rattle.members.specs.Members.{size_of, member}
 use Rattle.members.specs.Trials.{fold_to, no_failure, Tried, tried, joined}
-use Rattle.members.specs.Leaves.{leaf_of, Leaves}
+use Rattle.members.specs.Leaves.{leaf_of}
+use Rattle.members.proofs.Flattening.{Flattened, member_is}
 use Rattle.members.proofs.Members.{member_used}
 use Rattle.members.proofs.Leaves.{leaf_low}
 use Rattle.binary.specs.Binary.{either, row_tried, rows_tried, binary_known, binary_any}
@@ -55,16 +55,15 @@ pub record Taken (page : List ℕ) (t i x p : ℕ) : Type 0 where
 
 module _ (page : List ℕ) (form : Formed page) (t : ℕ) (u : t < types_in page) where
   -- a member that is read from all of them
-  module _ (types : List ℕ) (n i x : ℕ) (d : n ≡ size_of page t) (e : take n types ≡ members_of page t) (h : i < n)
-      (k : x ≡ get_or types i 0) where
+  module _ (types : List ℕ) (n i x : ℕ) (fl : Flattened page t n types) (h : i < n) (k : x ≡ get_or types i 0) where
     read_is : x ≡ member page t i
-    read_is = k ∙ sym (get_or-take n types i 0 h) ∙ ap (λ (l : List ℕ). get_or l i 0) e
+    read_is = member_is page t n types fl i x h k
 
     pub read_used : x < types_in page
-    read_used = rw read_is (member_used page form t u i (omega arith))
+    read_used = rw read_is (member_used page form t u i (omega (arith, fl.0)))
 
-    pub read_taken : (leaves : List ℕ) (p : ℕ) → Leaves false page leaves (types_in page) → p ≡ get_or leaves x 0 → Taken page t i x p
-    read_taken leaves p m z = record { inside = omega arith; is = read_is; leaf = z ∙ m.holds x read_used }
+    pub read_taken : (p : ℕ) → p ≡ leaf_of false page x → Taken page t i x p
+    read_taken p z = record { inside = omega (arith, fl.0); is = read_is; leaf = z }
 
   module _ {i x p : ℕ} (m : Taken page t i x p) where
     pub member_in : x < types_in page

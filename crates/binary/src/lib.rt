@@ -4,18 +4,16 @@
 ghost use Rattle.std.specs.Prelude.{◌≡◌, true, false, [], ◌*◌, ◌+◌, ◌≤◌, ◌<◌};
 ghost use Rattle.types.specs.Types.{types_in, Held};
 ghost use Rattle.matching.specs.Matching.{in_use};
-ghost use Rattle.operators.specs.Operators.{is_operator};
 ghost use Rattle.operators.specs.Outcome.{number_of};
 ghost use Rattle.types.specs.Store.{types_max};
 ghost use Rattle.members.specs.Members.{members_max};
 ghost use Rattle.members.specs.Trials.{no_failure, Tried, tried, joined};
-ghost use Rattle.members.specs.Leaves.{Leaves};
 ghost use Rattle.binary.specs.Binary.{family_in, either, binary_known, binary_any, beside_function, check_binary};
 ghost use Rattle.binary.specs.Tally.{tally_of, settle_tally};
 
 use kinds::Kind;
 use matching::Checked;
-use members::{MEMBERS, flatten, leaf_at, member_at};
+use members::{Leafed, MEMBERS, flatten};
 use operators::{Errors, NO_FAMILY, Outcome, Reason};
 use types::Store;
 
@@ -24,8 +22,7 @@ use types::Store;
 struct Tally {
     first: Option<usize>,
     failing: usize,
-    left: usize,
-    right: usize,
+    pair: Option<(usize, usize)>,
 }
 
 // No trial yet.
@@ -35,8 +32,7 @@ fn no_trial() -> Tally
     Tally {
         first: None,
         failing: 0,
-        left: 0,
-        right: 0,
+        pair: None,
     }
 }
 
@@ -45,27 +41,16 @@ fn join(tally: Tally, o: Outcome, x: usize, y: usize) -> Tally
     requires { tally.failing < members_max * members_max }
     ensures { ((q : Tried) → tally ≡ tally_of q → result ≡ tally_of (joined x y o q)) × (result.failing ≤ tally.failing + 1) }
 {
-    if !operators::does_pass(o) {
-        if tally.failing == 0 {
-            return Tally {
-                first: tally.first,
-                failing: 1,
-                left: x,
-                right: y,
-            };
-        }
-        return Tally {
-            first: tally.first,
+    match o.passed() {
+        Some(t) => Tally {
+            first: tally.first.or(Some(t)),
+            ..tally
+        },
+        None => Tally {
             failing: tally.failing + 1,
-            left: tally.left,
-            right: tally.right,
-        };
-    }
-    Tally {
-        first: tally.first.or(Some(operators::number_of(o.checked))),
-        failing: tally.failing,
-        left: tally.left,
-        right: tally.right,
+            pair: tally.pair.or(Some((x, y))),
+            ..tally
+        },
     }
 }
 
@@ -74,12 +59,10 @@ fn join(tally: Tally, o: Outcome, x: usize, y: usize) -> Tally
 fn settle(tally: Tally) -> Outcome
     ensures { result ≡ settle_tally tally }
 {
-    if tally.failing != 0 {
-        return operators::unknown(operators::some_fail(tally.failing, tally.left, tally.right));
-    }
-    match tally.first {
-        Some(t) => operators::known(t),
-        None => operators::unknown(Errors::One(Reason::NoMember)),
+    match (tally.pair, tally.first) {
+        (Some((x, y)), _) => operators::unknown(operators::some_fail(tally.failing, x, y)),
+        (None, Some(t)) => operators::known(t),
+        (None, None) => operators::unknown(Errors::One(Reason::NoMember)),
     }
 }
 
@@ -99,22 +82,22 @@ fn is_either(store: Store, l: usize, r: usize) -> bool
     kinds::is_union(store.kind_of(l)) || kinds::is_union(store.kind_of(r))
 }
 
-// The check of an operator on two Known types. It answers a fixed type, whose number fits a byte.
+// The check of an operator on two Known types. It answers a fixed type, whose number fits a byte. That the operands' units clash is a
+// finding of the caller's, as their units are no part of the store.
 #[cycle(check_binary_any_check_binary_operator)]
 pub fn check_binary_operator(
-    store: Store,
-    leaves: &[u16],
+    leafed: Leafed<'_, 2>,
     op: usize,
     clash: bool,
     l: usize,
     r: usize,
 ) -> Outcome
-    requires leaves { Leaves false store.page.now leaves.now (types_in store.page.now) }
-    requires op_value { (is_operator op ≡ true) × (l < types_in store.page.now) × (r < types_in store.page.now) }
-    ensures { (result ≡ binary_known store.entry.page.now op clash l r) × (number_of result.checked < 256) }
+    requires { (l < types_in leafed.store.page.now) × (r < types_in leafed.store.page.now) }
+    ensures { (result ≡ binary_known leafed.entry.store.page.now op clash l r) × (number_of result.checked < 256) }
 {
+    let store = leafed.store;
     if is_either(store, l, r) {
-        return check_binary_any(store, leaves, op, clash, l, r);
+        return check_binary_any(leafed, op, clash, l, r);
     }
     operators::plain_binary(op, clash, family_in(store, l), family_in(store, r))
 }
@@ -122,30 +105,29 @@ pub fn check_binary_operator(
 // Every pair of members is tried in turn, a member that is a union as the leaf that stands for it.
 #[cycle(check_binary_any_check_binary_operator)]
 pub fn check_binary_any(
-    store: Store,
-    leaves: &[u16],
+    leafed: Leafed<'_, 2>,
     op: usize,
     clash: bool,
     l: usize,
     r: usize,
 ) -> Outcome
-    requires leaves { Leaves false store.page.now leaves.now (types_in store.page.now) }
-    requires op_value { (is_operator op ≡ true) × (l < types_in store.page.now) × (r < types_in store.page.now) }
-    requires r_value { either store.page.now l r ≡ true }
-    ensures { (result ≡ binary_any store.entry.page.now op clash l r) × (number_of result.checked < 256) }
+    requires l_bound { (l < types_in leafed.store.page.now) × (r < types_in leafed.store.page.now) }
+    requires r_value { either leafed.store.page.now l r ≡ true }
+    ensures { (result ≡ binary_any leafed.entry.store.page.now op clash l r) × (number_of result.checked < 256) }
 {
     let mut lefts = [0; MEMBERS];
     let mut rights = [0; MEMBERS];
+    let store = leafed.store;
     let m = flatten(store, l, &mut lefts);
     let n = flatten(store, r, &mut rights);
     let mut tally = no_trial();
-    for i in 0..m {
-        let x = member_at(&lefts, i);
-        let p = leaf_at(leaves, x);
-        for j in 0..n {
-            let y = member_at(&rights, j);
-            let q = leaf_at(leaves, y);
-            let o = check_binary_operator(store, leaves, op, clash, p, q);
+    for x in &lefts[..m] {
+        let x = usize::from(*x);
+        let p = leafed.leaf_of(x);
+        for y in &rights[..n] {
+            let y = usize::from(*y);
+            let q = leafed.leaf_of(y);
+            let o = check_binary_operator(leafed, op, clash, p, q);
             tally = join(tally, o, x, y);
         }
     }
@@ -165,34 +147,26 @@ fn beside_function(store: Store, t: usize, plain: Outcome) -> Outcome
 }
 
 // The check on a Known type and another operand.
-#[tactic(auto, unfolding(crate::specs::Binary::check_binary))]
-fn check_known(
-    store: Store,
-    leaves: &[u16],
-    op: usize,
-    clash: bool,
-    l: usize,
-    right: Checked,
-) -> Outcome
-    requires leaves { Leaves false store.page.now leaves.now (types_in store.page.now) }
-    requires op_value { (is_operator op ≡ true) × (l < types_in store.page.now) × (in_use store.page.now right ≡ true) }
-    ensures { result ≡ check_binary store.entry.page.now op clash (Checked.Known l) right }
+#[tactic(auto, using(matching::proofs::Matching::known_in_use), unfolding(crate::specs::Binary::check_binary))]
+fn check_known(leafed: Leafed<'_, 2>, op: usize, clash: bool, l: usize, right: Checked) -> Outcome
+    requires { (l < types_in leafed.store.page.now) × (in_use leafed.store.page.now right ≡ true) }
+    ensures { result ≡ check_binary leafed.entry.store.page.now op clash (Checked.Known l) right }
 {
     match right {
         Checked::Unknown => operators::unknown(Errors::None),
-        Checked::Known(r) => check_binary_operator(store, leaves, op, clash, l, r),
+        Checked::Known(r) => check_binary_operator(leafed, op, clash, l, r),
         Checked::Function(_) => {
-            let f = family_in(store, l);
+            let f = family_in(leafed.store, l);
             let plain = operators::plain_binary(op, clash, f, NO_FAMILY);
-            beside_function(store, l, plain)
+            beside_function(leafed.store, l, plain)
         }
     }
 }
 
 // The check on a Function and another operand.
-#[tactic(auto, unfolding(crate::specs::Binary::check_binary))]
+#[tactic(auto, using(matching::proofs::Matching::known_in_use), unfolding(crate::specs::Binary::check_binary))]
 fn check_function(store: Store, op: usize, clash: bool, right: Checked) -> Outcome
-    requires { (is_operator op ≡ true) × (in_use store.page.now right ≡ true) }
+    requires { in_use store.page.now right ≡ true }
     ensures { result ≡ check_binary store.entry.page.now op clash (Checked.Function 0) right }
 {
     match right {
@@ -207,22 +181,20 @@ fn check_function(store: Store, op: usize, clash: bool, right: Checked) -> Outco
 }
 
 // The check on checked types, for crates above (`answers::check_binary_operator` is the entry call).
-#[tactic(auto, unfolding(crate::specs::Binary::check_binary))]
+#[tactic(auto, using(matching::proofs::Matching::known_in_use), unfolding(crate::specs::Binary::check_binary))]
 pub fn check_binary(
-    store: Store,
-    leaves: &[u16],
+    leafed: Leafed<'_, 2>,
     op: usize,
     clash: bool,
     left: Checked,
     right: Checked,
 ) -> Outcome
-    requires leaves { Leaves false store.page.now leaves.now (types_in store.page.now) }
-    requires op_value { (is_operator op ≡ true) × (in_use store.page.now left ≡ true) × (in_use store.page.now right ≡ true) }
-    ensures { result ≡ check_binary store.entry.page.now op clash left right }
+    requires { (in_use leafed.store.page.now left ≡ true) × (in_use leafed.store.page.now right ≡ true) }
+    ensures { result ≡ check_binary leafed.entry.store.page.now op clash left right }
 {
     match left {
         Checked::Unknown => operators::unknown(Errors::None),
-        Checked::Known(l) => check_known(store, leaves, op, clash, l, right),
-        Checked::Function(_) => check_function(store, op, clash, right),
+        Checked::Known(l) => check_known(leafed, op, clash, l, right),
+        Checked::Function(_) => check_function(leafed.store, op, clash, right),
     }
 }

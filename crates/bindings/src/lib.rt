@@ -1,7 +1,7 @@
 // Bindings of generic names to types, and the types that bear such names (document 01, "Types"; types.rs of the source).
 #![tactic(auto)]
 
-ghost use Rattle.std.specs.Prelude.{◌≡◌, true, cond, ◌+◌, ◌≤◌, ◌<◌, length, get_or, set, replicate};
+ghost use Rattle.std.specs.Prelude.{◌≡◌, true, cond, ◌+◌, ◌≤◌, ◌<◌, length, get_or, set, replicate, Some, None, MatchOption};
 ghost use Rattle.types.specs.Store.{types_max};
 ghost use Rattle.types.specs.Types.{types_in, kind_of, Held, Measured};
 ghost use Rattle.bindings.specs.Bindings.{bindings_max, place_in, is_bound, bound_to, with_binding, good_binding, formed, types_below};
@@ -15,7 +15,7 @@ use types::{Store, TYPES, Tables, enter_type};
 // How many names are bound at most.
 pub const BINDINGS: usize = 32;
 
-// Generic names, and the types that they are bound to.
+// Generic names, and the types that they are bound to: two arrays of 32 and a count by value, as document 01 has them.
 #[derive(Clone, Copy)]
 pub struct Bindings {
     pub count: usize,
@@ -23,17 +23,12 @@ pub struct Bindings {
     pub types: [u16; BINDINGS],
 }
 
-// The first of the first k places that has a name, or k.
-fn place_of(bindings: Bindings, k: usize, name: Symbol) -> usize
+// The first of the first k places that has a name.
+fn place_of(bindings: Bindings, k: usize, name: Symbol) -> Option<usize>
     requires { k ≤ bindings_max }
-    ensures { (result ≡ place_in bindings k name) × (result ≤ k) }
+    ensures { MatchOption result (place_in bindings k name ≡ k) (λ i. (i < k) × (i ≡ place_in bindings k name)) }
 {
-    for i in 0..k {
-        if bindings.names[i] == name {
-            return i;
-        }
-    }
-    k
+    bindings.names[..k].iter().position(|n| *n == name)
 }
 
 // Whether place i has a name in use, of n, which stands in no place before it, and a type in use, of those below t.
@@ -43,7 +38,7 @@ fn is_good(bindings: Bindings, n: usize, t: usize, i: usize) -> bool
     ensures { result ≡ good_binding n t bindings i }
 {
     let name = bindings.names[i];
-    place_of(bindings, i, name) == i
+    place_of(bindings, i, name).is_none()
         && names::is_used(n, symbol_index(name))
         && usize::from(bindings.types[i]) < t
 }
@@ -68,34 +63,19 @@ pub fn are_below(bindings: Bindings, t: usize) -> bool
     requires { bindings.count ≤ bindings_max }
     ensures { result ≡ types_below bindings t }
 {
-    for i in 0..bindings.count {
-        if t <= usize::from(bindings.types[i]) {
-            return false;
-        }
-    }
-    true
+    bindings.types[..bindings.count]
+        .iter()
+        .all(|x| usize::from(*x) < t)
 }
 
-// The type that a name is bound to, or another where it is not bound.
+// The type that a name is bound to, if it is bound.
 #[tactic(auto, unfolding(crate::specs::Bindings::is_bound, crate::specs::Bindings::bound_to))]
-pub fn bound_or(bindings: Bindings, name: Symbol, other: usize) -> usize
+pub fn bound_to(bindings: Bindings, name: Symbol) -> Option<usize>
     requires { bindings.count ≤ bindings_max }
-    ensures { result ≡ cond (is_bound bindings name) (bound_to bindings name) other }
+    ensures { result ≡ cond (is_bound bindings name) (Some (bound_to bindings name)) None }
 {
-    let i = place_of(bindings, bindings.count, name);
-    if i < bindings.count {
-        return usize::from(bindings.types[i]);
-    }
-    other
-}
-
-// Whether a name is bound.
-#[tactic(auto, unfolding(crate::specs::Bindings::is_bound))]
-pub fn is_bound(bindings: Bindings, name: Symbol) -> bool
-    requires { bindings.count ≤ bindings_max }
-    ensures { result ≡ is_bound bindings name }
-{
-    place_of(bindings, bindings.count, name) < bindings.count
+    let i = place_of(bindings, bindings.count, name)?;
+    Some(usize::from(bindings.types[i]))
 }
 
 // Bindings with one more.
@@ -173,7 +153,7 @@ pub fn substitute(
     let store = tables.store(page);
     let kind = store.kind_of(t);
     if kind == GENERIC {
-        return Ok(bound_or(bindings, store.name_of(t), t));
+        return Ok(bound_to(bindings, store.name_of(t)).unwrap_or(t));
     }
     if !is_entered(kind) {
         return Ok(t);
@@ -203,6 +183,7 @@ fn rebuild(
     let store = tables.store(page);
     let kind = store.kind_of(t);
     let n = store.arity(t);
+    // An array with its count beside it: there is no heap.
     let mut kids = [0; CHILDREN];
     for i in 0..n {
         let child = tables.store(page).child_of(t, i);

@@ -4,8 +4,8 @@ use Rattle.std.proofs.Common.{Result, Ok, Err, Option, IfOk, Some}
 use Rattle.refusals.specs.declared.Refusal.{Refusal}
 use mathlib.Core.Path.{◌≡◌, refl, ap, ◌∙◌}
 use mathlib.Core.Bool.{Bool, true, false, ◌&&◌, ◌||◌, not, cond}
-use mathlib.Core.List.{List, ◌∷◌, ◌++◌}
-use Prim.Native.Nat.{ℕ, ◌+◌, ◌≤◌}
+use mathlib.Core.List.{List, [], ◌∷◌, ◌++◌}
+use Prim.Native.Nat.{ℕ, ◌+◌, ◌/◌, ◌%◌, ◌≤◌}
 use native.Mathlib.Omega.{arith}
 use lib.Dec.{eqb}
 use lib.ListN.{length, replicate, length-append}
@@ -30,7 +30,8 @@ use Rattle.pairs.specs.Calls.{table_broken}
 use Rattle.sums.specs.Calls.{or_empty}
 use Rattle.operators.specs.Operators.{is_operator, minus, unit_rule}
 use Rattle.operators.specs.declared.UnitRule.TheVariants.{Adopted, Multiplied, Divided, Ignored, Compared}
-use Rattle.operators.specs.Outcome.{number_of, passes}
+use Rattle.operators.specs.Outcome.{number_of, passes, count_of, first_of, second_of, failing_of, left_of, right_of}
+use Rattle.operators.specs.declared.Errors.{Errors}
 use Rattle.operators.specs.declared.Outcome.{Outcome}
 use Rattle.unary.specs.Unary.{check_unary}
 use Rattle.indexing.specs.Indexing.{check_index}
@@ -39,7 +40,7 @@ use Rattle.answers.specs.Calls.{operand_formed, operand_conditions, binary_verdi
 use Rattle.answers.specs.declared.CheckedExpr.{CheckedExpr}
 use Rattle.answers.specs.declared.Answered.{Answered}
 use Rattle.answers.proofs.Calls.{passed_formed}
-use Rattle.calls.specs.Answers.{error_bytes, answer_bytes}
+use Rattle.calls.specs.Answers.{error_bytes, answer_bytes, bytes_of_errors}
 use Rattle.operators.specs.declared.UnitRule.{UnitRule}
 
 -- errors and a unit in their places
@@ -50,6 +51,17 @@ answer_made e u h k =
     ap (λ (i : ℕ). put (put (replicate answer_bytes 0) 0 e) i u) at
     ∙ put_append (replicate answer_bytes 0) 0 e u (omega arith)
     ∙ put_whole (replicate answer_bytes 0) (e ++ u) n
+
+-- the bytes of errors, one after another
+pub errors_said : (e : Errors)
+    → count_of e % 256 ∷ first_of e % 256 ∷ second_of e % 256
+    ∷ failing_of e / 16777216 % 256 ∷ failing_of e / 65536 % 256 ∷ failing_of e / 256 % 256 ∷ failing_of e % 256
+    ∷ left_of e / 256 % 256 ∷ left_of e % 256 ∷ right_of e / 256 % 256 ∷ right_of e % 256 ∷ []
+    ≡ bytes_of_errors e
+unfolding bytes_of_errors
+errors_said e =
+    let lowest : (n : ℕ) → n / 1 % 256 ≡ n % 256 = λ n. omega arith in
+    rw (lowest (count_of e), lowest (first_of e), lowest (second_of e), lowest (failing_of e), lowest (left_of e), lowest (right_of e)) refl
 
 -- a unit, or none, that takes few enough places
 abbrev pub Few : Option Unit → Type 0
@@ -113,17 +125,17 @@ few_with o u h = go (passes o) u h
 
 -- ---- what the calls answer
 
-pub binary_few : (page names : List ℕ) (lent : Bool) (pairs : List ℕ) (op : ℕ) (left right : CheckedExpr)
-    → FewOk (binary_answer page names lent pairs op left right)
+pub binary_few : (page : List ℕ) (names : Option (List ℕ)) (pairs : List ℕ) (op : ℕ) (left right : CheckedExpr)
+    → FewOk (binary_answer page names pairs op left right)
 unfolding binary_answer binary_checked
-binary_few page names lent pairs op left right =
-    few_guarded (binary_verdict page names lent pairs op left right) _
+binary_few page names pairs op left right =
+    few_guarded (binary_verdict page names pairs op left right) _
     (λ v.
-    let rest = operand_conditions page (used_of names lent) left right in
-    let broken = store_broken page names lent || table_broken pairs names lent in
+    let rest = operand_conditions page (used_of names) left right in
+    let broken = store_broken page names || table_broken pairs names in
     let a = passed_parts Undefined (not (is_operator op)) ((Broken when broken) ∷ rest) v in
     let b = passed_parts Broken broken rest a.1 in
-    let f = passed_formed page (used_of names lent) left right b.1 in
+    let f = passed_formed page (used_of names) left right b.1 in
     few_with _ (binary_unit op left.unit right.unit) (few_binary op left.unit right.unit (formed_few left f.0) (formed_few right f.1)))
 
 few_negated : (store : List ℕ) (op : ℕ) (o : Outcome) (u : Option Unit) → Few u → Few (unary_unit store op o u)
@@ -136,27 +148,27 @@ few_unary : (r : Result Outcome Refusal) (store : List ℕ) (op : ℕ) (u : Opti
 few_unary (Ok o) store op u h = few_negated store op o u h
 few_unary (Err r) store op u h = tt
 
-pub unary_few : (page names : List ℕ) (lent : Bool) (op : ℕ) (x : CheckedExpr) → FewOk (unary_answer page names lent op x)
+pub unary_few : (page : List ℕ) (names : Option (List ℕ)) (op : ℕ) (x : CheckedExpr) → FewOk (unary_answer page names op x)
 unfolding unary_answer
-unary_few page names lent op x =
+unary_few page names op x =
     let q = check_unary page op x.checked in
-    let rest = operand_conditions page (used_of names lent) x x in
-    few_guarded (unary_verdict page names lent op x) (unary_checked q op x.unit)
+    let rest = operand_conditions page (used_of names) x x in
+    few_guarded (unary_verdict page names op x) (unary_checked q op x.unit)
     (λ v.
-    let a = passed_parts Undefined (not (is_operator op)) ((Broken when store_broken page names lent) ∷ rest) v in
-    let b = passed_parts Broken (store_broken page names lent) rest a.1 in
-    few_unary q.conclusion q.store op x.unit (formed_few x (passed_formed page (used_of names lent) x x b.1).0))
+    let a = passed_parts Undefined (not (is_operator op)) ((Broken when store_broken page names) ∷ rest) v in
+    let b = passed_parts Broken (store_broken page names) rest a.1 in
+    few_unary q.conclusion q.store op x.unit (formed_few x (passed_formed page (used_of names) x x b.1).0))
 
 few_index : (r : Result Outcome Refusal) (u : Option Unit) → Few u → FewOk (concluded_by r u)
 few_index (Ok o) u h = h
 few_index (Err r) u h = tt
 
-pub index_few : (page names : List ℕ) (lent : Bool) (target : CheckedExpr) (key : Checked) → FewOk (index_answer page names lent target key)
+pub index_few : (page : List ℕ) (names : Option (List ℕ)) (target : CheckedExpr) (key : Checked) → FewOk (index_answer page names target key)
 unfolding index_answer
-index_few page names lent target key =
+index_few page names target key =
     let r = (check_index page key target.checked).conclusion in
-    let rest = operand_conditions page (used_of names lent) target (keyed key) in
-    few_guarded (index_verdict page names lent target key) (concluded_by r target.unit)
+    let rest = operand_conditions page (used_of names) target (keyed key) in
+    few_guarded (index_verdict page names target key) (concluded_by r target.unit)
     (λ v.
-    let b = passed_parts Broken (store_broken page names lent) rest v in
-    few_index r target.unit (formed_few target (passed_formed page (used_of names lent) target (keyed key) b.1).0))
+    let b = passed_parts Broken (store_broken page names) rest v in
+    few_index r target.unit (formed_few target (passed_formed page (used_of names) target (keyed key) b.1).0))

@@ -1,4 +1,5 @@
 -- Bindings as bytes, read and written. Assumes nothing.
+use Rattle.std.specs.Prelude.{Option}
 use Rattle.std.proofs.Common.{true, false, Result, Ok, Err}
 use Rattle.refusals.specs.declared.Refusal.{Refusal}
 use mathlib.Core.Path.{◌≡◌, refl, sym, ◌∙◌, ap}
@@ -31,9 +32,8 @@ use Rattle.matching.specs.declared.Checked.TheVariants.{Known}
 use Rattle.bindings.specs.Bindings.{bindings_max, formed}
 use Rattle.bindings.specs.declared.Bindings.{Bindings}
 use Rattle.bindings.proofs.Bound.{usable}
-use Rattle.unification.specs.Unification.{unify_arg}
+use Rattle.unification.specs.Unification.{unify_arg, Given}
 use Rattle.unification.specs.declared.Unified.{Unified}
-use Rattle.unification.proofs.Growth.{Given}
 use Rattle.unification.proofs.Arguments.{unify_arg_grown}
 use Rattle.checked.specs.Calls.{verdict_of, bindings_verdict, kept_by, unified_or, unify_arg_answer, unify_answer}
 use Rattle.checked.proofs.Calls.{unify_known}
@@ -68,31 +68,31 @@ kept_few (Ok true) new old h k = h
 kept_few (Ok false) new old h k = h
 kept_few (Err r) new old h k = k
 
-arg_few : (page names : List ℕ) (lent : Bool) (b : Bindings) (e : ℕ) (c : Checked) → b.count < 256
+arg_few : (page : List ℕ) (names : Option (List ℕ)) (b : Bindings) (e : ℕ) (c : Checked) → b.count < 256
     → length b.names ≡ bindings_max → length b.types ≡ bindings_max
-    → (unify_arg_answer page names lent b e c).bindings.count < 256
+    → (unify_arg_answer page names b e c).bindings.count < 256
 unfolding unify_arg_answer bindings_verdict verdict_of
-arg_few page names lent b e c few n t = go (bindings_verdict page names lent b used) refl
+arg_few page names b e c few n t = go (bindings_verdict page names b used) refl
   where
     used : Bool
     used = ltb e (types_in page) && in_use page c
 
-    go : (v : Verdict) → bindings_verdict page names lent b used ≡ v → (unified_or v (unify_arg page e c b) b).bindings.count < 256
+    go : (v : Verdict) → bindings_verdict page names b used ≡ v → (unified_or v (unify_arg page e c b) b).bindings.count < 256
     go (Ok _) h =
-        let form = formed (used_of names lent) (types_in page) b in
-        let a = passed_parts Broken (store_broken page names lent || not form) ((Unused when not used) ∷ []) h in
-        let z = (or-eq-false-eq-eq-false-and-eq-false (store_broken page names lent) (not form)).0 a.0 in
+        let form = formed (used_of names) (types_in page) b in
+        let a = passed_parts Broken (store_broken page names || not form) ((Unused when not used) ∷ []) h in
+        let z = (or-eq-false-eq-eq-false-and-eq-false (store_broken page names) (not form)).0 a.0 in
         let w = and_true (ltb e (types_in page)) (in_use page c) (not-false used (passed_parts Unused (not used) [] a.1).0) in
-        let f : Formed page = record { names = used_of names lent; form = (unbroken_both page names lent z.0).1 } in
-        let g : Given b (types_in page) = record { usable = usable (used_of names lent) (types_in page) b (not-false form z.1); names = n; types = t } in
+        let f : Formed page = record { names = used_of names; form = (unbroken_both page names z.0).1 } in
+        let g : Given b (types_in page) = record { usable = usable (used_of names) (types_in page) b (not-false form z.1); names = n; types = t } in
         let grown = unify_arg_grown page f e (ltb-true e (types_in page) w.0) b g c w.1 in
         kept_few (unify_arg page e c b).answer (unify_arg page e c b).bindings b (omega (arith, grown.given.usable.few)) few
     go (Err r) h = few
 
-module _ (page names : List ℕ) (lent : Bool) (b : Bindings) (few : b.count < 256) (n : length b.names ≡ bindings_max) (t : length b.types ≡ bindings_max)
+module _ (page : List ℕ) (names : Option (List ℕ)) (b : Bindings) (few : b.count < 256) (n : length b.names ≡ bindings_max) (t : length b.types ≡ bindings_max)
     (e : ℕ) (u : Unified) where
-  pub unify_arg_few : (c : Checked) → u ≡ unify_arg_answer page names lent b e c → u.bindings.count < 256
-  unify_arg_few c h = rw h (arg_few page names lent b e c few n t)
+  pub unify_arg_few : (c : Checked) → u ≡ unify_arg_answer page names b e c → u.bindings.count < 256
+  unify_arg_few c h = rw h (arg_few page names b e c few n t)
 
-  pub unify_few : (a : ℕ) → u ≡ unify_answer page names lent b e a → u.bindings.count < 256
-  unify_few a h = unify_arg_few (Known a) (h ∙ sym (unify_known page names lent b e a))
+  pub unify_few : (a : ℕ) → u ≡ unify_answer page names b e a → u.bindings.count < 256
+  unify_few a h = unify_arg_few (Known a) (h ∙ sym (unify_known page names b e a))

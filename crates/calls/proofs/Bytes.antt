@@ -11,7 +11,7 @@ use native.Mathlib.Omega.{arith}
 use lib.Dec.{eqb, leb}
 use lib.ListN.{length, get_or}
 use borrow.Author.Tests.{leb-true, ne_eqb, not-false}
-use Rattle.refusals.specs.Lowest.{Condition, ◌when◌, lowest, unless_refused, guarded}
+use Rattle.refusals.specs.Lowest.{Condition, ◌when◌, lowest, unless_refused, guarded, answer_of}
 use Rattle.refusals.specs.declared.Refusal.TheVariants.{Undefined, Broken, Unused, BadUnit}
 use Rattle.refusals.specs.Numbers.{Verdict}
 use Rattle.refusals.proofs.Lowest.{first_holds, answer_of_ok, answer_of_err, passed_parts}
@@ -23,7 +23,10 @@ use Rattle.names.specs.Table as names
 use Rattle.names.specs.Calls.{used_of}
 use Rattle.types.specs.Calls.{store_broken}
 use Rattle.units.specs.Unit.{places_max, Term, formed, in_use}
-use Rattle.units.specs.Calls.{terms_of, present, unit_of, unitless_answer}
+use Rattle.units.specs.Calls.{terms_of, present, unit_of, form_verdict, product_answer, exponent_answer, unitless_answer}
+use Rattle.units.proofs.Calls as units
+use Rattle.std.specs.Option.{ok_or}
+use lib.IntN.{ℤ}
 use Rattle.units.proofs.Order.{or_both}
 use Rattle.units.proofs.Held.{terms_unit}
 use Rattle.units.proofs.Used.{present_all}
@@ -37,7 +40,7 @@ use Rattle.unary.specs.Unary.{check_unary}
 use Rattle.indexing.specs.Indexing.{check_index}
 use Rattle.answers.specs.Calls.{operand_conditions, concluded_by, store_after, binary_checked, binary_answer, unary_checked, unary_answer, unary_page, keyed, index_answer, index_page}
 use Rattle.calls.specs.Types.{checked_of}
-use Rattle.calls.specs.Codes.{unit_formed_in, maybe_formed_in, text_verdict_in, text_in, units_verdict_in, group_sums_in, convertible_in, units_in, unitless_in}
+use Rattle.calls.specs.Codes.{broken_unit, or_broken, unit_or_broken, product_in, unit_formed_in, maybe_formed_in, text_verdict_in, text_in, units_verdict_in, group_sums_in, convertible_in, units_in, unitless_in}
 use Rattle.calls.specs.Answers.{operand_of, operand_used_in, operands_in, operands_verdict_in, binary_verdict_in, binary_in, unary_verdict_in, unary_in, unary_page_in, index_in, index_page_in}
 
 -- ---- choices
@@ -166,6 +169,74 @@ module _ (bytes : List ℕ) where
   unfolding unitless_in
   dimensionless_unread r e = let z = answer_of_err (value_verdict bytes) (unit_in bytes) r (sym e) in rw z refl
 
+-- ---- the unit that bytes must say
+
+-- it, or 5
+abbrev said : List ℕ → Result Unit Refusal
+said bytes = ok_or (unit_in bytes) BadUnit
+
+module _ (bytes : List ℕ) where
+  pub read_given : (m : Option Unit) → value_in bytes ≡ Ok m → ok_or m BadUnit ≡ said bytes
+  read_given m e = rw (value_some bytes m e).1
+
+  pub unread_refused : (r : Refusal) → value_in bytes ≡ Err r → ◌≡◌ {A = Result Unit Refusal} (Err r) (said bytes)
+  unfolding value_verdict
+  unread_refused r e = rw ((value_none bytes r e).1, go (readable bytes) e) refl
+    where
+      go : (b : Bool) → ◌≡◌ {A = Result (Option Unit) Refusal} (answer_of (lowest ((BadUnit when not b) ∷ [])) (unit_in bytes)) (Err r) → r ≡ BadUnit
+      go true k = absurd (let z : ◌≡◌ {A = ℕ} 0 1 = cc in omega arith)
+      go false k = cc
+
+  said_some : (u : Unit) → said bytes ≡ Ok u → unit_or_broken bytes ≡ u
+  unfolding unit_or_broken
+  said_some u = go (unit_in bytes)
+    where
+      go : (m : Option Unit) → ok_or m BadUnit ≡ Ok u → or_broken m ≡ u
+      go (Some v) e = cc
+      go None e = absurd (let z : ◌≡◌ {A = ℕ} 0 1 = cc in omega arith)
+
+  said_none : (r : Refusal) → said bytes ≡ Err r → (unit_or_broken bytes ≡ broken_unit) × (r ≡ BadUnit)
+  unfolding unit_or_broken
+  said_none r = go (unit_in bytes)
+    where
+      go : (m : Option Unit) → ok_or m BadUnit ≡ Err r → (or_broken m ≡ broken_unit) × (r ≡ BadUnit)
+      go (Some v) e = absurd (let z : ◌≡◌ {A = ℕ} 0 1 = cc in omega arith)
+      go None e = (refl, cc)
+
+  -- where there is none, the calls answer 5
+  pub form_read : (u : Unit) → said bytes ≡ Ok u → form_verdict u ≡ form_verdict (unit_or_broken bytes)
+  form_read u e = rw (said_some u e)
+
+  pub form_unread : (r : Refusal) → said bytes ≡ Err r → ◌≡◌ {A = Verdict} (Err r) (form_verdict (unit_or_broken bytes))
+  unfolding form_verdict formed
+  form_unread r e = let z = said_none r e in rw (z.0, z.1) refl
+
+  module _ (s : ℕ) where
+    pub exponent_read : (u : Unit) → said bytes ≡ Ok u → exponent_answer u s ≡ exponent_answer (unit_or_broken bytes) s
+    exponent_read u e = rw (said_some u e)
+
+    pub exponent_unread : (r : Refusal) → said bytes ≡ Err r → ◌≡◌ {A = Result ℤ Refusal} (Err r) (exponent_answer (unit_or_broken bytes) s)
+    unfolding exponent_answer form_verdict formed
+    exponent_unread r e = let z = said_none r e in rw (z.0, z.1) refl
+
+module _ (d : Bool) (a b : List ℕ) where
+  pub product_read : (u v : Unit) → said a ≡ Ok u → said b ≡ Ok v → product_answer d u v ≡ product_in d a b
+  product_read u v e f = rw (said_some a u e, said_some b v f)
+
+  pub product_left : (r : Refusal) → said a ≡ Err r → ◌≡◌ {A = Result Unit Refusal} (Err r) (product_in d a b)
+  unfolding formed
+  product_left r e =
+      let z = said_none a r e in
+      rw (z.0, z.1) (units.product_left d broken_unit (unit_or_broken b) refl)
+
+  pub product_right : (r : Refusal) → said b ≡ Err r → ◌≡◌ {A = Result Unit Refusal} (Err r) (product_in d a b)
+  unfolding formed
+  product_right r e = go (formed places_max names_max (terms_of (unit_or_broken a))) refl
+    where
+      go : (f : Bool) → formed places_max names_max (terms_of (unit_or_broken a)) ≡ f → ◌≡◌ {A = Result Unit Refusal} (Err r) (product_in d a b)
+      go true f = let z = said_none b r e in rw (z.0, z.1) (units.product_right d (unit_or_broken a) broken_unit f refl)
+      go false f = rw (said_none b r e).1 (units.product_left d (unit_or_broken a) (unit_or_broken b) f)
+
 -- ---- the text of a unit
 
 module _ (page bytes : List ℕ) where
@@ -196,50 +267,50 @@ and_self : (a : Bool) → (a && a) ≡ a
 and_self true = refl
 and_self false = refl
 
-module _ (page names : List ℕ) (lent : Bool) where
+module _ (page : List ℕ) (names : Option (List ℕ)) where
   module _ (l r : List ℕ) (h : (readable l && readable r) ≡ true) where
-    units_alike : units_verdict page names lent (or_empty (unit_in l) ∷ or_empty (unit_in r) ∷ []) ≡ units_verdict_in page names lent l r
+    units_alike : units_verdict page names (or_empty (unit_in l) ∷ or_empty (unit_in r) ∷ []) ≡ units_verdict_in page names l r
     unfolding units_verdict units_verdict_in
     units_alike =
         let k = read_both l r h in
-        let n = used_of names lent in
+        let n = used_of names in
         rw (used_in l k.0 n, used_in r k.1 n, formed_in l k.0, formed_in r k.1, and_end (in_use n (present (or_empty (unit_in r)))), and_end (formed places_max names_max (terms_of (or_empty (unit_in r)))))
 
-    pub convert_alike : convert_answer page names lent (unit_in l) (unit_in r) ≡ convertible_in page names lent l r
+    pub convert_alike : convert_answer page names (unit_in l) (unit_in r) ≡ convertible_in page names l r
     unfolding convert_answer
     convert_alike = rw units_alike
 
-  pub sums_alike : (b : List ℕ) → (readable b && readable b) ≡ true → sums_answer page names lent (or_empty (unit_in b)) ≡ group_sums_in page names lent b
+  pub sums_alike : (b : List ℕ) → (readable b && readable b) ≡ true → sums_answer page names (or_empty (unit_in b)) ≡ group_sums_in page names b
   unfolding sums_answer units_verdict units_verdict_in
   sums_alike b h =
       let k = (read_both b b h).0 in
-      let n = used_of names lent in
+      let n = used_of names in
       rw (used_in b k n, formed_in b k, and_end (in_use n (present (or_empty (unit_in b)))), and_end (formed places_max names_max (terms_of (or_empty (unit_in b)))), and_self (in_use n (present (or_empty (unit_in b)))), and_self (formed places_max names_max (terms_of (or_empty (unit_in b)))))
 
   module _ (l r : List ℕ) where
-    pub units_broken : table_broken page names lent ≡ true → Err Broken ≡ units_verdict_in page names lent l r
+    pub units_broken : table_broken page names ≡ true → Err Broken ≡ units_verdict_in page names l r
     unfolding units_verdict_in
     units_broken t =
-        sym (rw t (first_holds Broken ((Unused when not (symbols_used (used_of names lent) l && symbols_used (used_of names lent) r)) ∷ (BadUnit when not (maybe_formed_in l && maybe_formed_in r)) ∷ []) refl))
+        sym (rw t (first_holds Broken ((Unused when not (symbols_used (used_of names) l && symbols_used (used_of names) r)) ∷ (BadUnit when not (maybe_formed_in l && maybe_formed_in r)) ∷ []) refl))
 
-    module _ (t : table_broken page names lent ≡ false) (n : ℕ) (is : n ≡ used_of names lent) where
-      unused : (symbols_used n l && symbols_used n r) ≡ false → Err Unused ≡ units_verdict_in page names lent l r
+    module _ (t : table_broken page names ≡ false) (n : ℕ) (is : n ≡ used_of names) where
+      unused : (symbols_used n l && symbols_used n r) ≡ false → Err Unused ≡ units_verdict_in page names l r
       unfolding units_verdict_in
       unused u = sym (rw (t, ← is, u) (first_holds Unused ((BadUnit when not (maybe_formed_in l && maybe_formed_in r)) ∷ []) refl))
 
-      pub left_unused : symbols_used n l ≡ false → Err Unused ≡ units_verdict_in page names lent l r
+      pub left_unused : symbols_used n l ≡ false → Err Unused ≡ units_verdict_in page names l r
       left_unused u = unused (rw u)
 
-      pub right_unused : symbols_used n r ≡ false → Err Unused ≡ units_verdict_in page names lent l r
+      pub right_unused : symbols_used n r ≡ false → Err Unused ≡ units_verdict_in page names l r
       right_unused u = unused (rw u (and_false (symbols_used n l)))
 
-      pub units_bad : symbols_used n l ≡ true → symbols_used n r ≡ true → (readable l && readable r) ≡ false → Err BadUnit ≡ units_verdict_in page names lent l r
+      pub units_bad : symbols_used n l ≡ true → symbols_used n r ≡ true → (readable l && readable r) ≡ false → Err BadUnit ≡ units_verdict_in page names l r
       unfolding units_verdict_in
       units_bad a b h = rw (t, ← is, a, b, unread_both l r h)
 
 -- ---- operands
 
-module _ (page names : List ℕ) (lent : Bool) (left : ℕ) (unit : List ℕ) (right : ℕ) (other : List ℕ) where
+module _ (page : List ℕ) (names : Option (List ℕ)) (left : ℕ) (unit : List ℕ) (right : ℕ) (other : List ℕ) where
   abbrev conditions : ℕ → List Condition
   conditions n = operands_in page n left unit right other
 
@@ -250,81 +321,81 @@ module _ (page names : List ℕ) (lent : Bool) (left : ℕ) (unit : List ℕ) (r
         rw (used_in unit k.0 n, used_in other k.1 n, formed_in unit k.0, formed_in other k.1)
 
     pub binary_alike : (pairs : List ℕ) (op : ℕ)
-        → binary_answer page names lent pairs op (operand_of left unit) (operand_of right other) ≡ binary_in page names lent pairs op left unit right other
+        → binary_answer page names pairs op (operand_of left unit) (operand_of right other) ≡ binary_in page names pairs op left unit right other
     unfolding binary_answer binary_verdict_in
     binary_alike pairs op =
-        ap (λ (cs : List Condition). guarded (lowest ((Undefined when not (is_operator op)) ∷ (Broken when (store_broken page names lent || table_broken pairs names lent)) ∷ cs))
-        (binary_checked page (roots_in pairs) op (operand_of left unit) (operand_of right other))) (operands_alike (used_of names lent))
+        ap (λ (cs : List Condition). guarded (lowest ((Undefined when not (is_operator op)) ∷ (Broken when (store_broken page names || table_broken pairs names)) ∷ cs))
+        (binary_checked page (roots_in pairs) op (operand_of left unit) (operand_of right other))) (operands_alike (used_of names))
 
   module _ (h : (readable unit && readable other) ≡ false) where
-    pub operands_broken : store_broken page names lent ≡ true → Err Broken ≡ operands_verdict_in page names lent left unit right other
+    pub operands_broken : store_broken page names ≡ true → Err Broken ≡ operands_verdict_in page names left unit right other
     unfolding operands_verdict_in
-    operands_broken t = sym (rw t (first_holds Broken (conditions (used_of names lent)) refl))
+    operands_broken t = sym (rw t (first_holds Broken (conditions (used_of names)) refl))
 
-    module _ (t : store_broken page names lent ≡ false) (n : ℕ) (is : n ≡ used_of names lent) where
-      unused_operand : (operand_used_in page n left unit && operand_used_in page n right other) ≡ false → Err Unused ≡ operands_verdict_in page names lent left unit right other
+    module _ (t : store_broken page names ≡ false) (n : ℕ) (is : n ≡ used_of names) where
+      unused_operand : (operand_used_in page n left unit && operand_used_in page n right other) ≡ false → Err Unused ≡ operands_verdict_in page names left unit right other
       unfolding operands_verdict_in
       unused_operand u = sym (rw (t, ← is, u) (first_holds Unused ((BadUnit when not (maybe_formed_in unit && maybe_formed_in other)) ∷ []) refl))
 
-      pub left_operand : operand_used_in page n left unit ≡ false → Err Unused ≡ operands_verdict_in page names lent left unit right other
+      pub left_operand : operand_used_in page n left unit ≡ false → Err Unused ≡ operands_verdict_in page names left unit right other
       left_operand u = unused_operand (rw u)
 
-      pub right_operand : operand_used_in page n right other ≡ false → Err Unused ≡ operands_verdict_in page names lent left unit right other
+      pub right_operand : operand_used_in page n right other ≡ false → Err Unused ≡ operands_verdict_in page names left unit right other
       right_operand u = unused_operand (rw u (and_false (operand_used_in page n left unit)))
 
-      pub operands_bad : operand_used_in page n left unit ≡ true → operand_used_in page n right other ≡ true → Err BadUnit ≡ operands_verdict_in page names lent left unit right other
+      pub operands_bad : operand_used_in page n left unit ≡ true → operand_used_in page n right other ≡ true → Err BadUnit ≡ operands_verdict_in page names left unit right other
       unfolding operands_verdict_in
       operands_bad a b = rw (t, ← is, a, b, unread_both unit other h)
 
   -- 1 and the pairs come before what is asked of the operands
   module _ (pairs : List ℕ) (op : ℕ) where
-    pub binary_undefined : is_operator op ≡ false → Err Undefined ≡ binary_verdict_in page names lent pairs op left unit right other
+    pub binary_undefined : is_operator op ≡ false → Err Undefined ≡ binary_verdict_in page names pairs op left unit right other
     unfolding binary_verdict_in
     binary_undefined o =
-        sym (rw o (first_holds Undefined ((Broken when (store_broken page names lent || table_broken pairs names lent)) ∷ conditions (used_of names lent)) refl))
+        sym (rw o (first_holds Undefined ((Broken when (store_broken page names || table_broken pairs names)) ∷ conditions (used_of names)) refl))
 
     module _ (o : is_operator op ≡ true) where
-      pub binary_broken : table_broken pairs names lent ≡ true → Err Broken ≡ binary_verdict_in page names lent pairs op left unit right other
+      pub binary_broken : table_broken pairs names ≡ true → Err Broken ≡ binary_verdict_in page names pairs op left unit right other
       unfolding binary_verdict_in
-      binary_broken t = sym (rw (o, t, or_end (store_broken page names lent)) (first_holds Broken (conditions (used_of names lent)) refl))
+      binary_broken t = sym (rw (o, t, or_end (store_broken page names)) (first_holds Broken (conditions (used_of names)) refl))
 
-      pub binary_rest : table_broken pairs names lent ≡ false → operands_verdict_in page names lent left unit right other ≡ binary_verdict_in page names lent pairs op left unit right other
+      pub binary_rest : table_broken pairs names ≡ false → operands_verdict_in page names left unit right other ≡ binary_verdict_in page names pairs op left unit right other
       unfolding binary_verdict_in operands_verdict_in
-      binary_rest t = rw (o, t, or_none_lem (store_broken page names lent))
+      binary_rest t = rw (o, t, or_none_lem (store_broken page names))
 
-module _ (page names : List ℕ) (lent : Bool) (op operand : ℕ) (unit : List ℕ) where
+module _ (page : List ℕ) (names : Option (List ℕ)) (op operand : ℕ) (unit : List ℕ) where
   pub unary_alike : (readable unit && readable unit) ≡ true
-      → (unary_answer page names lent op (operand_of operand unit) ≡ unary_in page names lent op operand unit)
-      × (unary_page page names lent op (operand_of operand unit) ≡ unary_page_in page names lent op operand unit)
+      → (unary_answer page names op (operand_of operand unit) ≡ unary_in page names op operand unit)
+      × (unary_page page names op (operand_of operand unit) ≡ unary_page_in page names op operand unit)
   unfolding unary_answer unary_page unary_verdict_in
   unary_alike h =
-      let e = operands_alike page names lent operand unit operand unit h (used_of names lent) in
-      let verdict : List Condition → Verdict = λ cs. lowest ((Undefined when not (is_operator op)) ∷ (Broken when store_broken page names lent) ∷ cs) in
+      let e = operands_alike page names operand unit operand unit h (used_of names) in
+      let verdict : List Condition → Verdict = λ cs. lowest ((Undefined when not (is_operator op)) ∷ (Broken when store_broken page names) ∷ cs) in
       let q = check_unary page op (checked_of operand) in (
         ap (λ (cs : List Condition). guarded (verdict cs) (unary_checked q op (unit_in unit))) e,
         ap (λ (cs : List Condition). unless_refused (verdict cs) (store_after q page) page) e,
       )
 
-  pub unary_undefined : is_operator op ≡ false → Err Undefined ≡ unary_verdict_in page names lent op operand unit
+  pub unary_undefined : is_operator op ≡ false → Err Undefined ≡ unary_verdict_in page names op operand unit
   unfolding unary_verdict_in
   unary_undefined o =
-      sym (rw o (first_holds Undefined ((Broken when store_broken page names lent) ∷ operands_in page (used_of names lent) operand unit operand unit) refl))
+      sym (rw o (first_holds Undefined ((Broken when store_broken page names) ∷ operands_in page (used_of names) operand unit operand unit) refl))
 
-  pub unary_rest : is_operator op ≡ true → operands_verdict_in page names lent operand unit operand unit ≡ unary_verdict_in page names lent op operand unit
+  pub unary_rest : is_operator op ≡ true → operands_verdict_in page names operand unit operand unit ≡ unary_verdict_in page names op operand unit
   unfolding unary_verdict_in operands_verdict_in
   unary_rest o = rw o
 
 -- a key, whose bytes say that it has no unit
-pub index_alike : (page names : List ℕ) (lent : Bool) (target : ℕ) (unit : List ℕ) (key : ℕ) → (readable unit && readable (none_count ∷ [])) ≡ true
-    → (index_answer page names lent (operand_of target unit) (checked_of key) ≡ index_in page names lent target unit key)
-    × (index_page page names lent (operand_of target unit) (checked_of key) ≡ index_page_in page names lent target unit key)
+pub index_alike : (page : List ℕ) (names : Option (List ℕ)) (target : ℕ) (unit : List ℕ) (key : ℕ) → (readable unit && readable (none_count ∷ [])) ≡ true
+    → (index_answer page names (operand_of target unit) (checked_of key) ≡ index_in page names target unit key)
+    × (index_page page names (operand_of target unit) (checked_of key) ≡ index_page_in page names target unit key)
 unfolding index_answer index_page operands_verdict_in
-index_alike page names lent target unit key h =
+index_alike page names target unit key h =
     let none : operand_of key (none_count ∷ []) ≡ keyed (checked_of key) = unfold unit_in in refl in
     let e =
-    ap (λ x. operand_conditions page (used_of names lent) (operand_of target unit) x) (sym none)
-    ∙ operands_alike page names lent target unit key (none_count ∷ []) h (used_of names lent) in
-    let verdict : List Condition → Verdict = λ cs. lowest ((Broken when store_broken page names lent) ∷ cs) in
+    ap (λ x. operand_conditions page (used_of names) (operand_of target unit) x) (sym none)
+    ∙ operands_alike page names target unit key (none_count ∷ []) h (used_of names) in
+    let verdict : List Condition → Verdict = λ cs. lowest ((Broken when store_broken page names) ∷ cs) in
     let q = check_index page (checked_of key) (checked_of target) in (
       ap (λ (cs : List Condition). guarded (verdict cs) (concluded_by q.conclusion (unit_in unit))) e,
       ap (λ (cs : List Condition). unless_refused (verdict cs) (store_after q page) page) e,
@@ -351,3 +422,10 @@ module _ (l r : List ℕ) where
 
   pub both_read : (m n : Option Unit) → value_in l ≡ Ok m → value_in r ≡ Ok n → Some (m, n) ≡ units_in l r
   both_read m n d e = let u = value_some l m d in let v = value_some r n e in rw (u.0, v.0, u.1, v.1) refl
+
+-- the group sums of what was read
+pub sums_read : (page : List ℕ) (names : Option (List ℕ)) (b : List ℕ) (p : Option Unit × Option Unit) (u : Unit) → units_in b b ≡ Some p → u ≡ or_empty p.0
+    → sums_answer page names u ≡ group_sums_in page names b
+sums_read page names b p u e o =
+    let z = units_read b b p e in
+    ap (sums_answer page names) (o ∙ ap (λ q. or_empty q.0) z.1) ∙ sums_alike page names b z.0

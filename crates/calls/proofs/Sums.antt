@@ -1,7 +1,7 @@
 -- Group sums take no more places than a unit has, so that they can be written as a unit's bytes. Assumes nothing.
+use Rattle.std.specs.Prelude.{Option}
 use Rattle.std.proofs.Common.{Ok, Err, IfOk}
 use mathlib.Core.Path.{◌≡◌, refl, sym}
-use mathlib.Core.Bool.{Bool}
 use mathlib.Core.List.{List, [], ◌∷◌}
 use Prim.Native.Nat.{ℕ, ◌≤◌}
 use Rattle.refusals.specs.Numbers.{Verdict}
@@ -13,11 +13,11 @@ use Rattle.sums.specs.Calls.{units_verdict, roots_in, sums_answer}
 use Rattle.sums.proofs.Bound.{sums_bound}
 use Rattle.sums.proofs.Calls.{passed_left, sums_refused, sums_given}
 
-pub sums_few : (page names : List ℕ) (lent : Bool) (u : Unit) → IfOk (sums_answer page names lent u) (λ w. w.count ≤ places_max)
-sums_few page names lent u = go (units_verdict page names lent (u ∷ u ∷ [])) refl
+pub sums_few : (page : List ℕ) (names : Option (List ℕ)) (u : Unit) → IfOk (sums_answer page names u) (λ w. w.count ≤ places_max)
+sums_few page names u = go (units_verdict page names (u ∷ u ∷ [])) refl
   where
-    go : (v : Verdict) → v ≡ units_verdict page names lent (u ∷ u ∷ []) → IfOk (sums_answer page names lent u) (λ w. w.count ≤ places_max)
+    go : (v : Verdict) → v ≡ units_verdict page names (u ∷ u ∷ []) → IfOk (sums_answer page names u) (λ w. w.count ≤ places_max)
     go (Ok _) is =
-        let e = sums_given page names lent u is (roots_in page) (λ s. refl) in
-        rw (← e) (sums_bound places_max names_max (roots_in page) (terms_of u) (passed_left page names lent u u (sym is))).1
-    go (Err r) is = let e = sums_refused page names lent u r is in rw (← e) tt
+        let e = sums_given page names u is (roots_in page) (λ s. refl) in
+        rw (← e) (sums_bound places_max names_max (roots_in page) (terms_of u) (passed_left page names u u (sym is))).1
+    go (Err r) is = let e = sums_refused page names u r is in rw (← e) tt

@@ -1,8 +1,9 @@
 -- A type that is read, as bytes: how they are made, and that depth and children find their places; a checked type that is answered.
 -- Assumes nothing.
+use Rattle.std.specs.Prelude.{Option}
 use Rattle.std.proofs.Common.{Ok, Err, IfOk}
 use mathlib.Core.Path.{◌≡◌, refl, ◌∙◌, ap}
-use mathlib.Core.Bool.{Bool, not}
+use mathlib.Core.Bool.{not}
 use mathlib.Core.List.{List, [], ◌∷◌}
 use Prim.Native.Nat.{ℕ, ◌<◌, ◌≤◌}
 use native.Mathlib.Nat.{mod-eq_of_lt}
@@ -41,15 +42,15 @@ type_made d e body is =
     ∙ ap (λ (l : List ℕ). d ∷ l) is
 
 -- what is read finds its places
-pub read_small : (page names : List ℕ) (lent : Bool) (t : ℕ) → IfOk (read_answer page names lent t) (λ s. (s.depth < 256) × (s.count ≤ children_max))
+pub read_small : (page : List ℕ) (names : Option (List ℕ)) (t : ℕ) → IfOk (read_answer page names t) (λ s. (s.depth < 256) × (s.count ≤ children_max))
 unfolding read_answer read_verdict type_at
-read_small page names lent t = go (read_verdict page names lent t) refl
+read_small page names t = go (read_verdict page names t) refl
   where
-    go : (v : Verdict) → read_verdict page names lent t ≡ v → IfOk (answer_of v (type_at page t)) (λ s. (s.depth < 256) × (s.count ≤ children_max))
+    go : (v : Verdict) → read_verdict page names t ≡ v → IfOk (answer_of v (type_at page t)) (λ s. (s.depth < 256) × (s.count ≤ children_max))
     go (Ok _) e =
-        let a = passed_parts Broken (store_broken page names lent) ((Unused when not (ltb t (types_in page))) ∷ []) e in
+        let a = passed_parts Broken (store_broken page names) ((Unused when not (ltb t (types_in page))) ∷ []) e in
         let b = passed_parts Unused (not (ltb t (types_in page))) [] a.1 in
-        let f : Formed page = record { names = used_of names lent; form = (unbroken_both page names lent a.0).1 } in
+        let f : Formed page = record { names = used_of names; form = (unbroken_both page names a.0).1 } in
         let u = ltb-true t (types_in page) (not-false (ltb t (types_in page)) b.0) in
         (omega (arith, type_flat page f t u), few_children page f t u)
     go (Err r) e = tt

@@ -81,53 +81,53 @@ operands_in page used left unit right other =
     ∷ []
 
 -- and 2 the names or the store
-unfoldable pub operands_verdict_in : List ℕ → List ℕ → Bool → ℕ → List ℕ → ℕ → List ℕ → Verdict
-operands_verdict_in page names lent left unit right other =
-    lowest ((Broken when store_broken page names lent) ∷ operands_in page (used_of names lent) left unit right other)
+unfoldable pub operands_verdict_in : List ℕ → Option (List ℕ) → ℕ → List ℕ → ℕ → List ℕ → Verdict
+operands_verdict_in page names left unit right other =
+    lowest ((Broken when store_broken page names) ∷ operands_in page (used_of names) left unit right other)
 
 -- ---- a binary operator on two operands
 
 -- 1 the operator; 2 the names, the store or the pairs
-unfoldable pub binary_verdict_in : List ℕ → List ℕ → Bool → List ℕ → ℕ → ℕ → List ℕ → ℕ → List ℕ → Verdict
-binary_verdict_in page names lent pairs op left unit right other =
+unfoldable pub binary_verdict_in : List ℕ → Option (List ℕ) → List ℕ → ℕ → ℕ → List ℕ → ℕ → List ℕ → Verdict
+binary_verdict_in page names pairs op left unit right other =
     lowest
     ((Undefined when not (is_operator op))
-    ∷ (Broken when (store_broken page names lent || table_broken pairs names lent))
-    ∷ operands_in page (used_of names lent) left unit right other)
+    ∷ (Broken when (store_broken page names || table_broken pairs names))
+    ∷ operands_in page (used_of names) left unit right other)
 
-abbrev pub binary_in : List ℕ → List ℕ → Bool → List ℕ → ℕ → ℕ → List ℕ → ℕ → List ℕ → Result Answered Refusal
-binary_in page names lent pairs op left unit right other =
-    guarded (binary_verdict_in page names lent pairs op left unit right other)
+abbrev pub binary_in : List ℕ → Option (List ℕ) → List ℕ → ℕ → ℕ → List ℕ → ℕ → List ℕ → Result Answered Refusal
+binary_in page names pairs op left unit right other =
+    guarded (binary_verdict_in page names pairs op left unit right other)
     (binary_checked page (roots_in pairs) op (operand_of left unit) (operand_of right other))
 
 -- ---- an operator on one, and the store afterwards
 
 -- the operand is judged as if it were given twice
-unfoldable pub unary_verdict_in : List ℕ → List ℕ → Bool → ℕ → ℕ → List ℕ → Verdict
-unary_verdict_in page names lent op operand unit =
+unfoldable pub unary_verdict_in : List ℕ → Option (List ℕ) → ℕ → ℕ → List ℕ → Verdict
+unary_verdict_in page names op operand unit =
     lowest
     ((Undefined when not (is_operator op))
-    ∷ (Broken when store_broken page names lent)
-    ∷ operands_in page (used_of names lent) operand unit operand unit)
+    ∷ (Broken when store_broken page names)
+    ∷ operands_in page (used_of names) operand unit operand unit)
 
-abbrev pub unary_in : List ℕ → List ℕ → Bool → ℕ → ℕ → List ℕ → Result Answered Refusal
-unary_in page names lent op operand unit =
-    guarded (unary_verdict_in page names lent op operand unit) (unary_checked (check_unary page op (checked_of operand)) op (unit_in unit))
+abbrev pub unary_in : List ℕ → Option (List ℕ) → ℕ → ℕ → List ℕ → Result Answered Refusal
+unary_in page names op operand unit =
+    guarded (unary_verdict_in page names op operand unit) (unary_checked (check_unary page op (checked_of operand)) op (unit_in unit))
 
-abbrev pub unary_page_in : List ℕ → List ℕ → Bool → ℕ → ℕ → List ℕ → List ℕ
-unary_page_in page names lent op operand unit =
-    unless_refused (unary_verdict_in page names lent op operand unit) (store_after (check_unary page op (checked_of operand)) page) page
+abbrev pub unary_page_in : List ℕ → Option (List ℕ) → ℕ → ℕ → List ℕ → List ℕ
+unary_page_in page names op operand unit =
+    unless_refused (unary_verdict_in page names op operand unit) (store_after (check_unary page op (checked_of operand)) page) page
 
 -- ---- a target indexed by a key, and the store afterwards
 
 -- a key has no unit, which the byte 255 says
-abbrev pub index_verdict_in : List ℕ → List ℕ → Bool → ℕ → List ℕ → ℕ → Verdict
-index_verdict_in page names lent target unit key = operands_verdict_in page names lent target unit key (none_count ∷ [])
+abbrev pub index_verdict_in : List ℕ → Option (List ℕ) → ℕ → List ℕ → ℕ → Verdict
+index_verdict_in page names target unit key = operands_verdict_in page names target unit key (none_count ∷ [])
 
-abbrev pub index_in : List ℕ → List ℕ → Bool → ℕ → List ℕ → ℕ → Result Answered Refusal
-index_in page names lent target unit key =
-    guarded (index_verdict_in page names lent target unit key) (concluded_by (check_index page (checked_of key) (checked_of target)).conclusion (unit_in unit))
+abbrev pub index_in : List ℕ → Option (List ℕ) → ℕ → List ℕ → ℕ → Result Answered Refusal
+index_in page names target unit key =
+    guarded (index_verdict_in page names target unit key) (concluded_by (check_index page (checked_of key) (checked_of target)).conclusion (unit_in unit))
 
-abbrev pub index_page_in : List ℕ → List ℕ → Bool → ℕ → List ℕ → ℕ → List ℕ
-index_page_in page names lent target unit key =
-    unless_refused (index_verdict_in page names lent target unit key) (store_after (check_index page (checked_of key) (checked_of target)) page) page
+abbrev pub index_page_in : List ℕ → Option (List ℕ) → ℕ → List ℕ → ℕ → List ℕ
+index_page_in page names target unit key =
+    unless_refused (index_verdict_in page names target unit key) (store_after (check_index page (checked_of key) (checked_of target)) page) page

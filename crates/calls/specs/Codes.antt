@@ -151,27 +151,27 @@ out_after_factor (Ok None) out = out
 out_after_factor (Err r) out = out
 
 -- why two units, or none, are refused: 2 the names or the pairs, 3 a symbol that stands in the bytes and is not in use, 5 a unit
-unfoldable pub units_verdict_in : List ℕ → List ℕ → Bool → List ℕ → List ℕ → Verdict
-units_verdict_in page names lent left right =
+unfoldable pub units_verdict_in : List ℕ → Option (List ℕ) → List ℕ → List ℕ → Verdict
+units_verdict_in page names left right =
     lowest
-    ((Broken when table_broken page names lent)
-    ∷ (Unused when not (symbols_used (used_of names lent) left && symbols_used (used_of names lent) right))
+    ((Broken when table_broken page names)
+    ∷ (Unused when not (symbols_used (used_of names) left && symbols_used (used_of names) right))
     ∷ (BadUnit when not (maybe_formed_in left && maybe_formed_in right))
     ∷ [])
 
 -- the group sums, over the pairs of a page, of the unit that a slice says, which is judged as if it were given twice
-abbrev pub group_sums_in : List ℕ → List ℕ → Bool → List ℕ → Result Sums Refusal
-group_sums_in page names lent bytes =
-    answer_of (units_verdict_in page names lent bytes bytes) (sums_of (group_sums names_max (roots_in page) (terms_in bytes)))
+abbrev pub group_sums_in : List ℕ → Option (List ℕ) → List ℕ → Result Sums Refusal
+group_sums_in page names bytes =
+    answer_of (units_verdict_in page names bytes bytes) (sums_of (group_sums names_max (roots_in page) (terms_in bytes)))
 
 -- group sums in the form of a unit's bytes, and zeros after them
 abbrev pub bytes_of_sums : Sums → List ℕ
 bytes_of_sums w = pad unit_max 0 (unit_bytes (sums_in w))
 
 -- convertible or not, of bytes that each say a unit or none
-abbrev pub convertible_in : List ℕ → List ℕ → Bool → List ℕ → List ℕ → Result Bool Refusal
-convertible_in page names lent left right =
-    answer_of (units_verdict_in page names lent left right) (convertible names_max (roots_in page) (terms_in left) (terms_in right))
+abbrev pub convertible_in : List ℕ → Option (List ℕ) → List ℕ → List ℕ → Result Bool Refusal
+convertible_in page names left right =
+    answer_of (units_verdict_in page names left right) (convertible names_max (roots_in page) (terms_in left) (terms_in right))
 
 -- ---- two units read from bytes
 

@@ -1,4 +1,5 @@
 -- The answers of the entry calls on types as numbers, and what they are lent, for callers in other languages.
+use Rattle.std.specs.Prelude.{Option, unwrap_or}
 use Rattle.refusals.specs.declared.Refusal.{Refusal}
 use Rattle.std.specs.Prelude.{Bool, cond, List, ◌∷◌, ◌++◌, ℕ, ◌+◌, ◌-◌, ◌*◌, ◌%◌, ltb, get_or, take, drop, Result}
 use Rattle.refusals.specs.Lowest.{unless_refused}
@@ -23,7 +24,7 @@ type_bytes = 1 + entry_max
 
 -- its depth, its entry as a store has it, and zeros after them
 unfoldable pub bytes_of_type : Shape → List ℕ
-bytes_of_type s = pad type_bytes 0 (s.depth ∷ entry_of s.kind (take s.count s.children) s.name)
+bytes_of_type s = pad type_bytes 0 (s.depth ∷ entry_of s.kind (take s.count s.children) (unwrap_or s.name 0))
 
 -- ---- a checked type, in one number
 
@@ -74,9 +75,9 @@ abbrev pub bindings_after : Result Bool Refusal → Bindings → List ℕ → Li
 bindings_after answer b old = unless_refused answer (bytes_of_bindings b) old
 
 -- an actual type against an expected one, beside the bindings that the bytes say
-abbrev pub unify_in : List ℕ → List ℕ → Bool → List ℕ → ℕ → ℕ → Unified
-unify_in page names lent bytes e a = unify_answer page names lent (bindings_in bytes) e a
+abbrev pub unify_in : List ℕ → Option (List ℕ) → List ℕ → ℕ → ℕ → Unified
+unify_in page names bytes e a = unify_answer page names (bindings_in bytes) e a
 
 -- the same of an argument, a checked type in one number
-abbrev pub unify_arg_in : List ℕ → List ℕ → Bool → List ℕ → ℕ → ℕ → Unified
-unify_arg_in page names lent bytes e c = unify_arg_answer page names lent (bindings_in bytes) e (checked_of c)
+abbrev pub unify_arg_in : List ℕ → Option (List ℕ) → List ℕ → ℕ → ℕ → Unified
+unify_arg_in page names bytes e c = unify_arg_answer page names (bindings_in bytes) e (checked_of c)

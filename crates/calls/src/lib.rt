@@ -1,9 +1,13 @@
 // The entry calls as functions on numbers and byte slices, for callers in other languages. An answer is one number: the
 // refusal's (0 for none) in the upper half, the value in the lower. A unit passes as its bytes in a value node, a checked
 // type as one number, and bindings as 97 bytes.
+// The numbers, and the `lent` beside a page, are the C interface, which has no Option, Result or enum with fields.
 #![tactic(auto)]
 
-ghost use Rattle.std.specs.Prelude.{◌≡◌, false, ◌&&◌, [], ◌∷◌, ◌≤◌, ◌<◌, length, IfOk};
+ghost use Rattle.std.specs.Prelude.{◌≡◌, false, ◌&&◌, [], ◌∷◌, ◌≤◌, ◌<◌, length, IfOk, option_copied};
+ghost use Rattle.std.specs.Bool.{then_some};
+ghost use Rattle.std.specs.Option.{ok_or};
+ghost use Rattle.refusals.specs.declared.Refusal.TheVariants.{BadUnit};
 ghost use Rattle.names.specs.Table.{names_max};
 ghost use Rattle.names.specs.Calls.{empty_verdict, empty_page, add_answer, page_after, find_answer, read_answer};
 ghost use Rattle.units.specs.Unit.{places_max};
@@ -20,7 +24,7 @@ ghost use Rattle.pages.specs.Pad.{pad};
 ghost use Rattle.values.specs.Value.{none_count, unit_max, readable, unit_in};
 ghost use Rattle.sums.specs.Calls.{or_empty};
 ghost use Rattle.calls.specs.Types.{bytes_of_type, checked_of, bindings_in, bytes_of_bindings, number_in, const_code, bindings_after, unify_in, unify_arg_in};
-ghost use Rattle.calls.specs.Codes.{packed, number_code, found_code, nothing_code, size_code, out_after, out_after_bytes, power_code, answer_code, broken_unit, unit_or_broken, unitless_in, product_in, text_verdict_in, text_in, bytes_of_unit, factor_code, out_after_factor, units_verdict_in, group_sums_in, bytes_of_sums, convertible_in, units_in};
+ghost use Rattle.calls.specs.Codes.{packed, number_code, found_code, nothing_code, size_code, out_after, out_after_bytes, power_code, answer_code, unit_or_broken, unitless_in, product_in, text_verdict_in, text_in, bytes_of_unit, factor_code, out_after_factor, units_verdict_in, group_sums_in, bytes_of_sums, convertible_in, units_in};
 ghost use Rattle.calls.specs.Answers.{answered_code, bytes_of_errors, bytes_of_maybe, bytes_of_answer, out_after_answer, operand_used_in, operands_verdict_in, binary_verdict_in, binary_in, unary_verdict_in, unary_in, unary_page_in, index_in, index_page_in};
 
 use answers::{Answered, CheckedExpr};
@@ -39,6 +43,7 @@ use units::{PLACES, Unit};
 use values::{NONE_COUNT, UNIT_BYTES, UnitBytes};
 
 // What is answered for a name or a factor that the table does not have, and for Unknown: a number that is never in use.
+// The C interface says it so, having no Option.
 pub const ABSENT: usize = 65535;
 
 // An answer's number, or its refusal's, as one number.
@@ -56,6 +61,13 @@ fn coded_verdict(verdict: Result<(), Refusal>) -> u32
     ensures { result ≡ packed verdict 0 }
 {
     coded(verdict.map(|()| 0))
+}
+
+// The names page where it is lent, or none.
+fn lent_names(names: &[u8], lent: bool) -> Option<&[u8]>
+    ensures { option_copied result ≡ then_some lent names.now }
+{
+    lent.then_some(names)
 }
 
 // Makes the page an empty table of names.
@@ -96,6 +108,19 @@ fn written_bytes<const N: usize>(answer: Result<Padded<N>, Refusal>, out: &mut [
     }
 }
 
+// 0, and the bytes written down, unless it is a refusal.
+fn written<const N: usize>(answer: Result<[u8; N], Refusal>, out: &mut [u8; N]) -> u32
+    ensures { (result ≡ nothing_code answer.entry) × (out.new ≡ out_after (λ bytes. bytes) answer.entry out.old) }
+{
+    match answer {
+        Ok(bytes) => {
+            *out = bytes;
+            coded(Ok(0))
+        }
+        Err(r) => coded(Err(r)),
+    }
+}
+
 // The name with number k, and its length.
 #[unsafe(no_mangle)]
 pub extern "C" fn riddlepoppy_read_name(page: &[u8], k: u32, out: &mut [u8; NAME_BYTES]) -> u32
@@ -104,33 +129,29 @@ pub extern "C" fn riddlepoppy_read_name(page: &[u8], k: u32, out: &mut [u8; NAME
     written_bytes(names::read_name(page, k as usize), out)
 }
 
-fn broken_unit() -> Unit
-    ensures { result ≡ broken_unit }
+// The unit that the bytes say, where no symbol is looked up: 5 for "no unit", and for bytes that cannot be read.
+#[tactic(auto, using(crate::proofs::Bytes::unread_refused, crate::proofs::Bytes::read_given))]
+fn unit_in(bytes: &[u8]) -> Result<Unit, Refusal>
+    ensures { result ≡ ok_or (unit_in bytes.now) BadUnit }
 {
-    Unit {
-        count: PLACES + 1,
-        symbols: [0; PLACES],
-        exponents: [0; PLACES],
-    }
-}
-
-// The unit that the bytes say, where no symbol is looked up; bytes that say none give one that breaks its form.
-fn unit_or_broken(bytes: &[u8]) -> Unit
-    ensures { result ≡ unit_or_broken bytes.now }
-{
-    match values::read_value(bytes) {
-        Ok(Some(unit)) => unit,
-        Ok(None) => broken_unit(),
-        Err(_) => broken_unit(),
-    }
+    values::read_value(bytes)?.ok_or(Refusal::BadUnit)
 }
 
 // Whether a unit is in form.
+#[tactic(auto, using(crate::proofs::Bytes::form_read, crate::proofs::Bytes::form_unread))]
 #[unsafe(no_mangle)]
 pub extern "C" fn riddlepoppy_unit_form(unit: &[u8]) -> u32
     ensures { result ≡ packed (form_verdict (unit_or_broken unit.now)) 0 }
 {
-    coded_verdict(units::unit_form(unit_or_broken(unit)))
+    coded_verdict(unit_in(unit).and_then(units::unit_form))
+}
+
+// The product of the units that two slices say or, with `quotient`, their quotient.
+#[tactic(auto, using(crate::proofs::Bytes::product_left, crate::proofs::Bytes::product_right, crate::proofs::Bytes::product_read))]
+fn product_in(a: &[u8], b: &[u8], quotient: bool) -> Result<Unit, Refusal>
+    ensures { result ≡ product_in quotient a.now b.now }
+{
+    units::product(unit_in(a)?, unit_in(b)?, quotient)
 }
 
 // The product of two units or, with `quotient`, their quotient.
@@ -143,21 +164,20 @@ pub extern "C" fn riddlepoppy_product(
 ) -> u32
     ensures { (result ≡ nothing_code (product_in quotient a.now b.now)) × (out.new ≡ out_after bytes_of_unit (product_in quotient a.now b.now) out.old) }
 {
-    match units::product(unit_or_broken(a), unit_or_broken(b), quotient) {
-        Ok(unit) => {
-            *out = values::value_bytes(unit);
-            coded(Ok(0))
-        }
-        Err(r) => coded(Err(r)),
-    }
+    written(product_in(a, b, quotient).map(values::value_bytes), out)
 }
 
 // The exponent of a symbol, as its sixteen bits.
+#[tactic(auto, using(crate::proofs::Bytes::exponent_read, crate::proofs::Bytes::exponent_unread))]
 #[unsafe(no_mangle)]
 pub extern "C" fn riddlepoppy_exponent(unit: &[u8], symbol: Symbol) -> u32
     ensures { result ≡ power_code (exponent_answer (unit_or_broken unit.now) symbol) }
 {
-    coded(units::exponent(unit_or_broken(unit), symbol).map(values::raw))
+    coded(
+        unit_in(unit)
+            .and_then(|u| units::exponent(u, symbol))
+            .map(values::raw),
+    )
 }
 
 // A plain answer as one number: 1 for yes.
@@ -167,15 +187,20 @@ fn answer_code(answer: Result<bool, Refusal>) -> u32
     coded(answer.map(usize::from))
 }
 
+// Whether bytes say that there is no unit, or the empty one.
+#[tactic(auto, using(crate::proofs::Bytes::dimensionless_read, crate::proofs::Bytes::dimensionless_unread))]
+fn unitless_in(bytes: &[u8]) -> Result<bool, Refusal>
+    ensures { result ≡ unitless_in bytes.now }
+{
+    units::is_dimensionless(values::read_value(bytes)?)
+}
+
 // Whether there is no unit, or the empty one: 1 for yes.
 #[unsafe(no_mangle)]
 pub extern "C" fn riddlepoppy_is_dimensionless(bytes: &[u8]) -> u32
     ensures { result ≡ answer_code (unitless_in bytes.now) }
 {
-    match values::read_value(bytes) {
-        Ok(unit) => answer_code(units::is_dimensionless(unit)),
-        Err(r) => coded(Err(r)),
-    }
+    answer_code(unitless_in(bytes))
 }
 
 // Why a text is refused of bytes that say no unit.
@@ -229,9 +254,10 @@ pub extern "C" fn riddlepoppy_insert_pair(
     factor: u64,
     base: Symbol,
 ) -> u32
-    ensures { (result ≡ packed (pair_verdict page.old names.now lent (pair symbol base)) 0) × (page.new ≡ tables.page_after page.old names.now lent symbol factor base) }
+    ensures { (result ≡ packed (pair_verdict page.old (then_some lent names.now) (pair symbol base)) 0) × (page.new ≡ tables.page_after page.old (then_some lent names.now) symbol factor base) }
 {
-    coded_verdict(pairs::insert_pair(page, names, lent, symbol, factor, base))
+    let names = lent_names(names, lent);
+    coded_verdict(pairs::insert_pair(page, names, symbol, factor, base))
 }
 
 // The root of a symbol.
@@ -242,9 +268,10 @@ pub extern "C" fn riddlepoppy_canonical(
     lent: bool,
     symbol: Symbol,
 ) -> u32
-    ensures { result ≡ number_code (root_answer page.now names.now lent symbol) }
+    ensures { result ≡ number_code (root_answer page.now (then_some lent names.now) symbol) }
 {
-    coded(pairs::canonical(page, names, lent, symbol).map(symbol_index))
+    let names = lent_names(names, lent);
+    coded(pairs::canonical(page, names, symbol).map(symbol_index))
 }
 
 // The first factor of a symbol, and its base, or 65,535 where no pair has the symbol.
@@ -256,9 +283,10 @@ pub extern "C" fn riddlepoppy_first_factor(
     symbol: Symbol,
     out: &mut [u8; LONG_BYTES],
 ) -> u32
-    ensures { (result ≡ factor_code (factor_answer page.now names.now lent symbol)) × (out.new ≡ out_after_factor (factor_answer page.now names.now lent symbol) out.old) }
+    ensures { (result ≡ factor_code (factor_answer page.now (then_some lent names.now) symbol)) × (out.new ≡ out_after_factor (factor_answer page.now (then_some lent names.now) symbol) out.old) }
 {
-    match pairs::first_factor(page, names, lent, symbol) {
+    let names = lent_names(names, lent);
+    match pairs::first_factor(page, names, symbol) {
         Ok(Some(first)) => {
             *out = pages::long_bytes(first.factor);
             coded(Ok(symbol_index(first.base)))
@@ -297,14 +325,14 @@ fn units_in(left: &[u8], right: &[u8]) -> Option<(Option<Unit>, Option<Unit>)>
 }
 
 // Why two units are refused, over the pairs of a page, where one of them cannot be read.
-fn unread_units(page: &[u8], names: &[u8], lent: bool, left: &[u8], right: &[u8]) -> Refusal
+fn unread_units(page: &[u8], names: Option<&[u8]>, left: &[u8], right: &[u8]) -> Refusal
     requires { (readable left.now && readable right.now) ≡ false }
-    ensures { Err result ≡ units_verdict_in page.now names.now lent left.now right.now }
+    ensures { Err result ≡ units_verdict_in page.now (option_copied names.entry) left.now right.now }
 {
-    if pairs::is_broken(page, names, lent) {
+    if pairs::is_broken(page, names) {
         return Refusal::Broken;
     }
-    let n = names::in_use(names, lent);
+    let n = names::in_use(names);
     if !values::are_used(left, n) {
         return Refusal::Unused;
     }
@@ -323,18 +351,16 @@ pub extern "C" fn riddlepoppy_canonicalize(
     unit: &[u8],
     out: &mut [u8; UNIT_BYTES],
 ) -> u32
-    ensures { (result ≡ nothing_code (group_sums_in page.now names.now lent unit.now)) × (out.new ≡ out_after bytes_of_sums (group_sums_in page.now names.now lent unit.now) out.old) }
+    ensures { (result ≡ nothing_code (group_sums_in page.now (then_some lent names.now) unit.now)) × (out.new ≡ out_after bytes_of_sums (group_sums_in page.now (then_some lent names.now) unit.now) out.old) }
 {
+    let names = lent_names(names, lent);
     let Some((u, _)) = units_in(unit, unit) else {
-        return coded(Err(unread_units(page, names, lent, unit, unit)));
+        return coded(Err(unread_units(page, names, unit, unit)));
     };
-    match sums::canonicalize(page, names, lent, sums::or_empty(u)) {
-        Ok(sums) => {
-            *out = sums_bytes(sums);
-            coded(Ok(0))
-        }
-        Err(r) => coded(Err(r)),
-    }
+    written(
+        sums::canonicalize(page, names, sums::or_empty(u)).map(sums_bytes),
+        out,
+    )
 }
 
 // Whether two units, or none, are convertible: 1 for yes.
@@ -346,12 +372,13 @@ pub extern "C" fn riddlepoppy_is_convertible_to(
     left: &[u8],
     right: &[u8],
 ) -> u32
-    ensures { result ≡ answer_code (convertible_in page.now names.now lent left.now right.now) }
+    ensures { result ≡ answer_code (convertible_in page.now (then_some lent names.now) left.now right.now) }
 {
+    let names = lent_names(names, lent);
     let Some((a, b)) = units_in(left, right) else {
-        return coded(Err(unread_units(page, names, lent, left, right)));
+        return coded(Err(unread_units(page, names, left, right)));
     };
-    answer_code(sums::is_convertible_to(page, names, lent, a, b))
+    answer_code(sums::is_convertible_to(page, names, a, b))
 }
 
 // Makes the page a store of the fixed types alone.
@@ -372,9 +399,10 @@ pub extern "C" fn riddlepoppy_make_type(
     children: &[u16],
     name: Symbol,
 ) -> u32
-    ensures { (result ≡ number_code (make_answer page.old names.now lent kind children.now name)) × (page.new ≡ make_page page.old names.now lent kind children.now name) }
+    ensures { (result ≡ number_code (make_answer page.old (then_some lent names.now) kind children.now name)) × (page.new ≡ make_page page.old (then_some lent names.now) kind children.now name) }
 {
-    coded(types::make_type(page, names, lent, kind, children, name))
+    let names = lent_names(names, lent);
+    coded(types::make_type(page, names, kind, children, name))
 }
 
 // How many bytes a type takes that is read: its depth, and its entry.
@@ -390,7 +418,7 @@ fn type_bytes(shape: Shape) -> TypeBytes
 {
     let children = shape.children;
     let count = shape.count;
-    let entry = types::entry_of(shape.kind, &children[..count], shape.name);
+    let entry = types::entry_of(shape.kind, &children[..count], shape.name.unwrap_or(0));
     let depth = [shape.depth as u8];
     let body = entry.bytes;
     let mut bytes = [0; TYPE_BYTES];
@@ -408,18 +436,17 @@ pub extern "C" fn riddlepoppy_read_type(
     t: u32,
     out: &mut [u8; TYPE_BYTES],
 ) -> u32
-    ensures { (result ≡ nothing_code (store.read_answer page.now names.now lent t)) × (out.new ≡ out_after bytes_of_type (store.read_answer page.now names.now lent t) out.old) }
+    ensures { (result ≡ nothing_code (store.read_answer page.now (then_some lent names.now) t)) × (out.new ≡ out_after bytes_of_type (store.read_answer page.now (then_some lent names.now) t) out.old) }
 {
-    match types::read_type(page, names, lent, t as usize) {
-        Ok(shape) => {
-            *out = type_bytes(shape);
-            coded(Ok(0))
-        }
-        Err(r) => coded(Err(r)),
-    }
+    let names = lent_names(names, lent);
+    written(
+        types::read_type(page, names, t as usize).map(type_bytes),
+        out,
+    )
 }
 
 // From which number on a checked type is a Function, and from which one none is known.
+// The C interface has them in one number, having no enum with fields.
 const FUNCTIONS: usize = 65536;
 
 const UNKNOWN: usize = 2 * FUNCTIONS;
@@ -486,19 +513,21 @@ pub extern "C" fn riddlepoppy_matches(
     actual: u32,
     expected: u32,
 ) -> u32
-    ensures { result ≡ answer_code (matches_answer page.now names.now lent (checked_of actual) (checked_of expected)) }
+    ensures { result ≡ answer_code (matches_answer page.now (then_some lent names.now) (checked_of actual) (checked_of expected)) }
 {
+    let names = lent_names(names, lent);
     let a = checked_of(actual);
     let e = checked_of(expected);
-    answer_code(checked::matches(page, names, lent, a, e))
+    answer_code(checked::matches(page, names, a, e))
 }
 
 // Whether a generic name stands in a type: 1 for yes.
 #[unsafe(no_mangle)]
 pub extern "C" fn riddlepoppy_has_generic(page: &[u8], names: &[u8], lent: bool, t: u32) -> u32
-    ensures { result ≡ answer_code (generic_answer page.now names.now lent t) }
+    ensures { result ≡ answer_code (generic_answer page.now (then_some lent names.now) t) }
 {
-    answer_code(checked::has_generic(page, names, lent, t as usize))
+    let names = lent_names(names, lent);
+    answer_code(checked::has_generic(page, names, t as usize))
 }
 
 // From which number on an answered checked type is a Function.
@@ -518,9 +547,10 @@ fn number_of(c: Checked) -> usize
 // The number of a checked type's const form, which is made if it is new.
 #[unsafe(no_mangle)]
 pub extern "C" fn riddlepoppy_into_const(page: &mut [u8], names: &[u8], lent: bool, c: u32) -> u32
-    ensures { (result ≡ const_code (into_const page.old names.now lent (checked_of c))) × (page.new ≡ into_const_page page.old names.now lent (checked_of c)) }
+    ensures { (result ≡ const_code (into_const page.old (then_some lent names.now) (checked_of c))) × (page.new ≡ into_const_page page.old (then_some lent names.now) (checked_of c)) }
 {
-    coded(checked::into_const(page, names, lent, checked_of(c)).map(number_of))
+    let names = lent_names(names, lent);
+    coded(checked::into_const(page, names, checked_of(c)).map(number_of))
 }
 
 // A plain answer as one number, and the bindings beside it written back unless it is a refusal.
@@ -544,11 +574,12 @@ pub extern "C" fn riddlepoppy_unify(
     actual: u32,
     bindings: &mut [u8; BINDING_BYTES],
 ) -> u32
-    ensures { (result ≡ answer_code (unify_in page.now names.now lent bindings.old expected actual).answer) × (bindings.new ≡ bindings_after (unify_in page.now names.now lent bindings.old expected actual).answer (unify_in page.now names.now lent bindings.old expected actual).bindings bindings.old) }
+    ensures { (result ≡ answer_code (unify_in page.now (then_some lent names.now) bindings.old expected actual).answer) × (bindings.new ≡ bindings_after (unify_in page.now (then_some lent names.now) bindings.old expected actual).answer (unify_in page.now (then_some lent names.now) bindings.old expected actual).bindings bindings.old) }
 {
+    let names = lent_names(names, lent);
     let bytes = *bindings;
     let bound = bindings_in(bytes);
-    let result = checked::unify(page, names, lent, bound, expected as usize, actual as usize);
+    let result = checked::unify(page, names, bound, expected as usize, actual as usize);
     written_back(result, bindings)
 }
 
@@ -562,12 +593,13 @@ pub extern "C" fn riddlepoppy_unify_arg(
     actual: u32,
     bindings: &mut [u8; BINDING_BYTES],
 ) -> u32
-    ensures { (result ≡ answer_code (unify_arg_in page.now names.now lent bindings.old expected actual).answer) × (bindings.new ≡ bindings_after (unify_arg_in page.now names.now lent bindings.old expected actual).answer (unify_arg_in page.now names.now lent bindings.old expected actual).bindings bindings.old) }
+    ensures { (result ≡ answer_code (unify_arg_in page.now (then_some lent names.now) bindings.old expected actual).answer) × (bindings.new ≡ bindings_after (unify_arg_in page.now (then_some lent names.now) bindings.old expected actual).answer (unify_arg_in page.now (then_some lent names.now) bindings.old expected actual).bindings bindings.old) }
 {
+    let names = lent_names(names, lent);
     let bytes = *bindings;
     let bound = bindings_in(bytes);
     let c = checked_of(actual);
-    let result = checked::unify_arg(page, names, lent, bound, expected as usize, c);
+    let result = checked::unify_arg(page, names, bound, expected as usize, c);
     written_back(result, bindings)
 }
 
@@ -580,11 +612,12 @@ pub extern "C" fn riddlepoppy_substitute(
     t: u32,
     bindings: &[u8; BINDING_BYTES],
 ) -> u32
-    ensures { (result ≡ number_code (substitute_answer page.old names.now lent (bindings_in bindings.now) t)) × (page.new ≡ substitute_page page.old names.now lent (bindings_in bindings.now) t) }
+    ensures { (result ≡ number_code (substitute_answer page.old (then_some lent names.now) (bindings_in bindings.now) t)) × (page.new ≡ substitute_page page.old (then_some lent names.now) (bindings_in bindings.now) t) }
 {
+    let names = lent_names(names, lent);
     let bytes = *bindings;
     let bound = bindings_in(bytes);
-    coded(checked::substitute(page, names, lent, bound, t as usize))
+    coded(checked::substitute(page, names, bound, t as usize))
 }
 
 // An operand: the checked type that a number says, and a unit or none.
@@ -600,22 +633,21 @@ fn operand_of(c: u32, unit: Option<Unit>) -> CheckedExpr
 // Why two operands are refused, over a store, where the unit of one of them cannot be read.
 fn unread_operands(
     page: &[u8],
-    names: &[u8],
-    lent: bool,
+    names: Option<&[u8]>,
     left: u32,
     unit: &[u8],
     right: u32,
     other: &[u8],
 ) -> Refusal
     requires { (readable unit.now && readable other.now) ≡ false }
-    ensures { Err result ≡ operands_verdict_in page.now names.now lent left unit.now right other.now }
+    ensures { Err result ≡ operands_verdict_in page.now (option_copied names.entry) left unit.now right other.now }
 {
     let mut tables = Tables::new();
-    if !types::opened(page, names, lent, &mut tables) {
+    if !types::opened(page, names, &mut tables) {
         return Refusal::Broken;
     }
     let store = tables.store(page);
-    let n = names::in_use(names, lent);
+    let n = names::in_use(names);
     if !is_operand_used(store, n, left, unit) {
         return Refusal::Unused;
     }
@@ -643,26 +675,20 @@ type ErrorBytes = [u8; ERROR_BYTES];
 
 type AnswerBytes = [u8; ANSWER_BYTES];
 
-// The bytes of errors.
+// The bytes of errors, of each number its lowest.
+#[tactic(auto, using(crate::proofs::Answers::errors_said))]
 fn error_bytes(errors: Errors) -> ErrorBytes
     ensures { result ≡ bytes_of_errors errors }
 {
-    let count = errors.count();
     let (first, second) = errors.reasons();
     let (failing, left, right) = errors.failing();
-    [
-        (count % 256) as u8,
-        (first % 256) as u8,
-        (second % 256) as u8,
-        (failing / 16777216 % 256) as u8,
-        (failing / 65536 % 256) as u8,
-        (failing / 256 % 256) as u8,
-        (failing % 256) as u8,
-        (left / 256 % 256) as u8,
-        (left % 256) as u8,
-        (right / 256 % 256) as u8,
-        (right % 256) as u8,
-    ]
+    let [.., count] = errors.count().to_be_bytes();
+    let [.., first] = first.to_be_bytes();
+    let [.., second] = second.to_be_bytes();
+    let [.., f3, f2, f1, f0] = failing.to_be_bytes();
+    let [.., l1, l0] = left.to_be_bytes();
+    let [.., r1, r0] = right.to_be_bytes();
+    [count, first, second, f3, f2, f1, f0, l1, l0, r1, r0]
 }
 
 // The bytes that say that there is no unit.
@@ -702,11 +728,11 @@ fn answer_bytes(answer: Answered) -> AnswerBytes
 }
 
 // An answer as one number, and its bytes written down unless it is a refusal.
-fn written_down(answer: Result<Answered, Refusal>, out: &mut [u8; ANSWER_BYTES]) -> u32
-    requires { IfOk answer (λ a. (or_empty a.unit).count ≤ places_max) }
-    ensures { (result ≡ answered_code answer) × (out.new ≡ out_after_answer answer out.old) }
+fn written_down(answered: Result<Answered, Refusal>, out: &mut [u8; ANSWER_BYTES]) -> u32
+    requires { IfOk answered (λ a. (or_empty a.unit).count ≤ places_max) }
+    ensures { (result ≡ answered_code answered) × (out.new ≡ out_after_answer answered out.old) }
 {
-    match answer {
+    match answered {
         Ok(a) => {
             *out = answer_bytes(a);
             coded(Ok(number_of(a.checked)))
@@ -718,8 +744,7 @@ fn written_down(answer: Result<Answered, Refusal>, out: &mut [u8; ANSWER_BYTES])
 // Why a binary operator's operands are refused where the unit of one of them cannot be read.
 fn unread_binary(
     page: &[u8],
-    names: &[u8],
-    lent: bool,
+    names: Option<&[u8]>,
     table: &[u8],
     op: usize,
     left: u32,
@@ -728,33 +753,26 @@ fn unread_binary(
     other: &[u8],
 ) -> Refusal
     requires { (readable unit.now && readable other.now) ≡ false }
-    ensures { Err result ≡ binary_verdict_in page.now names.now lent table.now op left unit.now right other.now }
+    ensures { Err result ≡ binary_verdict_in page.now (option_copied names.entry) table.now op left unit.now right other.now }
 {
     if !operators::is_operator(op) {
         return Refusal::Undefined;
     }
-    if pairs::is_broken(table, names, lent) {
+    if pairs::is_broken(table, names) {
         return Refusal::Broken;
     }
-    unread_operands(page, names, lent, left, unit, right, other)
+    unread_operands(page, names, left, unit, right, other)
 }
 
 // Why an operator's one operand is refused where its unit cannot be read.
-fn unread_unary(
-    page: &[u8],
-    names: &[u8],
-    lent: bool,
-    op: usize,
-    operand: u32,
-    unit: &[u8],
-) -> Refusal
+fn unread_unary(page: &[u8], names: Option<&[u8]>, op: usize, operand: u32, unit: &[u8]) -> Refusal
     requires { (readable unit.now && readable unit.now) ≡ false }
-    ensures { Err result ≡ unary_verdict_in page.now names.now lent op operand unit.now }
+    ensures { Err result ≡ unary_verdict_in page.now (option_copied names.entry) op operand unit.now }
 {
     if !operators::is_operator(op) {
         return Refusal::Undefined;
     }
-    unread_operands(page, names, lent, operand, unit, operand, unit)
+    unread_operands(page, names, operand, unit, operand, unit)
 }
 
 // What a binary operator answers for two operands: the number of a type, errors, and a unit or none.
@@ -771,24 +789,15 @@ pub extern "C" fn riddlepoppy_check_binary_operator(
     other: &[u8],
     out: &mut [u8; ANSWER_BYTES],
 ) -> u32
-    ensures { (result ≡ answered_code (binary_in page.now names.now lent table.now op left unit.now right other.now)) × (out.new ≡ out_after_answer (binary_in page.now names.now lent table.now op left unit.now right other.now) out.old) }
+    ensures { (result ≡ answered_code (binary_in page.now (then_some lent names.now) table.now op left unit.now right other.now)) × (out.new ≡ out_after_answer (binary_in page.now (then_some lent names.now) table.now op left unit.now right other.now) out.old) }
 {
+    let names = lent_names(names, lent);
     let Some((l, r)) = units_in(unit, other) else {
-        return coded(Err(unread_binary(
-            page,
-            names,
-            lent,
-            table,
-            op as usize,
-            left,
-            unit,
-            right,
-            other,
-        )));
+        return coded(Err(unread_binary(page, names, table, op as usize, left, unit, right, other)));
     };
     let a = operand_of(left, l);
     let b = operand_of(right, r);
-    let answer = answers::check_binary_operator(page, names, lent, table, op as usize, a, b);
+    let answer = answers::check_binary_operator(page, names, table, op as usize, a, b);
     written_down(answer, out)
 }
 
@@ -803,14 +812,15 @@ pub extern "C" fn riddlepoppy_check_unary_operator(
     unit: &[u8],
     out: &mut [u8; ANSWER_BYTES],
 ) -> u32
-    ensures value { (result ≡ answered_code (unary_in page.old names.now lent op operand unit.now)) × (out.new ≡ out_after_answer (unary_in page.old names.now lent op operand unit.now) out.old) }
-    ensures page_after { page.new ≡ unary_page_in page.old names.now lent op operand unit.now }
+    ensures value { (result ≡ answered_code (unary_in page.old (then_some lent names.now) op operand unit.now)) × (out.new ≡ out_after_answer (unary_in page.old (then_some lent names.now) op operand unit.now) out.old) }
+    ensures page_after { page.new ≡ unary_page_in page.old (then_some lent names.now) op operand unit.now }
 {
+    let names = lent_names(names, lent);
     let Some((u, _)) = units_in(unit, unit) else {
-        return coded(Err(unread_unary(page, names, lent, op as usize, operand, unit)));
+        return coded(Err(unread_unary(page, names, op as usize, operand, unit)));
     };
     let x = operand_of(operand, u);
-    let answer = answers::check_unary_operator(page, names, lent, op as usize, x);
+    let answer = answers::check_unary_operator(page, names, op as usize, x);
     written_down(answer, out)
 }
 
@@ -825,14 +835,15 @@ pub extern "C" fn riddlepoppy_check_index(
     key: u32,
     out: &mut [u8; ANSWER_BYTES],
 ) -> u32
-    ensures value { (result ≡ answered_code (index_in page.old names.now lent target unit.now key)) × (out.new ≡ out_after_answer (index_in page.old names.now lent target unit.now key) out.old) }
-    ensures page_after { page.new ≡ index_page_in page.old names.now lent target unit.now key }
+    ensures value { (result ≡ answered_code (index_in page.old (then_some lent names.now) target unit.now key)) × (out.new ≡ out_after_answer (index_in page.old (then_some lent names.now) target unit.now key) out.old) }
+    ensures page_after { page.new ≡ index_page_in page.old (then_some lent names.now) target unit.now key }
 {
+    let names = lent_names(names, lent);
     let none = [NONE_COUNT as u8];
     let Some((u, _)) = units_in(unit, &none) else {
-        return coded(Err(unread_operands(page, names, lent, target, unit, key, &none)));
+        return coded(Err(unread_operands(page, names, target, unit, key, &none)));
     };
     let x = operand_of(target, u);
-    let answer = answers::check_index(page, names, lent, x, checked_of(key));
+    let answer = answers::check_index(page, names, x, checked_of(key));
     written_down(answer, out)
 }

@@ -1,6 +1,6 @@
 -- The cases that document 01 marks *, as rows of one list. Each module adds its kinds of row and its rows.
 use Rattle.refusals.specs.declared.Refusal.{Refusal}
-use Rattle.std.specs.Prelude.{◌≡◌, Bool, true, false, List, [], ◌∷◌, ℕ, pos, negsuc, length, replicate, Result, Ok, Some}
+use Rattle.std.specs.Prelude.{◌≡◌, Bool, true, false, List, [], ◌∷◌, ℕ, pos, negsuc, length, replicate, Result, Ok, Some, None}
 use Rattle.pages.specs.Pad.{pad}
 use Rattle.names.specs.Table.{names_max}
 use Rattle.matching.specs.Matching.{matches}
@@ -143,8 +143,8 @@ Holds (root ps s r) = root_of names_max ps s ≡ r
 Holds (converts yes! ps xs ys) = convertible names_max (root_of names_max ps) xs ys ≡ yes!
 Holds (against yes! a b) = matches store (Known a) (Known b) ≡ yes!
 Holds (unifies r e a b) = unify store e a (bound [] []) ≡ unified r b
-Holds (binary op x y o) = binary_answer store [] false no_pairs op x y ≡ Ok (answered o no_unit)
-Holds (unary op x o) = (unary_answer store [] false op x ≡ Ok (answered o no_unit)) × (unary_page store [] false op x ≡ store)
+Holds (binary op x y o) = binary_answer store None no_pairs op x y ≡ Ok (answered o no_unit)
+Holds (unary op x o) = (unary_answer store None op x ≡ Ok (answered o no_unit)) × (unary_page store None op x ≡ store)
 
 -- ---- symbols
 

@@ -1,16 +1,17 @@
 -- A bucket's chain, walked from its last thing back: a test that only things of the bucket pass is passed by one of the first n things
 -- exactly if one of the chain passes. Assumes nothing.
-use mathlib.Core.Path.{◌≡◌, refl, ◌∙◌, ap}
+use mathlib.Core.Path.{◌≡◌, refl, sym, ◌∙◌, ap}
 use mathlib.Core.Bool.{Bool, true, false, cond}
 use mathlib.Core.List.{List}
 use Prim.Native.Nat.{ℕ, zero, suc, ◌<◌, ◌≤◌}
 use native.Mathlib.Omega.{arith}
-use lib.ListN.{get_or}
+use lib.ListN.{length, get_or, take}
+use Rattle.std.proofs.lemmas.List.{get_or-take, length-take-le}
 use lib.Dec.{eqb}
 use borrow.Author.Tests.{eq-eqb, eqb-true, eqb-false}
 use Rattle.pages.specs.Quant.{any_to}
 use Rattle.pages.proofs.Quant.{any_none, any_found}
-use Rattle.chains.specs.Last.{last_below, Links}
+use Rattle.chains.specs.Last.{last_below, Links, Descends, AnyLinked}
 
 alone : (a : Bool) → cond a true false ≡ a
 alone true = refl
@@ -82,3 +83,60 @@ module _ (bucket : ℕ → ℕ) (b : ℕ) where
           let le = last_le k in
           let any : any_to n p ≡ any_to k p = w.2 ∙ rw (e, h) (alone (any_to k p)) in
           rw g (omega arith, (omega arith, last_last k, any ∙ any_last k))
+
+-- ---- a walk along links that asks a test, for each bucket and test that it may be about
+
+module _ (says : ℕ → Bool → Type 0) (links : List ℕ) (head : ℕ) where
+  abbrev pub Walking : ℕ → Type 0
+  Walking next =
+      (next ≤ length links)
+      × ((bucket : ℕ → ℕ) (b : ℕ) (p : ℕ → Bool) → Links bucket links (length links) → head ≡ last_below bucket (length links) b
+      → (same : (j : ℕ) → p j ≡ true → bucket j ≡ b) → ((k : ℕ) (r : Bool) → k < length links → says k r → r ≡ p k) → Walk bucket b p same (length links) next)
+
+  pub walking_start : Descends links head → Walking head
+  walking_start d = (d.head_in, λ bucket b p l e same t. walk_start bucket b p same (length links) head e)
+
+  pub walking_end : (next : ℕ) → next ≡ 0 → Walking next → AnyLinked says links head false
+  walking_end next z w bucket b p l e same t = sym (walk_end bucket b p same (length links) next (w.1 bucket b p l e same t) z)
+
+  module _ (d : Descends links head) (next k : ℕ) (z : next ≡ suc k) (w : Walking next) where
+    inside : k < length links
+    inside = omega (arith, w.0)
+
+    pub walking_found : says k true → AnyLinked says links head true
+    walking_found s bucket b p l e same t =
+        sym (walk_found bucket b p same (length links) next k (w.1 bucket b p l e same t) z (sym (t k true inside s)))
+
+    pub walking_before : (r : ℕ) → r ≡ get_or links k 0 → r < next
+    walking_before r f = omega (arith, d.before k inside)
+
+    pub walking_on : says k false → (r : ℕ) → r ≡ get_or links k 0 → Walking r
+    walking_on s r f = (
+      omega (arith, walking_before r f, w.0),
+      λ bucket b p l e same t. (walk_on bucket b p same (length links) next k (w.1 bucket b p l e same t) z (sym (t k false inside s)) links l r f).1,
+    )
+
+-- ---- what a walk along the links of the first n things answers
+
+module _ (bucket : ℕ → ℕ) (links : List ℕ) (n : ℕ) (l : Links bucket links n) (h : n ≤ length links) where
+  taken : length (take n links) ≡ n
+  taken = length-take-le n links h
+
+  same_links : (j : ℕ) → j < n → get_or (take n links) j 0 ≡ get_or links j 0
+  same_links j k = get_or-take n links j 0 k
+
+  linked : Links bucket (take n links) (length (take n links))
+  linked j k = same_links j (omega (arith, taken)) ∙ l j (omega (arith, taken))
+
+  module _ (b head : ℕ) (e : head ≡ last_below bucket n b) where
+    pub descends : Descends (take n links) head
+    descends = record {
+      head_in = omega (arith, e, taken, last_le bucket b n);
+      before = λ j k. omega (arith, linked j k, last_le bucket (bucket j) j);
+    }
+
+    pub any_walked : (says : ℕ → Bool → Type 0) (found : Bool) → AnyLinked says (take n links) head found → (p : ℕ → Bool) → ((j : ℕ) → p j ≡ true → bucket j ≡ b)
+        → ((k : ℕ) (r : Bool) → k < n → says k r → r ≡ p k) → found ≡ any_to n p
+    any_walked says found a p same t =
+        a bucket b p linked (e ∙ ap (λ (m : ℕ). last_below bucket m b) (sym taken)) same (λ k r i s. t k r (omega (arith, taken)) s)
+        ∙ ap (λ (m : ℕ). any_to m p) taken

@@ -1,8 +1,10 @@
 // Chains of numbered things by bucket, in lent places: for each bucket the last thing so far, and for each thing the one before it
-// in its bucket. A thing is held as one more than its number, and 0 is none. Things that are bytes have their print as bucket.
+// in its bucket. A thing is held as one more than its number, and 0 is none. Things that are bytes have their print as bucket. The
+// places are arrays, since there is no heap for a map.
 #![tactic(auto)]
 
-ghost use Rattle.std.specs.Prelude.{◌≡◌, ◌+◌, ◌<◌, length, get_or, set, replicate};
+ghost use Rattle.std.specs.Prelude.{◌≡◌, ℕ, ◌+◌, ◌<◌, length, get_or, set, replicate};
+ghost use Rattle.chains.specs.Last.{Descends, AnyLinked};
 ghost use Rattle.chains.specs.Prints.{prints_max, print_of};
 
 // Puts thing i into a bucket, before the things that are there.
@@ -12,6 +14,22 @@ pub fn link(heads: &mut [u16], links: &mut [u16], bucket: usize, i: usize)
 {
     links[i] = heads[bucket];
     heads[bucket] = (i + 1) as u16;
+}
+
+// Whether one of the things of a chain passes a test, from the last on; `head` is one more than that one, or 0 where there is none.
+pub fn any_linked<F: Fn(usize) -> bool>(links: &[u16], head: usize, test: F) -> bool
+    requires linked { Descends links.now head }
+    requires callable { (k : ℕ) → k < length links.now → F.pre test k }
+    ensures { AnyLinked (λ k r. F.post test k r) links.now head result }
+{
+    let mut next = head;
+    while let Some(k) = next.checked_sub(1) {
+        if test(k) {
+            return true;
+        }
+        next = usize::from(links[k]);
+    }
+    false
 }
 
 // How many prints there are.

@@ -1,4 +1,5 @@
 -- The calls on checked types: one law for each return. Assumes nothing.
+use Rattle.std.specs.Prelude.{Option}
 use Rattle.std.proofs.Common.{Result, Ok, Err}
 use Rattle.std.specs.Prelude.{None}
 use mathlib.Core.Path.{◌≡◌, refl, sym, ◌∙◌, ap}
@@ -59,81 +60,81 @@ module _ (page : List ℕ) (c : Checked) where
 
 -- ---- verdicts
 
-module _ (page names : List ℕ) (lent f u : Bool) where
-  pub verdict_broken : store_broken page names lent ≡ true → verdict_of page names lent f u ≡ Err Broken
+module _ (page : List ℕ) (names : Option (List ℕ)) (f u : Bool) where
+  pub verdict_broken : store_broken page names ≡ true → verdict_of page names f u ≡ Err Broken
   unfolding verdict_of
   verdict_broken b = rw b (first_holds Broken ((Unused when not u) ∷ []) refl)
 
-  module _ (b : store_broken page names lent ≡ false) where
-    pub verdict_unformed : f ≡ false → verdict_of page names lent f u ≡ Err Broken
+  module _ (b : store_broken page names ≡ false) where
+    pub verdict_unformed : f ≡ false → verdict_of page names f u ≡ Err Broken
     unfolding verdict_of
     verdict_unformed h = rw (b, h) (first_holds Broken ((Unused when not u) ∷ []) refl)
 
     module _ (h : f ≡ true) where
-      pub verdict_unused : u ≡ false → verdict_of page names lent f u ≡ Err Unused
+      pub verdict_unused : u ≡ false → verdict_of page names f u ≡ Err Unused
       unfolding verdict_of
       verdict_unused k = rw (b, h, k) refl
 
-      pub verdict_passed : u ≡ true → verdict_of page names lent f u ≡ Ok tt
+      pub verdict_passed : u ≡ true → verdict_of page names f u ≡ Ok tt
       unfolding verdict_of
       verdict_passed k = rw (b, h, k) refl
 
 -- ---- `matches`
 
-module _ (page names : List ℕ) (lent : Bool) (a e : Checked) where
-  pub matches_broken : store_broken page names lent ≡ true → Err Broken ≡ matches_answer page names lent a e
+module _ (page : List ℕ) (names : Option (List ℕ)) (a e : Checked) where
+  pub matches_broken : store_broken page names ≡ true → Err Broken ≡ matches_answer page names a e
   unfolding matches_answer
-  matches_broken b = rw (verdict_broken page names lent true (in_use page a && in_use page e) b) refl
+  matches_broken b = rw (verdict_broken page names true (in_use page a && in_use page e) b) refl
 
-  module _ (b : store_broken page names lent ≡ false) where
-    pub matches_left : in_use page a ≡ false → Err Unused ≡ matches_answer page names lent a e
+  module _ (b : store_broken page names ≡ false) where
+    pub matches_left : in_use page a ≡ false → Err Unused ≡ matches_answer page names a e
     unfolding matches_answer
-    matches_left h = rw (verdict_unused page names lent true (in_use page a && in_use page e) b refl (rw h refl)) refl
+    matches_left h = rw (verdict_unused page names true (in_use page a && in_use page e) b refl (rw h refl)) refl
 
-    pub matches_right : in_use page e ≡ false → Err Unused ≡ matches_answer page names lent a e
+    pub matches_right : in_use page e ≡ false → Err Unused ≡ matches_answer page names a e
     unfolding matches_answer
-    matches_right h = rw (verdict_unused page names lent true (in_use page a && in_use page e) b refl (rw h (and_false (in_use page a)))) refl
+    matches_right h = rw (verdict_unused page names true (in_use page a && in_use page e) b refl (rw h (and_false (in_use page a)))) refl
 
-    pub matches_says : in_use page a ≡ true → in_use page e ≡ true → (r : Bool) → r ≡ matches page a e → Ok r ≡ matches_answer page names lent a e
+    pub matches_says : in_use page a ≡ true → in_use page e ≡ true → (r : Bool) → r ≡ matches page a e → Ok r ≡ matches_answer page names a e
     unfolding matches_answer
-    matches_says h k r q = rw (verdict_passed page names lent true (in_use page a && in_use page e) b refl (rw (h, k) refl), q) refl
+    matches_says h k r q = rw (verdict_passed page names true (in_use page a && in_use page e) b refl (rw (h, k) refl), q) refl
 
 -- ---- `has_generic`
 
-module _ (page names : List ℕ) (lent : Bool) (t : ℕ) where
-  pub generic_broken : store_broken page names lent ≡ true → Err Broken ≡ generic_answer page names lent t
+module _ (page : List ℕ) (names : Option (List ℕ)) (t : ℕ) where
+  pub generic_broken : store_broken page names ≡ true → Err Broken ≡ generic_answer page names t
   unfolding generic_answer
-  generic_broken b = rw (verdict_broken page names lent true (ltb t (types_in page)) b) refl
+  generic_broken b = rw (verdict_broken page names true (ltb t (types_in page)) b) refl
 
-  module _ (b : store_broken page names lent ≡ false) where
-    pub generic_unused : types_in page ≤ t → Err Unused ≡ generic_answer page names lent t
+  module _ (b : store_broken page names ≡ false) where
+    pub generic_unused : types_in page ≤ t → Err Unused ≡ generic_answer page names t
     unfolding generic_answer
-    generic_unused h = rw (verdict_unused page names lent true (ltb t (types_in page)) b refl (le-ltb t (types_in page) h)) refl
+    generic_unused h = rw (verdict_unused page names true (ltb t (types_in page)) b refl (le-ltb t (types_in page) h)) refl
 
-    pub generic_says : t < types_in page → (r : Bool) → r ≡ has_generic page t → Ok r ≡ generic_answer page names lent t
+    pub generic_says : t < types_in page → (r : Bool) → r ≡ has_generic page t → Ok r ≡ generic_answer page names t
     unfolding generic_answer
-    generic_says h r q = rw (verdict_passed page names lent true (ltb t (types_in page)) b refl (lt-ltb t (types_in page) h), q) refl
+    generic_says h r q = rw (verdict_passed page names true (ltb t (types_in page)) b refl (lt-ltb t (types_in page) h), q) refl
 
 -- ---- `into_const`
 
-module _ (page names : List ℕ) (lent : Bool) (c : Checked) where
+module _ (page : List ℕ) (names : Option (List ℕ)) (c : Checked) where
   -- what the call promises
   abbrev Converts : Result Checked Refusal → List ℕ → Type 0
-  Converts r after = (r ≡ into_const page names lent c) × (after ≡ into_const_page page names lent c)
+  Converts r after = (r ≡ into_const page names c) × (after ≡ into_const_page page names c)
 
-  pub const_broken : store_broken page names lent ≡ true → Converts (Err Broken) page
+  pub const_broken : store_broken page names ≡ true → Converts (Err Broken) page
   unfolding into_const into_const_page
-  const_broken b = let v = verdict_broken page names lent true (in_use page c) b in (rw v refl, rw v refl)
+  const_broken b = let v = verdict_broken page names true (in_use page c) b in (rw v refl, rw v refl)
 
-  module _ (b : store_broken page names lent ≡ false) where
+  module _ (b : store_broken page names ≡ false) where
     pub const_unused : in_use page c ≡ false → Converts (Err Unused) page
     unfolding into_const into_const_page
-    const_unused h = let v = verdict_unused page names lent true (in_use page c) b refl h in (rw v refl, rw v refl)
+    const_unused h = let v = verdict_unused page names true (in_use page c) b refl h in (rw v refl, rw v refl)
 
     module _ (h : in_use page c ≡ true) where
       passed : Converts (const_of page c) (const_after page c)
       unfolding into_const into_const_page
-      passed = let v = verdict_passed page names lent true (in_use page c) b refl h in (rw v refl, rw v refl)
+      passed = let v = verdict_passed page names true (in_use page c) b refl h in (rw v refl, rw v refl)
 
       pub const_unknown : c ≡ Unknown → Converts (Ok Unknown) page
       const_unknown e = (ap (const_of page) (sym e) ∙ passed.0, ap (const_after page) (sym e) ∙ passed.1)
@@ -151,34 +152,34 @@ pub known_used : (page : List ℕ) (c : Checked) (t : ℕ) → c ≡ Known t →
 unfolding in_use
 known_used page c t e h = ltb-true t (types_in page) (ap (in_use page) (sym e) ∙ h)
 
-module _ (page names : List ℕ) (lent : Bool) (b : Bindings) (t : ℕ) where
+module _ (page : List ℕ) (names : Option (List ℕ)) (b : Bindings) (t : ℕ) where
   -- what the call promises
   abbrev Substitutes : Result ℕ Refusal → List ℕ → Type 0
-  Substitutes r after = (r ≡ substitute_answer page names lent b t) × (after ≡ substitute_page page names lent b t)
+  Substitutes r after = (r ≡ substitute_answer page names b t) × (after ≡ substitute_page page names b t)
 
-  refused : (q : Refusal) → bindings_verdict page names lent b (ltb t (types_in page)) ≡ Err q → Substitutes (Err q) page
+  refused : (q : Refusal) → bindings_verdict page names b (ltb t (types_in page)) ≡ Err q → Substitutes (Err q) page
   unfolding substitute_answer substitute_page
   refused q v = (rw v refl, rw v refl)
 
-  pub substitute_broken : store_broken page names lent ≡ true → Substitutes (Err Broken) page
+  pub substitute_broken : store_broken page names ≡ true → Substitutes (Err Broken) page
   unfolding bindings_verdict
-  substitute_broken h = refused Broken (verdict_broken page names lent (formed (used_of names lent) (types_in page) b) (ltb t (types_in page)) h)
+  substitute_broken h = refused Broken (verdict_broken page names (formed (used_of names) (types_in page) b) (ltb t (types_in page)) h)
 
-  module _ (h : store_broken page names lent ≡ false) where
-    pub substitute_unformed : formed (used_of names lent) (types_in page) b ≡ false → Substitutes (Err Broken) page
+  module _ (h : store_broken page names ≡ false) where
+    pub substitute_unformed : formed (used_of names) (types_in page) b ≡ false → Substitutes (Err Broken) page
     unfolding bindings_verdict
-    substitute_unformed k = refused Broken (verdict_unformed page names lent (formed (used_of names lent) (types_in page) b) (ltb t (types_in page)) h k)
+    substitute_unformed k = refused Broken (verdict_unformed page names (formed (used_of names) (types_in page) b) (ltb t (types_in page)) h k)
 
-    module _ (k : formed (used_of names lent) (types_in page) b ≡ true) where
+    module _ (k : formed (used_of names) (types_in page) b ≡ true) where
       pub substitute_unused : types_in page ≤ t → Substitutes (Err Unused) page
       unfolding bindings_verdict
       substitute_unused l =
-          refused Unused (verdict_unused page names lent (formed (used_of names lent) (types_in page) b) (ltb t (types_in page)) h k (le-ltb t (types_in page) l))
+          refused Unused (verdict_unused page names (formed (used_of names) (types_in page) b) (ltb t (types_in page)) h k (le-ltb t (types_in page) l))
 
       module _ (l : t < types_in page) where
-        passes : bindings_verdict page names lent b (ltb t (types_in page)) ≡ Ok tt
+        passes : bindings_verdict page names b (ltb t (types_in page)) ≡ Ok tt
         unfolding bindings_verdict
-        passes = verdict_passed page names lent (formed (used_of names lent) (types_in page) b) (ltb t (types_in page)) h k (lt-ltb t (types_in page) l)
+        passes = verdict_passed page names (formed (used_of names) (types_in page) b) (ltb t (types_in page)) h k (lt-ltb t (types_in page) l)
 
         pub substitute_made : (m : Result ℕ Refusal) (after : List ℕ) (r : ℕ) → m ≡ Ok r → m ≡ (substitute b t page).made → after ≡ (substitute b t page).store → Substitutes m after
         unfolding substitute_answer substitute_page
@@ -217,38 +218,38 @@ module _ (page os ds : List ℕ) (m : Measured page os ds) where
 
 -- ---- `unify` and `unify_arg`
 
-module _ (page names : List ℕ) (lent : Bool) (b : Bindings) (e : ℕ) (c : Checked) where
-  fails : (q : Refusal) → bindings_verdict page names lent b (ltb e (types_in page) && in_use page c) ≡ Err q → unified (Err q) b ≡ unify_arg_answer page names lent b e c
+module _ (page : List ℕ) (names : Option (List ℕ)) (b : Bindings) (e : ℕ) (c : Checked) where
+  fails : (q : Refusal) → bindings_verdict page names b (ltb e (types_in page) && in_use page c) ≡ Err q → unified (Err q) b ≡ unify_arg_answer page names b e c
   unfolding unify_arg_answer
   fails q v = rw v refl
 
-  pub unify_broken : store_broken page names lent ≡ true → unified (Err Broken) b ≡ unify_arg_answer page names lent b e c
+  pub unify_broken : store_broken page names ≡ true → unified (Err Broken) b ≡ unify_arg_answer page names b e c
   unfolding bindings_verdict
-  unify_broken h = fails Broken (verdict_broken page names lent (formed (used_of names lent) (types_in page) b) (ltb e (types_in page) && in_use page c) h)
+  unify_broken h = fails Broken (verdict_broken page names (formed (used_of names) (types_in page) b) (ltb e (types_in page) && in_use page c) h)
 
-  module _ (h : store_broken page names lent ≡ false) where
-    pub unify_unformed : formed (used_of names lent) (types_in page) b ≡ false → unified (Err Broken) b ≡ unify_arg_answer page names lent b e c
+  module _ (h : store_broken page names ≡ false) where
+    pub unify_unformed : formed (used_of names) (types_in page) b ≡ false → unified (Err Broken) b ≡ unify_arg_answer page names b e c
     unfolding bindings_verdict
-    unify_unformed k = fails Broken (verdict_unformed page names lent (formed (used_of names lent) (types_in page) b) (ltb e (types_in page) && in_use page c) h k)
+    unify_unformed k = fails Broken (verdict_unformed page names (formed (used_of names) (types_in page) b) (ltb e (types_in page) && in_use page c) h k)
 
-    module _ (k : formed (used_of names lent) (types_in page) b ≡ true) where
-      unused : (ltb e (types_in page) && in_use page c) ≡ false → unified (Err Unused) b ≡ unify_arg_answer page names lent b e c
+    module _ (k : formed (used_of names) (types_in page) b ≡ true) where
+      unused : (ltb e (types_in page) && in_use page c) ≡ false → unified (Err Unused) b ≡ unify_arg_answer page names b e c
       unfolding bindings_verdict
-      unused l = fails Unused (verdict_unused page names lent (formed (used_of names lent) (types_in page) b) (ltb e (types_in page) && in_use page c) h k l)
+      unused l = fails Unused (verdict_unused page names (formed (used_of names) (types_in page) b) (ltb e (types_in page) && in_use page c) h k l)
 
-      pub unify_unused : types_in page ≤ e → unified (Err Unused) b ≡ unify_arg_answer page names lent b e c
+      pub unify_unused : types_in page ≤ e → unified (Err Unused) b ≡ unify_arg_answer page names b e c
       unify_unused l = unused (rw (le-ltb e (types_in page) l) refl)
 
-      pub unify_unused_actual : in_use page c ≡ false → unified (Err Unused) b ≡ unify_arg_answer page names lent b e c
+      pub unify_unused_actual : in_use page c ≡ false → unified (Err Unused) b ≡ unify_arg_answer page names b e c
       unify_unused_actual u = unused (rw u (and_false (ltb e (types_in page))))
 
-      pub unify_says : e < types_in page → in_use page c ≡ true → (u : Unified) → u ≡ unify_arg page e c b → kept_by u.answer u.bindings b ≡ unify_arg_answer page names lent b e c
+      pub unify_says : e < types_in page → in_use page c ≡ true → (u : Unified) → u ≡ unify_arg page e c b → kept_by u.answer u.bindings b ≡ unify_arg_answer page names b e c
       unfolding unify_arg_answer bindings_verdict
       unify_says l u r q =
           let w : (ltb e (types_in page) && in_use page c) ≡ true = rw (lt-ltb e (types_in page) l, u) refl in
-          rw (verdict_passed page names lent (formed (used_of names lent) (types_in page) b) (ltb e (types_in page) && in_use page c) h k w, q) refl
+          rw (verdict_passed page names (formed (used_of names) (types_in page) b) (ltb e (types_in page) && in_use page c) h k w, q) refl
 
 -- an actual type is a checked one that is Known
-pub unify_known : (page names : List ℕ) (lent : Bool) (b : Bindings) (e a : ℕ) → unify_arg_answer page names lent b e (Known a) ≡ unify_answer page names lent b e a
+pub unify_known : (page : List ℕ) (names : Option (List ℕ)) (b : Bindings) (e a : ℕ) → unify_arg_answer page names b e (Known a) ≡ unify_answer page names b e a
 unfolding unify_arg_answer unify_answer unify_arg in_use
-unify_known page names lent b e a = refl
+unify_known page names b e a = refl

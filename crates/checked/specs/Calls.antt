@@ -1,7 +1,7 @@
--- What the calls on checked types answer, and leave in the page (document 01, "Types" and the table of refusals). Names are lent
--- where `lent` is true. 2 is for the names, the store and the bindings together, 3 for the numbers together.
+-- What the calls on checked types answer, and leave in the page (document 01, "Types" and the table of refusals). 2 is for the names, the store and the bindings together, 3 for
+-- the numbers together.
 use Rattle.refusals.specs.declared.Refusal.{Refusal}
-use Rattle.std.specs.Prelude.{Bool, true, ◌&&◌, ◌||◌, not, List, [], ◌∷◌, ℕ, ltb, Result, Ok, Err}
+use Rattle.std.specs.Prelude.{Bool, true, ◌&&◌, ◌||◌, not, List, [], ◌∷◌, ℕ, ltb, Result, Ok, Err, Option}
 use Rattle.refusals.specs.Lowest.{◌when◌, lowest, unless_refused, answer_of, guarded}
 use Rattle.refusals.specs.declared.Refusal.TheVariants.{Broken, Unused}
 use Rattle.refusals.specs.Numbers.{Verdict}
@@ -21,19 +21,19 @@ use Rattle.unification.specs.declared.Unified.{Unified}
 -- ---- refusals that calls share
 
 -- 2 the names, the store, or something else that has a form; 3 a number
-unfoldable pub verdict_of : List ℕ → List ℕ → Bool → Bool → Bool → Verdict
-verdict_of page names lent formed used = lowest ((Broken when (store_broken page names lent || not formed)) ∷ (Unused when not used) ∷ [])
+unfoldable pub verdict_of : List ℕ → Option (List ℕ) → Bool → Bool → Verdict
+verdict_of page names formed used = lowest ((Broken when (store_broken page names || not formed)) ∷ (Unused when not used) ∷ [])
 
 -- ---- `matches`
 
-unfoldable pub matches_answer : List ℕ → List ℕ → Bool → Checked → Checked → Result Bool Refusal
-matches_answer page names lent actual expected =
-    answer_of (verdict_of page names lent true (in_use page actual && in_use page expected)) (matches page actual expected)
+unfoldable pub matches_answer : List ℕ → Option (List ℕ) → Checked → Checked → Result Bool Refusal
+matches_answer page names actual expected =
+    answer_of (verdict_of page names true (in_use page actual && in_use page expected)) (matches page actual expected)
 
 -- ---- `has_generic`
 
-unfoldable pub generic_answer : List ℕ → List ℕ → Bool → ℕ → Result Bool Refusal
-generic_answer page names lent t = answer_of (verdict_of page names lent true (ltb t (types_in page))) (has_generic page t)
+unfoldable pub generic_answer : List ℕ → Option (List ℕ) → ℕ → Result Bool Refusal
+generic_answer page names t = answer_of (verdict_of page names true (ltb t (types_in page))) (has_generic page t)
 
 -- ---- `into_const`: the const form of a Known type, everything else as it is
 
@@ -52,25 +52,25 @@ const_after page Unknown = page
 const_after page (Known t) = const_page page t
 const_after page (Function t) = page
 
-unfoldable pub into_const : List ℕ → List ℕ → Bool → Checked → Result Checked Refusal
-into_const page names lent c = guarded (verdict_of page names lent true (in_use page c)) (const_of page c)
+unfoldable pub into_const : List ℕ → Option (List ℕ) → Checked → Result Checked Refusal
+into_const page names c = guarded (verdict_of page names true (in_use page c)) (const_of page c)
 
-unfoldable pub into_const_page : List ℕ → List ℕ → Bool → Checked → List ℕ
-into_const_page page names lent c = unless_refused (verdict_of page names lent true (in_use page c)) (const_after page c) page
+unfoldable pub into_const_page : List ℕ → Option (List ℕ) → Checked → List ℕ
+into_const_page page names c = unless_refused (verdict_of page names true (in_use page c)) (const_after page c) page
 
 -- ---- `substitute`
 
 -- 2 also for bindings that break their form
-unfoldable pub bindings_verdict : List ℕ → List ℕ → Bool → Bindings → Bool → Verdict
-bindings_verdict page names lent b used = verdict_of page names lent (bindings.formed (used_of names lent) (types_in page) b) used
+unfoldable pub bindings_verdict : List ℕ → Option (List ℕ) → Bindings → Bool → Verdict
+bindings_verdict page names b used = verdict_of page names (bindings.formed (used_of names) (types_in page) b) used
 
-unfoldable pub substitute_answer : List ℕ → List ℕ → Bool → Bindings → ℕ → Result ℕ Refusal
-substitute_answer page names lent b t = guarded (bindings_verdict page names lent b (ltb t (types_in page))) (substitute b t page).made
+unfoldable pub substitute_answer : List ℕ → Option (List ℕ) → Bindings → ℕ → Result ℕ Refusal
+substitute_answer page names b t = guarded (bindings_verdict page names b (ltb t (types_in page))) (substitute b t page).made
 
 -- a refusal in the walk, too, restores the store
-unfoldable pub substitute_page : List ℕ → List ℕ → Bool → Bindings → ℕ → List ℕ
-substitute_page page names lent b t =
-    unless_refused (bindings_verdict page names lent b (ltb t (types_in page))) (unless_refused (substitute b t page).made (substitute b t page).store page) page
+unfoldable pub substitute_page : List ℕ → Option (List ℕ) → Bindings → ℕ → List ℕ
+substitute_page page names b t =
+    unless_refused (bindings_verdict page names b (ltb t (types_in page))) (unless_refused (substitute b t page).made (substitute b t page).store page) page
 
 -- ---- `unify` and `unify_arg`
 
@@ -88,11 +88,11 @@ unified_or (Ok _) u b = kept_by u.answer u.bindings b
 unified_or (Err r) u b = unified (Err r) b
 
 -- an expected type, and an actual checked type
-unfoldable pub unify_arg_answer : List ℕ → List ℕ → Bool → Bindings → ℕ → Checked → Unified
-unify_arg_answer page names lent b e c =
-    unified_or (bindings_verdict page names lent b (ltb e (types_in page) && in_use page c)) (unify_arg page e c b) b
+unfoldable pub unify_arg_answer : List ℕ → Option (List ℕ) → Bindings → ℕ → Checked → Unified
+unify_arg_answer page names b e c =
+    unified_or (bindings_verdict page names b (ltb e (types_in page) && in_use page c)) (unify_arg page e c b) b
 
 -- an expected type, and an actual one
-unfoldable pub unify_answer : List ℕ → List ℕ → Bool → Bindings → ℕ → ℕ → Unified
-unify_answer page names lent b e a =
-    unified_or (bindings_verdict page names lent b (ltb e (types_in page) && ltb a (types_in page))) (unify page e a b) b
+unfoldable pub unify_answer : List ℕ → Option (List ℕ) → Bindings → ℕ → ℕ → Unified
+unify_answer page names b e a =
+    unified_or (bindings_verdict page names b (ltb e (types_in page) && ltb a (types_in page))) (unify page e a b) b

@@ -1,8 +1,8 @@
 // The calls on checked types (document 01, "Types"; types.rs of the source, whose names they have). Each takes any input, and refuses
-// what it cannot answer. Names are looked at where `lent` is true.
+// what it cannot answer.
 #![tactic(auto)]
 
-ghost use Rattle.std.specs.Prelude.{◌≡◌, true, ◌*◌, ◌≤◌, ◌<◌};
+ghost use Rattle.std.specs.Prelude.{◌≡◌, true, ◌*◌, ◌≤◌, ◌<◌, option_copied};
 ghost use Rattle.types.specs.Types.{types_in};
 ghost use Rattle.marks.specs.Marks.{large_bytes};
 ghost use Rattle.matching.specs.Matching.{in_use, matches};
@@ -13,10 +13,10 @@ ghost use Rattle.checked.specs.Calls.{of_made, matches_answer, generic_answer, i
 use bindings::Bindings;
 use kinds::CALLBACK;
 use marks::{LARGE_BYTES, SMALL, SMALL_BYTES, TINY, TINY_BYTES};
-use matching::{Checked, LARGE_MEMO, SMALL_MEMO, TINY_MEMO};
+use matching::{Checked, LARGE_MEMO, Matcher, SMALL_MEMO, TINY_MEMO};
 use refusals::Refusal;
 use types::{Store, TYPES, Tables};
-use unification::Unified;
+use unification::{Unified, Unifier};
 
 // Whether a checked type's number is in use and, of a Function, that of a Callback. For crates above (their entry calls answer 3).
 pub fn is_used(store: Store, c: Checked) -> bool
@@ -37,7 +37,11 @@ fn matches_over<const N: usize>(store: Store, actual: Checked, expected: Checked
     ensures { result ≡ matches store.entry.page.now actual expected }
 {
     let mut memo = [0; N];
-    matching::matches(store, &mut memo, actual, expected)
+    let mut matcher = Matcher {
+        store,
+        table: &mut memo,
+    };
+    matcher.matches(actual, expected)
 }
 
 // The same over a table that has room for both types.
@@ -57,15 +61,14 @@ fn matches_in(store: Store, actual: Checked, expected: Checked) -> bool
 // Whether a checked type stands for another.
 pub fn matches(
     page: &[u8],
-    names: &[u8],
-    lent: bool,
+    names: Option<&[u8]>,
     actual: Checked,
     expected: Checked,
 ) -> Result<bool, Refusal>
-    ensures { result ≡ matches_answer page.now names.now lent actual expected }
+    ensures { result ≡ matches_answer page.now (option_copied names.entry) actual expected }
 {
     let mut tables = Tables::new();
-    if !types::opened(page, names, lent, &mut tables) {
+    if !types::opened(page, names, &mut tables) {
         return Err(Refusal::Broken);
     }
     let store = tables.store(page);
@@ -79,11 +82,11 @@ pub fn matches(
 }
 
 // Whether a generic name stands in a type.
-pub fn has_generic(page: &[u8], names: &[u8], lent: bool, t: usize) -> Result<bool, Refusal>
-    ensures { result ≡ generic_answer page.now names.now lent t }
+pub fn has_generic(page: &[u8], names: Option<&[u8]>, t: usize) -> Result<bool, Refusal>
+    ensures { result ≡ generic_answer page.now (option_copied names.entry) t }
 {
     let mut tables = Tables::new();
-    if !types::opened(page, names, lent, &mut tables) {
+    if !types::opened(page, names, &mut tables) {
         return Err(Refusal::Broken);
     }
     let store = tables.store(page);
@@ -101,11 +104,11 @@ fn of_made(made: Result<usize, Refusal>) -> Result<Checked, Refusal>
 }
 
 // The const form of a checked type, which is made if it is new.
-pub fn into_const(page: &mut [u8], names: &[u8], lent: bool, c: Checked) -> Result<Checked, Refusal>
-    ensures { (result ≡ into_const page.old names.now lent c) × (page.new ≡ into_const_page page.old names.now lent c) }
+pub fn into_const(page: &mut [u8], names: Option<&[u8]>, c: Checked) -> Result<Checked, Refusal>
+    ensures { (result ≡ into_const page.old (option_copied names.entry) c) × (page.new ≡ into_const_page page.old (option_copied names.entry) c) }
 {
     let mut tables = Tables::new();
-    if !types::opened(page, names, lent, &mut tables) {
+    if !types::opened(page, names, &mut tables) {
         return Err(Refusal::Broken);
     }
     if !is_used(tables.store(page), c) {
@@ -121,20 +124,19 @@ pub fn into_const(page: &mut [u8], names: &[u8], lent: bool, c: Checked) -> Resu
 // A type with its generic names replaced by what they are bound to. New types are made left to right, children before parent.
 pub fn substitute(
     page: &mut [u8],
-    names: &[u8],
-    lent: bool,
+    names: Option<&[u8]>,
     bound: Bindings,
     t: usize,
 ) -> Result<usize, Refusal>
-    ensures { (result ≡ substitute_answer page.old names.now lent bound t) × (page.new ≡ substitute_page page.old names.now lent bound t) }
+    ensures { (result ≡ substitute_answer page.old (option_copied names.entry) bound t) × (page.new ≡ substitute_page page.old (option_copied names.entry) bound t) }
 {
     let mut tables = Tables::new();
-    if !types::opened(page, names, lent, &mut tables) {
+    if !types::opened(page, names, &mut tables) {
         return Err(Refusal::Broken);
     }
     let store = tables.store(page);
     let n = store.count();
-    if !bindings::is_formed(bound, names::in_use(names, lent), n) {
+    if !bindings::is_formed(bound, names::in_use(names), n) {
         return Err(Refusal::Broken);
     }
     if n <= t {
@@ -195,7 +197,19 @@ fn unify_over<const M: usize, const N: usize>(
 {
     let mut memo = [0; M];
     let mut seen = [0; N];
-    unification::unify_arg(store, &mut memo, &mut seen, bound, e, actual)
+    let mut unifier = Unifier {
+        matcher: Matcher {
+            store,
+            table: &mut memo,
+        },
+        seen: &mut seen,
+        bindings: bound,
+    };
+    let answer = unifier.unify_arg(e, actual);
+    Unified {
+        answer,
+        bindings: unifier.bindings,
+    }
 }
 
 // The same over tables that have room for all the types.
@@ -216,21 +230,20 @@ fn unify_in(store: Store, bound: Bindings, e: usize, actual: Checked) -> Unified
 // Whether an argument fits a parameter, and what generic names it binds.
 pub fn unify_arg(
     page: &[u8],
-    names: &[u8],
-    lent: bool,
+    names: Option<&[u8]>,
     bound: Bindings,
     e: usize,
     actual: Checked,
 ) -> Unified
-    ensures { result ≡ unify_arg_answer page.now names.now lent bound e actual }
+    ensures { result ≡ unify_arg_answer page.now (option_copied names.entry) bound e actual }
 {
     let mut tables = Tables::new();
-    if !types::opened(page, names, lent, &mut tables) {
+    if !types::opened(page, names, &mut tables) {
         return refuse(Refusal::Broken, bound);
     }
     let store = tables.store(page);
     let n = store.count();
-    if !bindings::is_formed(bound, names::in_use(names, lent), n) {
+    if !bindings::is_formed(bound, names::in_use(names), n) {
         return refuse(Refusal::Broken, bound);
     }
     if n <= e {
@@ -244,8 +257,8 @@ pub fn unify_arg(
 }
 
 // Whether an actual type fits an expected one, and what generic names it binds.
-pub fn unify(page: &[u8], names: &[u8], lent: bool, bound: Bindings, e: usize, a: usize) -> Unified
-    ensures { result ≡ unify_answer page.now names.now lent bound e a }
+pub fn unify(page: &[u8], names: Option<&[u8]>, bound: Bindings, e: usize, a: usize) -> Unified
+    ensures { result ≡ unify_answer page.now (option_copied names.entry) bound e a }
 {
-    unify_arg(page, names, lent, bound, e, Checked::Known(a))
+    unify_arg(page, names, bound, e, Checked::Known(a))
 }

@@ -26,7 +26,8 @@ pub fn decimal(out: &mut [u8], at: usize, n: usize) -> usize
     requires { (n < decimal_max) × (at + length (decimal_of n) ≤ length out.old) }
     ensures { (result ≡ at + length (decimal_of n)) × (out.new ≡ put out.old at (decimal_of n)) }
 {
-    // An arm for each length: one digit after another takes three times as long.
+    // An arm for each length: one digit after another takes three times as long, the kit's `itoa`, which fills a buffer of its own, 1.4 to
+    // 2.4 times as long, and `write!` 2.6 to 12 times.
     match n {
         0..=9 => push(out, at, &[digit(n)]),
         10..=99 => push(out, at, &[digit(n / 10), digit(n % 10)]),

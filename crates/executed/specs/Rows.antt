@@ -1,8 +1,7 @@
--- What a row of the program looks at: no name bound, a plain yes or no, the answers of operators and indexing, and refusals.
+-- What a row of the program looks at: no name bound, the answers of operators and indexing, and refusals.
 use Rattle.units.specs.declared.Unit.{Unit}
 use Rattle.refusals.specs.declared.Refusal.{Refusal}
-use Rattle.std.specs.Prelude.{◌≡◌, Bool, true, false, not, List, [], ◌∷◌, ℕ, replicate, Result, Ok, Err, Option}
-use Rattle.refusals.specs.Numbers.{code_of}
+use Rattle.std.specs.Prelude.{◌≡◌, List, [], ◌∷◌, ℕ, replicate, Result, Ok, Err, Option, Some, None}
 use Rattle.matching.specs.declared.Checked.{Checked}
 use Rattle.matching.specs.declared.Checked.TheVariants.{Known}
 use Rattle.bindings.specs.Bindings.{bindings_max}
@@ -18,12 +17,6 @@ use Rattle.answers.specs.declared.Answered.{Answered}
 -- no name bound
 abbrev pub unbound : Bindings
 unbound = record { count = 0; names = replicate bindings_max 0; types = replicate bindings_max 0 }
-
--- is the answer a plain yes or, with false, a plain no
-abbrev pub is_plain : Result Bool Refusal → Bool → Bool
-is_plain (Ok true) b = b
-is_plain (Ok false) b = not b
-is_plain (Err r) b = false
 
 -- ---- answers
 
@@ -45,25 +38,25 @@ factor = 4627842682090579558
 
 -- a table of the pair (in, mm)
 abbrev pub inch_table : List ℕ
-inch_table = page_after (empty_page (replicate (size_of 1) 0)) symbols true 3 factor 2
+inch_table = page_after (empty_page (replicate (size_of 1) 0)) (Some symbols) 3 factor 2
 
 -- what a binary operator answers over these
 abbrev pub BinaryRow : ℕ → CheckedExpr → CheckedExpr → Result Answered Refusal → Type 0
-BinaryRow op x y a = binary_answer unions symbols true inch_table op x y ≡ a
+BinaryRow op x y a = binary_answer unions (Some symbols) inch_table op x y ≡ a
 
 -- what an operator answers for one operand, entering nothing
 abbrev pub UnaryRow : ℕ → CheckedExpr → Result Answered Refusal → Type 0
-UnaryRow op x a = (unary_answer unions symbols true op x ≡ a) × (unary_page unions symbols true op x ≡ unions)
+UnaryRow op x a = (unary_answer unions (Some symbols) op x ≡ a) × (unary_page unions (Some symbols) op x ≡ unions)
 
 -- what indexing by an Int answers, entering nothing
 abbrev pub IndexRow : CheckedExpr → Result Answered Refusal → Type 0
-IndexRow x a = (index_answer unions symbols true x (Known 1) ≡ a) × (index_page unions symbols true x (Known 1) ≡ unions)
+IndexRow x a = (index_answer unions (Some symbols) x (Known 1) ≡ a) × (index_page unions (Some symbols) x (Known 1) ≡ unions)
 
 -- ---- refusals
 
 -- the refusal of asking whether two units convert, without names lent
-abbrev pub ConvertRow : Option Unit → Option Unit → ℕ → Type 0
-ConvertRow x y r = code_of (convert_answer inch_table symbols false x y) ≡ r
+abbrev pub ConvertRow : Option Unit → Option Unit → Refusal → Type 0
+ConvertRow x y r = convert_answer inch_table None x y ≡ Err r
 
 -- how many names are said to be in use: more than there can be
 abbrev pub in_use_said : ℕ

@@ -3,7 +3,7 @@
 // indexing ("Answers"), and refusals 3 and 5 of symbols that no byte holds.
 #![tactic(auto)]
 
-ghost use Rattle.std.specs.Prelude.{◌≡◌, true, false, [], ◌∷◌, ◌<◌};
+ghost use Rattle.std.specs.Prelude.{◌≡◌, true, false, [], ◌∷◌, ◌<◌, Err};
 ghost use Rattle.names.specs.Table.{names_max};
 ghost use Rattle.units.specs.Unit.{places_max, term};
 ghost use Rattle.units.specs.Unit as units;
@@ -13,16 +13,17 @@ ghost use Rattle.pairs.specs.Table.{both_used};
 ghost use Rattle.types.specs.Store.{formed};
 ghost use Rattle.types.specs.Types.{types_in};
 ghost use Rattle.unification.specs.Unification.{said, unify};
-ghost use Rattle.executed.specs.Rows.{unbound, is_plain, inch_table, in_use_said, passed, BinaryRow, UnaryRow, IndexRow, ConvertRow};
+ghost use Rattle.executed.specs.Rows.{unbound, inch_table, in_use_said, passed, BinaryRow, UnaryRow, IndexRow, ConvertRow};
 
 use answers::{Answered, CheckedExpr};
 use bindings::{BINDINGS, Bindings};
 use marks::TINY_BYTES;
-use matching::{Checked, TINY_MEMO};
+use matching::{Checked, Matcher, TINY_MEMO};
 use names::Symbol;
 use operators::{Errors, MINUS, Reason};
 use refusals::Refusal;
 use types::Tables;
+use unification::Unifier;
 use units::{PLACES, Unit};
 
 const NULL: usize = 0;
@@ -239,14 +240,11 @@ fn no_bindings() -> Bindings
     }
 }
 
-// Whether an answer is a plain yes or, with `yes` false, a plain no.
-fn is_plain(answer: Result<bool, Refusal>, yes: bool) -> bool
-    ensures { result ≡ is_plain answer yes }
+// Expects that an answer is this refusal.
+fn expect_refused<T: Copy>(answer: Result<T, Refusal>, refusal: Refusal)
+    requires { answer ≡ Err refusal }
 {
-    match answer {
-        Ok(holds) => holds == yes,
-        Err(_) => false,
-    }
+    check::expect(answer.err() == Some(refusal));
 }
 
 // Expects of two types of a store that the first, expected, takes the second or, with `yes` false, refuses it, and that no name is bound.
@@ -260,11 +258,17 @@ fn expect_unified(page: &[u8], e: usize, a: usize, yes: bool)
     let store = tables.store(page);
     let mut memo = [0; TINY_MEMO];
     let mut seen = [0; TINY_BYTES];
-    let out = unification::unify(store, &mut memo, &mut seen, no_bindings(), e, a);
-    let answer = out.answer;
-    let bindings = out.bindings;
-    check::expect(is_plain(answer, yes));
-    check::expect(bindings.count == 0);
+    let mut unifier = Unifier {
+        matcher: Matcher {
+            store,
+            table: &mut memo,
+        },
+        seen: &mut seen,
+        bindings: no_bindings(),
+    };
+    let answer = unifier.unify(e, a);
+    check::expect(answer == Ok(yes));
+    check::expect(unifier.bindings.count == 0);
 }
 
 // The cases of types.
@@ -286,9 +290,9 @@ fn expect_units() {
     let large = power(METRE, 1000);
     let metre = power(METRE, 1);
     let quotient = units::product(large, metre, true);
-    check::expect(refusals::code(quotient) == 0);
+    check::expect(quotient.is_ok());
     let product = units::product(large, metre, false);
-    check::expect(refusals::code(product) == 8);
+    expect_refused(product, Refusal::Exponent);
 }
 
 // An answer without a refusal.
@@ -308,7 +312,7 @@ fn inch_table() -> [u8; TABLE_BYTES]
 {
     let mut table = [0u8; TABLE_BYTES];
     check::expect(pairs::empty_pairs(&mut table).is_ok());
-    check::expect(pairs::insert_pair(&mut table, &SYMBOLS, true, INCH, FACTOR, MILLIMETRE).is_ok());
+    check::expect(pairs::insert_pair(&mut table, Some(&SYMBOLS), INCH, FACTOR, MILLIMETRE).is_ok());
     table
 }
 
@@ -329,7 +333,7 @@ fn expect_binary(
     requires { BinaryRow op left right expected }
 {
     let table = inch_table();
-    let a = answers::check_binary_operator(&UNIONS, &SYMBOLS, true, &table, op, left, right);
+    let a = answers::check_binary_operator(&UNIONS, Some(&SYMBOLS), &table, op, left, right);
     expect_answer(a, expected);
 }
 
@@ -338,7 +342,7 @@ fn expect_unary(op: usize, x: CheckedExpr, expected: Result<Answered, Refusal>)
     requires { UnaryRow op x expected }
 {
     let mut page = UNIONS;
-    let a = answers::check_unary_operator(&mut page, &SYMBOLS, true, op, x);
+    let a = answers::check_unary_operator(&mut page, Some(&SYMBOLS), op, x);
     expect_answer(a, expected);
     check::expect(check::same(&page, &UNIONS));
 }
@@ -348,7 +352,7 @@ fn expect_index(target: CheckedExpr, expected: Result<Answered, Refusal>)
     requires { IndexRow target expected }
 {
     let mut page = UNIONS;
-    let a = answers::check_index(&mut page, &SYMBOLS, true, target, Checked::Known(INT));
+    let a = answers::check_index(&mut page, Some(&SYMBOLS), target, Checked::Known(INT));
     expect_answer(a, expected);
     check::expect(check::same(&page, &UNIONS));
 }
@@ -392,12 +396,12 @@ fn expect_indexing() {
 }
 
 // Expects that asking whether two units convert is refused, over the table of the pair (in, mm), without names lent.
-fn expect_unconverted(left: Option<Unit>, right: Option<Unit>, refusal: u8)
+fn expect_unconverted(left: Option<Unit>, right: Option<Unit>, refusal: Refusal)
     requires { ConvertRow left right refusal }
 {
     let table = inch_table();
-    let answer = sums::is_convertible_to(&table, &SYMBOLS, false, left, right);
-    check::expect(refusals::code(answer) == refusal);
+    let answer = sums::is_convertible_to(&table, None, left, right);
+    expect_refused(answer, refusal);
 }
 
 // Expects that a unit is refused for its form (5): by itself, on the left of a product, and on the right of a quotient.
@@ -406,11 +410,11 @@ fn expect_unformed(u: Unit)
 {
     let metre = power(METRE, 1);
     let form = units::unit_form(u);
-    check::expect(refusals::code(form) == 5);
+    expect_refused(form, Refusal::BadUnit);
     let product = units::product(u, metre, false);
-    check::expect(refusals::code(product) == 5);
+    expect_refused(product, Refusal::BadUnit);
     let quotient = units::product(metre, u, true);
-    check::expect(refusals::code(quotient) == 5);
+    expect_refused(quotient, Refusal::BadUnit);
 }
 
 // Expects that a pair is refused by value for a symbol not in use (3), where more names are said to be in use than there can be.
@@ -418,16 +422,16 @@ fn expect_unused(symbol: Symbol, base: Symbol)
     requires { both_used in_use_said (pair symbol base) ≡ false }
 {
     let out = pairs::inserted(pairs::fresh_table(), IN_USE, symbol, FACTOR, base);
-    check::expect(refusals::code(out) == 3);
+    expect_refused(out, Refusal::Unused);
 }
 
 // The cases of symbols that no byte holds: a number not in use (3) wherever symbols are looked up, by value those in the eight
 // places; where none is looked up, a unit that breaks its form (5).
 fn expect_wide() {
-    expect_unconverted(WIDE_256, NO_UNIT, 3);
-    expect_unconverted(MM, WIDE_300, 3);
-    expect_unconverted(NINE_WIDE, NO_UNIT, 3);
-    expect_unconverted(NINE, NO_UNIT, 5);
+    expect_unconverted(WIDE_256, NO_UNIT, Refusal::Unused);
+    expect_unconverted(MM, WIDE_300, Refusal::Unused);
+    expect_unconverted(NINE_WIDE, NO_UNIT, Refusal::Unused);
+    expect_unconverted(NINE, NO_UNIT, Refusal::BadUnit);
     expect_unformed(power(256, 1));
     expect_unformed(power(300, 1));
     expect_unused(280, 1);

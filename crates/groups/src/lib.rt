@@ -8,7 +8,7 @@ ghost use Rattle.groups.specs.Groups.{pair, link_of, walk, enter, selves};
 
 use names::{NAMES, Symbol, symbol_index};
 
-// A parent for each symbol; a root is its own.
+// A parent for each symbol; a root is its own. An array, as there is one for every symbol and nothing is on a heap.
 pub type Parents = [Symbol; NAMES];
 
 // Of two roots, the one that stays a root, and the one that gets it as its parent.

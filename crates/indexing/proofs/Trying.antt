@@ -1,14 +1,15 @@
 -- The trials of a type's members: one more trial, what they come to, and that the results are in use. Assumes nothing.
-use Rattle.std.proofs.Common.{Result, Ok}
+use Rattle.std.proofs.Common.{Result, Ok, Option, None, Some}
+use Rattle.std.specs.Option.{unwrap_or, option_or}
 use Rattle.refusals.specs.declared.Refusal.{Refusal}
-use mathlib.Core.Path.{◌≡◌, refl, sym, ap, ◌∙◌}
+use mathlib.Core.Path.{◌≡◌, refl, ap, ◌∙◌}
 use mathlib.Core.Bool.{Bool, true, false, cond}
 use mathlib.Core.List.{List}
 use Prim.Native.Nat.{ℕ, zero, suc, ◌+◌, ◌<◌, ◌≤◌}
 use native.Mathlib.Numerals.{add-one}
 use native.Mathlib.Omega.{arith}
 use lib.ListN.{length, get_or, take}
-use lib.Seq.{length-take-le, get_or-take}
+use lib.Seq.{length-take-le}
 use borrow.Author.Tests.{eq-eqb, ne_eqb, lt-ltb, le-ltb}
 use Rattle.types.specs.Store.{Formed}
 use Rattle.types.specs.Types.{types_in}
@@ -16,6 +17,8 @@ use Rattle.types.specs.Making.{Grows}
 use Rattle.types.specs.Calls.{all_below}
 use Rattle.marks.specs.Marks.{Noted}
 use Rattle.matching.specs.Memo.{Found}
+use Rattle.matching.specs.declared.Matcher.{Matcher}
+use Rattle.matching.proofs.Memo.{noted_by}
 use Rattle.matching.proofs.Grown.{noted_grown}
 use Rattle.matching.specs.declared.Checked.{Checked}
 use Rattle.matching.specs.declared.Checked.TheVariants.{Unknown}
@@ -23,11 +26,11 @@ use Rattle.operators.specs.Outcome.{one_error, some_fail, outcome, number_of, pa
 use Rattle.operators.specs.declared.Reason.TheVariants.{NoMember}
 use Rattle.operators.specs.declared.Outcome.{Outcome}
 use Rattle.members.specs.Members.{members_max, size_of, member, merged, Entered, entered, union_of, concluded, conclude}
-use Rattle.members.specs.Trials.{fold_to, failed_at, errors_of, Tried, tried, joined, settled}
+use Rattle.members.specs.Trials.{fold_to, failures, failed_at, errors_of, Tried, tried, joined, settled}
 use Rattle.members.proofs.Members.{member_used}
 use Rattle.members.proofs.Flattening.{Flattened}
 use Rattle.members.proofs.Unions.{merged_below, union_sound}
-use Rattle.indexing.specs.Indexing.{index_target, members_tried, tried_of, index_any}
+use Rattle.indexing.specs.Indexing.{index_target, members_tried, FirstOf, tried_of, index_any}
 use Rattle.indexing.specs.declared.Trials.{Trials}
 use Rattle.indexing.proofs.Targets.{target_used}
 
@@ -39,17 +42,22 @@ module _ (results : List ℕ) (trials : Trials) (o : Outcome) (x : ℕ) where
   unfolding joined
   joins h r after e = rw (h, e) refl
 
-  module _ (h : passes o ≡ false) where
-    pub fails_first : trials.failing ≡ 0
-        → tried_of results (record { merged = trials.merged; failing = 1; first = x }) ≡ joined x 0 o (tried_of results trials)
-    unfolding joined failed_at
-    fails_first z = rw (h, eq-eqb trials.failing 0 z) refl
+  pub fails : passes o ≡ false → FirstOf trials.failing trials.first
+      → tried_of results (record { merged = trials.merged; failing = trials.failing + 1; first = option_or trials.first (Some x) })
+      ≡ joined x 0 o (tried_of results trials)
+  unfolding joined failed_at
+  fails h = go trials.first
+    where
+      go : (first : Option ℕ) → FirstOf trials.failing first
+          → tried (take trials.merged results) (failures (trials.failing + 1) (unwrap_or (option_or first (Some x)) 0) 0)
+          ≡ joined x 0 o (tried (take trials.merged results) (failures trials.failing (unwrap_or first 0) 0))
+      go None z = rw (h, z) refl
+      go (Some y) n = rw (h, ne_eqb trials.failing 0 (λ z. omega (arith, n, z))) refl
 
-    pub fails_again : (trials.failing ≡ 0 → ⊥)
-        → tried_of results (record { merged = trials.merged; failing = trials.failing + 1; first = trials.first })
-        ≡ joined x 0 o (tried_of results trials)
-    unfolding joined failed_at
-    fails_again n = rw (h, ne_eqb trials.failing 0 n) refl
+-- a member that fails is the first, or not
+pub first_or : (failing x : ℕ) (first : Option ℕ) → FirstOf failing first → FirstOf (failing + 1) (option_or first (Some x))
+first_or failing x None h = omega arith
+first_or failing x (Some y) h = omega arith
 
 -- what holds of the results so far, and of those with one more, holds after one more trial
 joined_holds : (P : List ℕ → Type 0) (x : ℕ) (o : Outcome) (q : Tried) → P q.results → P (merged (number_of o.checked) q.results)
@@ -63,7 +71,7 @@ joined_holds P x o q a b = go (passes o)
     go false = a
 
 module _ (page : List ℕ) (key : Checked) (t : ℕ) where
-  pub none_tried : (results : List ℕ) → tried_of results (record { merged = 0; failing = 0; first = 0 }) ≡ members_tried page key t 0
+  pub none_tried : (results : List ℕ) → tried_of results (record { merged = 0; failing = 0; first = None }) ≡ members_tried page key t 0
   unfolding members_tried fold_to
   none_tried results = refl
 
@@ -89,18 +97,18 @@ module _ (page : List ℕ) (key : Checked) (t : ℕ) where
       (target_used page f m (member_used page f t u n (omega arith)) key))
 
 -- ---- the turns: what is known before the trial of member i
-pub record Going (page : List ℕ) (key : Checked) (t : ℕ) (memo results : List ℕ) (trials : Trials) (i : ℕ) : Type 0 where
-  pub noted : Noted (Found page) memo
+pub record Going (page : List ℕ) (key : Checked) (t : ℕ) (results : List ℕ) (trials : Trials) (i : ℕ) : Type 0 where
   pub so_far : tried_of results trials ≡ members_tried page key t i
   pub size : length results ≡ members_max
   pub few : trials.merged ≤ i
   pub few_fail : trials.failing ≤ i
+  pub first : FirstOf trials.failing trials.first
 
 -- member i, as `flatten` wrote it down
 module _ (page : List ℕ) (f : Formed page) (t : ℕ) (u : t < types_in page) (types : List ℕ) (n : ℕ) (flat : Flattened page t n types)
-    (i x : ℕ) (h : i < n) (k : x ≡ get_or types i 0) where
+    (i x : ℕ) (h : i < n) (k : x ≡ get_or (take n types) i 0) where
   pub read_member : x ≡ member page t i
-  read_member = k ∙ sym (get_or-take n types i 0 h) ∙ ap (λ (l : List ℕ). get_or l i 0) flat.2
+  read_member = k ∙ ap (λ (l : List ℕ). get_or l i 0) flat.2
 
   pub read_used : x < types_in page
   read_used = rw read_member (member_used page f t u i (omega (arith, flat.0)))
@@ -109,10 +117,18 @@ module _ (page : List ℕ) (f : Formed page) (t : ℕ) (u : t < types_in page) (
 
 module _ (page : List ℕ) (key : Checked) (t : ℕ) (results : List ℕ) (trials : Trials)
     (e : tried_of results trials ≡ members_tried page key t (size_of page t)) where
-  pub some_failed : (trials.failing ≡ 0 → ⊥)
-      → concluded (Ok (outcome Unknown (some_fail trials.failing trials.first 0))) page ≡ index_any page key t
+  pub some_failed : (x : ℕ) → trials.first ≡ Some x → FirstOf trials.failing trials.first
+      → concluded (Ok (outcome Unknown (some_fail trials.failing x 0))) page ≡ index_any page key t
   unfolding index_any settled errors_of
-  some_failed n = rw (← e, ne_eqb trials.failing 0 n) refl
+  some_failed x is h =
+      let n : 0 < trials.failing = rw is at h in rw (← e, ne_eqb trials.failing 0 (λ z. omega (arith, n, z)), is) refl
+
+  pub none_failed : ((x : ℕ) → trials.first ≡ Some x → ⊥) → FirstOf trials.failing trials.first → trials.failing ≡ 0
+  none_failed z h = go trials.first z h
+    where
+      go : (first : Option ℕ) → ((x : ℕ) → first ≡ Some x → ⊥) → FirstOf trials.failing first → trials.failing ≡ 0
+      go None z h = h
+      go (Some x) z h = absurd (z x refl)
 
   module _ (z : trials.failing ≡ 0) (l : trials.merged ≤ length results) where
     pub no_results : trials.merged ≡ 0 → concluded (Ok (outcome Unknown (one_error NoMember))) page ≡ index_any page key t
@@ -131,6 +147,10 @@ module _ (page : List ℕ) (key : Checked) (t : ℕ) (results : List ℕ) (trial
 
   pub results_used : Formed page → t < types_in page → all_below (types_in page) (take trials.merged results) ≡ true
   results_used f u = rw (← e) at (tried_used page key t f u (size_of page t) (omega arith))
+
+-- what a matcher's table ends as says what is right of its store
+pub noted_end : (m : Matcher) (page : List ℕ) → m.store.page.now ≡ page → (memo : List ℕ) → memo ≡ m.table.now → Noted (Found page) memo
+noted_end m page e memo k = let noted = rw e at (noted_by m.store.page.now m.table.now m.noted) in rw k noted
 
 -- what is in mind stays so where their union enters the store
 pub union_noted : (page : List ℕ) → Formed page → (rs : List ℕ) → all_below (types_in page) rs ≡ true → (m : Result ℕ Refusal) (after : List ℕ)

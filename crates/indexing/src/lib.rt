@@ -8,17 +8,18 @@ ghost use Rattle.types.specs.Types.{types_in, Held, Measured};
 ghost use Rattle.matching.specs.Matching.{in_use};
 ghost use Rattle.marks.specs.Marks.{Noted};
 ghost use Rattle.matching.specs.Memo.{Found};
+ghost use Rattle.matching.specs.Same.{Same};
 ghost use Rattle.operators.specs.Outcome.{number_of};
 ghost use Rattle.members.specs.Members.{members_max, size_of, concluded};
 ghost use Rattle.members.specs.Trials.{joined};
-ghost use Rattle.indexing.specs.Indexing.{index_target, members_tried, tried_of, index_any, check_index};
+ghost use Rattle.indexing.specs.Indexing.{index_target, members_tried, FirstOf, tried_of, index_any, check_index};
 
 use kinds::Kind;
-use matching::Checked;
-use members::{MEMBERS, conclusion_of, enter_union, flatten, member_at, merge};
+use matching::{Checked, Matcher};
+use members::{MEMBERS, conclusion_of, enter_union, flatten, merge};
 use operators::{Errors, Outcome, Reason};
 use refusals::Refusal;
-use types::{NULL, Store, Tables};
+use types::{NULL, Tables};
 
 // Whether a kind's values have one sort of element: arrays and sets.
 fn has_elements(k: Kind) -> bool
@@ -35,12 +36,12 @@ fn is_unknown(k: Kind) -> bool
 }
 
 // What indexing a Known type comes to, where unions are not indexed: a union's member that is itself one fails.
-pub fn check_index_target(store: Store, memo: &mut [u8], key: Checked, t: usize) -> Outcome
-    requires t_bound { (t < types_in store.page.now) × (in_use store.page.now key ≡ true) }
-    requires noted { Noted (Found store.page.now) memo.old }
-    ensures value { (result ≡ index_target store.entry.page.now key t) × (number_of result.checked < types_in store.entry.page.now) }
-    ensures noted_2 { Noted (Found store.entry.page.now) memo.new }
+pub fn check_index_target(matcher: &mut Matcher, key: Checked, t: usize) -> Outcome
+    requires { (t < types_in matcher.old.store.page.now) × (in_use matcher.old.store.page.now key ≡ true) }
+    ensures value { (result ≡ index_target matcher.old.store.page.now key t) × (number_of result.checked < types_in matcher.old.store.page.now) }
+    ensures same { Same matcher.new matcher.old }
 {
+    let store = matcher.store;
     let kind = store.kind_of(t);
     if has_elements(kind) {
         return operators::known(store.child_of(t, 0));
@@ -48,7 +49,7 @@ pub fn check_index_target(store: Store, memo: &mut [u8], key: Checked, t: usize)
     if kinds::is_map(kind) {
         let wanted = store.child_of(t, 0);
         let value = store.child_of(t, 1);
-        if matching::matches(store, memo, key, Checked::Known(wanted)) {
+        if matcher.matches(key, Checked::Known(wanted)) {
             return operators::known(value);
         }
         return Outcome {
@@ -67,55 +68,51 @@ pub fn check_index_target(store: Store, memo: &mut [u8], key: Checked, t: usize)
 struct Trials {
     merged: usize,
     failing: usize,
-    first: usize,
+    first: Option<usize>,
 }
 
 // One more trial, of member x. The results are merged.
+#[tactic(auto, using(crate::proofs::Trying::joins, crate::proofs::Trying::fails, crate::proofs::Trying::first_or, pages::proofs::Options::none_cond, std::proofs::lemmas::Option::cond_some))]
 fn join(results: &mut [u16], trials: Trials, o: Outcome, x: usize) -> Trials
     requires results_len { (length results.old ≡ members_max) × (trials.merged < members_max) }
     requires failing_lt_members_max { (trials.failing < members_max) × (number_of o.checked < types_max) }
+    requires first { FirstOf trials.failing trials.first }
     ensures result_after { tried_of results.new result ≡ joined x 0 o (tried_of results.old trials) }
     ensures results_len_2 { (length results.new ≡ members_max) × (result.merged ≤ trials.merged + 1) × (result.failing ≤ trials.failing + 1) }
+    ensures first_2 { FirstOf result.failing result.first }
 {
-    if operators::does_pass(o) {
-        let checked = o.checked;
+    let Some(t) = o.passed() else {
         return Trials {
-            merged: merge(results, trials.merged, operators::number_of(checked)),
-            failing: trials.failing,
-            first: trials.first,
+            failing: trials.failing + 1,
+            first: trials.first.or(Some(x)),
+            ..trials
         };
-    }
-    if trials.failing == 0 {
-        return Trials {
-            merged: trials.merged,
-            failing: 1,
-            first: x,
-        };
-    }
+    };
     Trials {
-        merged: trials.merged,
-        failing: trials.failing + 1,
-        first: trials.first,
+        merged: merge(results, trials.merged, t),
+        ..trials
     }
 }
 
 // Tries every member of a type.
-fn try_members(store: Store, memo: &mut [u8], key: Checked, t: usize, results: &mut [u16]) -> Trials
-    requires t_bound { (t < types_in store.page.now) × (in_use store.page.now key ≡ true) × (length results.old ≡ members_max) }
-    requires noted { Noted (Found store.page.now) memo.old }
-    ensures result_after { tried_of results.new result ≡ members_tried store.entry.page.now key t (size_of store.entry.page.now t) }
-    ensures results_len { (length results.new ≡ members_max) × (result.merged ≤ members_max) × Noted (Found store.entry.page.now) memo.new }
+fn try_members(matcher: &mut Matcher, key: Checked, t: usize, results: &mut [u16]) -> Trials
+    requires t_bound { (t < types_in matcher.old.store.page.now) × (in_use matcher.old.store.page.now key ≡ true) × (length results.old ≡ members_max) }
+    ensures result_after { tried_of results.new result ≡ members_tried matcher.old.store.page.now key t (size_of matcher.old.store.page.now t) }
+    ensures results_len { (length results.new ≡ members_max) × (result.merged ≤ members_max) }
+    ensures first { FirstOf result.failing result.first }
+    ensures same { Same matcher.new matcher.old }
 {
+    // An array with its count beside it: there is no heap.
     let mut types = [0; MEMBERS];
-    let n = flatten(store, t, &mut types);
+    let n = flatten(matcher.store, t, &mut types);
     let mut trials = Trials {
         merged: 0,
         failing: 0,
-        first: 0,
+        first: None,
     };
-    for i in 0..n {
-        let x = member_at(&types, i);
-        let o = check_index_target(store, memo, key, x);
+    for x in &types[..n] {
+        let x = usize::from(*x);
+        let o = check_index_target(matcher, key, x);
         trials = join(results, trials, o, x);
     }
     trials
@@ -136,10 +133,15 @@ pub fn check_index_any(
     ensures measured_2 { Measured page.new tables.new.offsets tables.new.depths }
     ensures noted_2 { Noted (Found page.new) memo.new }
 {
+    // An array, whose count the trials hold: there is no heap.
     let mut results = [0; MEMBERS];
-    let trials = try_members(tables.store(page), memo, key, t, &mut results);
-    if trials.failing != 0 {
-        return Ok(operators::unknown(operators::some_fail(trials.failing, trials.first, 0)));
+    let mut matcher = Matcher {
+        store: tables.store(page),
+        table: memo,
+    };
+    let trials = try_members(&mut matcher, key, t, &mut results);
+    if let Some(first) = trials.first {
+        return Ok(operators::unknown(operators::some_fail(trials.failing, first, 0)));
     }
     if trials.merged == 0 {
         return Ok(operators::unknown(Errors::One(Reason::NoMember)));
@@ -170,7 +172,11 @@ pub fn check_index(
             if kinds::is_union(tables.store(page).kind_of(t)) {
                 return check_index_any(page, tables, memo, key, t);
             }
-            Ok(check_index_target(tables.store(page), memo, key, t))
+            let mut matcher = Matcher {
+                store: tables.store(page),
+                table: memo,
+            };
+            Ok(check_index_target(&mut matcher, key, t))
         }
     }
 }

@@ -159,6 +159,7 @@ pub fn is_stored(k: Kind) -> bool
 }
 
 // How many children a kind has at least.
+#[tactic(auto, unfolding(crate::specs::Kinds::fewest))]
 pub fn fewest(k: Kind) -> usize
     ensures { result ≡ fewest k }
 {
@@ -170,6 +171,7 @@ pub fn fewest(k: Kind) -> usize
 }
 
 // How many children a kind has at most.
+#[tactic(auto, unfolding(crate::specs::Kinds::most))]
 pub fn most(k: Kind) -> usize
     ensures { (result ≡ most k) × (result ≤ children_max) }
 {
@@ -189,6 +191,7 @@ fn is_plain(k: Kind) -> bool
 }
 
 // The const form of a kind, or itself where it has none: `const_variant` of the source.
+#[tactic(auto, unfolding(crate::specs::Kinds::const_variant))]
 pub fn const_variant(k: Kind) -> Kind
     ensures { result ≡ const_variant k }
 {
@@ -200,6 +203,7 @@ pub fn const_variant(k: Kind) -> Kind
 }
 
 // Whether a kind stands against another as its const form or, for some, as its plain one: `const_matches` of the source.
+#[tactic(auto, unfolding(crate::specs::Kinds::const_matches))]
 pub fn const_matches(a: Kind, b: Kind) -> bool
     ensures { result ≡ const_matches a b }
 {

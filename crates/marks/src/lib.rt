@@ -24,6 +24,7 @@ pub const SMALL_BYTES: usize = SMALL * SMALL / BITS;
 pub const LARGE_BYTES: usize = TYPES * TYPES / BITS;
 
 // For how many types a table has room.
+#[tactic(auto, unfolding(crate::specs::Marks::room))]
 pub fn room(table: &[u8]) -> usize
     ensures { (result ≡ room (length table.now)) × (result ≤ types_max) }
 {
@@ -35,6 +36,7 @@ pub fn room(table: &[u8]) -> usize
 }
 
 // The place of a mark, if the table has one.
+#[tactic(auto, unfolding(crate::specs::Marks::place))]
 fn place_of(table: &[u8], row: usize, column: usize) -> Option<usize>
     requires { row < types_max }
     ensures { MatchOption result (Beyond table.now row column) (λ p. Within table.now row column p) }
@@ -51,6 +53,7 @@ fn place_of(table: &[u8], row: usize, column: usize) -> Option<usize>
 }
 
 // Whether a row is marked in a column.
+#[tactic(auto, using(crate::proofs::Marks::marked_at, crate::proofs::Marks::unmarked_beyond))]
 pub fn is_marked(table: &[u8], row: usize, column: usize) -> bool
     requires { row < types_max }
     ensures { result ≡ is_marked table.now row column }
@@ -62,6 +65,7 @@ pub fn is_marked(table: &[u8], row: usize, column: usize) -> bool
 }
 
 // Marks a row in a column.
+#[tactic(auto, using(crate::proofs::Marks::marking_at, crate::proofs::Marks::marking_beyond))]
 pub fn mark(table: &mut [u8], row: usize, column: usize)
     requires { row < types_max }
     ensures { table.new ≡ marking table.old row column }

@@ -1,7 +1,9 @@
 -- What a call has in mind of pairs of types. Assumes nothing.
 use mathlib.Core.Path.{◌≡◌, refl, sym, ◌∙◌, ap, subst}
-use mathlib.Core.Bool.{Bool, true, false, not, ◌&&◌, ◌||◌, cond}
-use mathlib.Core.Logic.{◌⊎◌, inl, inr, ⊎_elim}
+use mathlib.Core.Bool.{Bool, Bool-set, true, false, not, ◌&&◌, ◌||◌, cond}
+use mathlib.Core.Logic.{◌⊎◌, inl, inr, ⊎_elim, ∥∥₁_elim}
+use Rattle.std.proofs.Math.Bridge.{le_prop}
+use Rattle.std.proofs.Math.Logic.{∥∥₁_prop}
 use mathlib.Core.List.{List}
 use Prim.Native.Nat.{ℕ, ◌+◌, ◌*◌, ◌/◌, ◌%◌, ◌<◌}
 use native.Mathlib.Omega.{arith}
@@ -162,6 +164,20 @@ module _ (page : List ℕ) where
           → Noted (Found page) (cond r (marking (marking memo a (column_of b false)) a (column_of b true)) (marking memo a (column_of b false)))
       go true m = noted_both (marking memo a (column_of b false)) first a b m h
       go false m = first
+
+-- what a mark says, and what all marks say, has one proof at most
+says_by : (page memo : List ℕ) (a b : ℕ) (answer : Bool) → ∥ Says page memo a b answer ∥₁ → Says page memo a b answer
+says_by page memo a b true t = λ h. ∥∥₁_elim t (Bool-set _ _) (λ s. s h)
+says_by page memo a b false t = (∥∥₁_elim t (Bool-set _ _) (λ s. s.0), λ h. ∥∥₁_elim t (Bool-set _ _) (λ s. s.1 h))
+
+pub noted_by : (page memo : List ℕ) → ∥ Noted (Found page) memo ∥₁ → Noted (Found page) memo
+noted_by page memo t = record {
+  right = λ a c h. (
+    ∥∥₁_elim t le_prop (λ n. (n.right a c h).0),
+    ∥∥₁_elim t le_prop (λ n. (n.right a c h).1),
+    says_by page memo a (c / 2) (eqb (c % 2) 1) (∥∥₁_elim t ∥∥₁_prop (λ n. ∣ (n.right a c h).2 ∣₁)),
+  );
+}
 
 -- ---- what is found, by the kinds
 

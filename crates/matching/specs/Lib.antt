@@ -1,2 +1,3 @@
 pub mod Matching
 pub mod Memo
+pub mod Same

@@ -67,6 +67,17 @@ pub member_is : (page : List ℕ) (t n : ℕ) (types : List ℕ) → Flattened p
     → (i x : ℕ) → i < n → x ≡ get_or types i 0 → x ≡ member page t i
 member_is page t n types fl i x h e = e ∙ sym (get_or-take n types i 0 h) ∙ ap (λ (xs : List ℕ). get_or xs i 0) fl.2
 
+-- the members stand at as many places as it says
+pub as_many : (page : List ℕ) (t n : ℕ) (types : List ℕ) → Flattened page t n types → length (take n types) ≡ n
+as_many page t n types fl = ap (λ (l : List ℕ). length l) fl.2 ∙ sym fl.0
+
+-- a place among those of the members, read
+pub place_read : (page : List ℕ) (t n : ℕ) (types : List ℕ) → Flattened page t n types
+    → (i x : ℕ) → i < length (take n types) → x ≡ get_or (take n types) i 0 → (i < n) × (x ≡ get_or types i 0)
+place_read page t n types fl i x h e =
+    let m : i < n = rw (as_many page t n types fl) at h in
+    (m, e ∙ get_or-take n types i 0 m)
+
 module _ (page : List ℕ) (f : Formed page) (t : ℕ) (u : t < types_in page) (l : List ℕ) (size : length l ≡ members_max) where
   done : (r : ℕ) → r ≡ length (members_of page t) → Flattened page t r (put l 0 (members_of page t))
   done r e =

@@ -2,7 +2,7 @@
 -- is the same in a store that grows; and the table of leaves. Assumes nothing.
 use mathlib.Core.Path.{◌≡◌, refl, sym, ◌∙◌, ap}
 use mathlib.Core.Bool.{Bool, true, false, cond}
-use mathlib.Core.Logic.{⊎_elim}
+use mathlib.Core.Logic.{⊎_elim, ∥∥₁_elim}
 use mathlib.Core.List.{List}
 use Prim.Native.Nat.{ℕ, zero, suc, ◌+◌, ◌<◌, ◌≤◌}
 use native.Mathlib.Nat.{not-suc-le-zero, eq-or-lt_of_le}
@@ -11,6 +11,7 @@ use lib.Dec.{eqb}
 use lib.ListN.{length, get_or, set, length-set}
 use lib.Seq.{get_or-set_same, get_or-set_other}
 use borrow.Author.Tests.{ne_eqb}
+use Rattle.std.proofs.Math.Nat.{ℕ_set}
 use Rattle.pages.specs.Quant.{all_to}
 use Rattle.pages.proofs.Quant.{all_cong, all_failed}
 use Rattle.kinds.specs.Kinds.{null, is_union}
@@ -197,6 +198,20 @@ module _ (unary : Bool) (page : List ℕ) (f : Formed page) (t : ℕ) (u : t < t
 
         pub read_key : (k : ℕ) → k ≡ key_in unary page leaf → k ≡ key_in unary page (leaf_in unary page t i)
         read_key k q = q ∙ ap (key_in unary page) read_leaf
+
+-- the table of a store with leaves
+pub filled_by : {unary : Bool} {page leaves : List ℕ} {n : ℕ} → ∥ Leaves unary page leaves n ∥₁ → Leaves unary page leaves n
+filled_by t = record {
+  size = ∥∥₁_elim t (ℕ_set _ _) (λ h. h.size);
+  holds = λ k l. ∥∥₁_elim t (ℕ_set _ _) (λ h. h.holds k l);
+}
+
+module _ {unary : Bool} {page leaves : List ℕ} (f : Formed page) (h : Leaves unary page leaves (types_in page)) (t : ℕ) (u : t < types_in page) where
+  pub leaf_there : t < length leaves
+  leaf_there = omega (arith, h.size, types_few page f)
+
+  pub leaf_read : (x : ℕ) → x ≡ get_or leaves t 0 → Gives unary page f t u x
+  leaf_read x is = gives unary page f t u x (sym (is ∙ h.holds t u))
 
 -- one more
 pub leaves_more : (unary : Bool) (page leaves : List ℕ) (t leaf : ℕ) → t < types_max → Leaves unary page leaves t → leaf ≡ leaf_of unary page t

@@ -1,16 +1,16 @@
 -- Results merged, and their union: one law for each return. Assumes nothing.
 use Rattle.std.proofs.Common.{Ok, Err}
 use mathlib.Core.Path.{◌≡◌, refl, sym, ◌∙◌, ap}
-use mathlib.Core.Bool.{Bool, true, false, ◌||◌}
-use mathlib.Core.List.{List, [], ◌∷◌, ◌++◌}
-use Prim.Native.Nat.{ℕ, zero, suc, ◌+◌, ◌<◌, ◌≤◌}
+use mathlib.Core.Bool.{true, false}
+use mathlib.Core.List.{List, [], ◌∷◌}
+use Prim.Native.Nat.{ℕ, ◌+◌, ◌<◌, ◌≤◌}
 use native.Mathlib.Numerals.{add-one}
-use native.Mathlib.Nat.{not-suc-le-zero, le_of_suc-le-suc}
 use native.Mathlib.Omega.{arith}
 use lib.Dec.{eqb}
 use lib.ListN.{length, get_or, set, take, length-append, length-set}
-use lib.Seq.{take-suc, take-suc-set, length-take-le}
-use borrow.Author.Tests.{eq-eqb, ne_eqb, lt-ltb, le-ltb}
+use lib.Seq.{take-suc-set, length-take-le}
+use borrow.Author.Tests.{lt-ltb, le-ltb}
+use Rattle.std.specs.List.{list_any}
 use Rattle.refusals.specs.declared.Refusal.TheVariants.{Width}
 use Rattle.kinds.specs.Kinds.{children_max, any}
 use Rattle.types.specs.Types.{types_in, Measured}
@@ -18,37 +18,6 @@ use Rattle.types.specs.Making.{entry_of, Ready, enter_answer, enter_page}
 use Rattle.types.specs.Calls.{all_below}
 use Rattle.members.specs.Members.{members_max, has, merged, entered, union_of}
 use Rattle.members.proofs.Unions.{union_enterable}
-
--- ---- is a type among results
-
-pub has_none : (t : ℕ) → has t [] ≡ false
-unfolding has
-has_none t = refl
-
-pub has_found : (t : ℕ) (xs : List ℕ) (i n : ℕ) → i < n → n ≤ length xs → get_or xs i 0 ≡ t → true ≡ has t (take n xs)
-unfolding has
-has_found t [] i n h l e = absurd (omega arith)
-has_found t (x ∷ xs) i zero h l e = absurd (not-suc-le-zero h)
-has_found t (x ∷ xs) zero (suc n) h l e = rw (eq-eqb x t e) refl
-has_found t (x ∷ xs) (suc i) (suc n) h l e = rw (← has_found t xs i n (le_of_suc-le-suc h) (le_of_suc-le-suc l) e) (go (eqb x t))
-  where
-    go : (b : Bool) → true ≡ (b || true)
-    go true = refl
-    go false = refl
-
-pub has_more : (t : ℕ) (xs : List ℕ) (i : ℕ) → i < length xs → has t (take i xs) ≡ false → (get_or xs i 0 ≡ t → ⊥)
-    → has t (take (i + 1) xs) ≡ false
-unfolding has
-has_more t xs i l h ne = rw (add-one i, take-suc xs i 0 l) (last (take i xs) h)
-  where
-    last : (ys : List ℕ) → has t ys ≡ false → has t (ys ++ (get_or xs i 0 ∷ [])) ≡ false
-    last [] e = rw (ne_eqb (get_or xs i 0) t ne) refl
-    last (y ∷ ys) e = go (eqb y t) e (last ys)
-      where
-        go : (b : Bool) → (b || has t ys) ≡ false → (has t ys ≡ false → has t (ys ++ (get_or xs i 0 ∷ [])) ≡ false)
-            → (b || has t (ys ++ (get_or xs i 0 ∷ []))) ≡ false
-        go true q rest = q
-        go false q rest = rest q
 
 -- ---- one more result
 
@@ -58,12 +27,12 @@ Merges types after n t r =
     (r ≤ n + 1) × (take r after ≡ merged t (take n types)) × (length after ≡ members_max) × (r ≡ length (merged t (take n types)))
 
 module _ (types : List ℕ) (n t : ℕ) (size : length types ≡ members_max) (l : n < members_max) where
-  pub merge_there : has t (take n types) ≡ true → Merges types types n t n
-  unfolding merged
+  pub merge_there : list_any (λ x. eqb x t) (take n types) ≡ true → Merges types types n t n
+  unfolding merged has
   merge_there h = rw h (omega arith, refl, size, sym (length-take-le n types (omega arith)))
 
-  pub merge_new : has t (take n types) ≡ false → Merges types (set types n t) n t (n + 1)
-  unfolding merged
+  pub merge_new : list_any (λ x. eqb x t) (take n types) ≡ false → Merges types (set types n t) n t (n + 1)
+  unfolding merged has
   merge_new h =
       rw h (
         omega arith,

@@ -9,6 +9,10 @@ use Rattle.types.specs.Recur.{cov}
 use Rattle.operators.specs.Operators.{family_of, taker_of}
 use Rattle.members.specs.Members.{size_of, member}
 
+-- is that the number of operands of an operator with one
+abbrev pub is_unary : ℕ → Bool
+is_unary operands = eqb operands 1
+
 -- the key of a kind: for two operands its family, for one the operator that takes it
 unfoldable pub key_of : Bool → ℕ → ℕ
 key_of unary k = cond unary (taker_of k) (family_of k)

@@ -2,7 +2,8 @@
 -- "Answers"); and the union of several types.
 use Rattle.operators.specs.declared.Outcome.{Outcome}
 use Rattle.refusals.specs.declared.Refusal.{Refusal}
-use Rattle.std.specs.Prelude.{Bool, false, ◌||◌, cond, List, [], ◌∷◌, ◌++◌, ℕ, zero, suc, ◌*◌, eqb, ltb, length, get_or, Result, Ok, Err}
+use Rattle.std.specs.Prelude.{Bool, cond, List, [], ◌∷◌, ◌++◌, ℕ, zero, suc, ◌*◌, eqb, ltb, length, get_or, Result, Ok, Err}
+use Rattle.std.specs.List.{list_any}
 use Rattle.refusals.specs.declared.Refusal.TheVariants.{Width}
 use Rattle.kinds.specs.Kinds.{children_max, any, is_union}
 use Rattle.types.specs.Types.{kind_of, arity, child_of}
@@ -39,8 +40,7 @@ member page t i = get_or (members_of page t) i 0
 
 -- does a list have this type
 unfoldable pub has : ℕ → List ℕ → Bool
-has t [] = false
-has t (x ∷ xs) = eqb x t || has t xs
+has t xs = list_any (λ x. eqb x t) xs
 
 -- one more result, at the end if it is new
 unfoldable pub merged : ℕ → List ℕ → List ℕ

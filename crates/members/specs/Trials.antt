@@ -1,5 +1,5 @@
 -- The trials of a union's members: "every pair of members .. is tried by the operator's own rule" (document 01, "Answers").
-use Rattle.std.specs.Prelude.{Bool, cond, List, ℕ, zero, suc, ◌+◌, eqb, ltb, length, Ok}
+use Rattle.std.specs.Prelude.{Option, Some, None, Bool, cond, List, ℕ, zero, suc, ◌+◌, eqb, ltb, length, Ok}
 use Rattle.operators.specs.Outcome.{no_error, one_error, some_fail, outcome, number_of, passes, count_of}
 use Rattle.operators.specs.declared.Reason.TheVariants.{NoMember}
 use Rattle.operators.specs.declared.Errors.{Errors}
@@ -29,6 +29,10 @@ no_failure = failures 0 0 0
 -- one more
 unfoldable pub failed_at : ℕ → ℕ → Failures → Failures
 failed_at x y f = cond (eqb f.count 0) (failures 1 x y) (failures (f.count + 1) f.left f.right)
+
+-- what g takes of the first of them, where there is one
+abbrev pub first_by : {A : Type 0} → (ℕ → ℕ → A) → Failures → Option A
+first_by g f = cond (eqb f.count 0) None (Some (g f.left f.right))
 
 -- the errors of a union's check, where some member passes or none does: 7 some members fail; 8 there is none, since none fails and
 -- none passes

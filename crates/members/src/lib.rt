@@ -7,15 +7,25 @@ ghost use Rattle.types.specs.Store.{types_max};
 ghost use Rattle.types.specs.Types.{types_in, Held, Measured};
 ghost use Rattle.types.specs.Calls.{all_below};
 ghost use Rattle.members.specs.Members.{members_max, share_of, members_of, has, merged, entered, union_of, conclude};
-ghost use Rattle.members.specs.Leaves.{key_of, key_in, leaf_of, Leaves};
+ghost use Rattle.members.specs.Leaves.{is_unary, key_of, key_in, leaf_of, Leaves};
 
 use kinds::{ANY, CHILDREN, Kind};
 use operators::Outcome;
 use refusals::Refusal;
-use types::{NULL, Store, Tables, enter_type, set_type};
+use types::{NULL, Store, Tables, enter_type};
 
 // How many members a type has at most.
+// Members and results stand in arrays of so many places beside a count, as there is no heap.
 pub const MEMBERS: usize = CHILDREN * CHILDREN;
+
+// A store with the leaf that stands for each of its types, where operators have OPERANDS operands: one or two.
+// A number, as the language has no struct with a fact and a `bool` parameter.
+#[derive(Clone, Copy)]
+pub struct Leafed<'a, const OPERANDS: usize> {
+    pub store: Store<'a>,
+    leaves: &'a [u16],
+    ghost filled: { ∥ Leaves (is_unary OPERANDS) store.page.now leaves.now (types_in store.page.now) ∥₁ },
+}
 
 // The type at a place.
 pub fn member_at(types: &[u16], i: usize) -> usize
@@ -26,18 +36,19 @@ pub fn member_at(types: &[u16], i: usize) -> usize
 }
 
 // Writes down, from place n on, what child x of a union gives. Says where that ends.
+// A loop, since `pages::read_words` would need the place and the layout of an entry, which `Store::child_of` knows.
 fn add_share(store: Store, x: usize, types: &mut [u16], n: usize) -> usize
     requires x_bound { x < types_in store.page.now }
     requires x_in_bounds { n + length (share_of store.page.now x) ≤ length types.old }
     ensures { (result ≡ n + length (share_of store.entry.page.now x)) × (types.new ≡ put types.old n (share_of store.entry.page.now x)) }
 {
     if !kinds::is_union(store.kind_of(x)) {
-        set_type(types, n, x);
+        types[n] = x as u16;
         return n + 1;
     }
     let k = store.arity(x);
     for i in 0..k {
-        set_type(types, n + i, store.child_of(x, i));
+        types[n + i] = store.child_of(x, i) as u16;
     }
     n + k
 }
@@ -48,7 +59,7 @@ pub fn flatten(store: Store, t: usize, types: &mut [u16]) -> usize
     ensures { (result ≡ length (members_of store.entry.page.now t)) × (result ≤ members_max) × (take result types.new ≡ members_of store.entry.page.now t) × (length types.new ≡ members_max) }
 {
     if !kinds::is_union(store.kind_of(t)) {
-        set_type(types, 0, t);
+        types[0] = t as u16;
         return 1;
     }
     let mut n = 0;
@@ -58,28 +69,16 @@ pub fn flatten(store: Store, t: usize, types: &mut [u16]) -> usize
     n
 }
 
-// Whether a type stands at one of the first n places.
-fn is_among(types: &[u16], n: usize, t: usize) -> bool
-    requires { n ≤ length types.now }
-    ensures { result ≡ has t (take n types.now) }
-{
-    for i in 0..n {
-        if member_at(types, i) == t {
-            return true;
-        }
-    }
-    false
-}
-
 // Merges a result with the n before it, and says how many there are now; what stands after them is left free.
+#[tactic(auto, using(crate::proofs::Merging::merge_there))]
 pub fn merge(types: &mut [u16], n: usize, t: usize) -> usize
     requires { (length types.old ≡ members_max) × (n < members_max) × (t < types_max) }
     ensures { (result ≤ n + 1) × (take result types.new ≡ merged t (take n types.old)) × (length types.new ≡ members_max) × (result ≡ length (merged t (take n types.old))) }
 {
-    if is_among(types, n, t) {
+    if types[..n].contains(&(t as u16)) {
         return n;
     }
-    set_type(types, n, t);
+    types[n] = t as u16;
     n + 1
 }
 
@@ -111,38 +110,31 @@ pub fn conclusion_of(made: Result<usize, Refusal>) -> Result<Outcome, Refusal>
     made.map(operators::known)
 }
 
-// The key of a kind.
+// The key of a kind, where operators have that many operands.
 #[tactic(auto, unfolding(crate::specs::Leaves::key_of))]
-fn key_of(unary: bool, k: Kind) -> usize
-    ensures { result ≡ key_of unary k }
+fn key_of<const OPERANDS: usize>(k: Kind) -> usize
+    ensures { result ≡ key_of (is_unary OPERANDS) k }
 {
-    if unary {
+    if OPERANDS == 1 {
         return operators::taker_of(k);
     }
     operators::family_of(k) as usize
 }
 
 // The key of a type that is no union.
-fn key_in(store: Store, unary: bool, t: usize) -> usize
+fn key_in<const OPERANDS: usize>(store: Store, t: usize) -> usize
     requires { t < types_in store.page.now }
-    ensures { result ≡ key_in unary store.entry.page.now t }
+    ensures { result ≡ key_in (is_unary OPERANDS) store.entry.page.now t }
 {
-    key_of(unary, store.kind_of(t))
-}
-
-// The leaf that stands for a type, as the table has it.
-pub fn leaf_at(leaves: &[u16], t: usize) -> usize
-    requires { t < length leaves.now }
-    ensures { result ≡ get_or leaves.now t 0 }
-{
-    member_at(leaves, t)
+    key_of::<OPERANDS>(store.kind_of(t))
 }
 
 // The leaf that stands for a type, where the table has those of the types below.
-fn leaf_of(store: Store, leaves: &[u16], unary: bool, t: usize) -> usize
+#[tactic(auto, using(types::proofs::Types::held_by, crate::proofs::Leaves::leaf_gives, crate::proofs::Leaves::empty_gives))]
+fn leaf_of<const OPERANDS: usize>(store: Store, leaves: &[u16], t: usize) -> usize
     requires t_bound { t < types_in store.page.now }
-    requires leaves { Leaves unary store.page.now leaves.now t }
-    ensures { (result ≡ leaf_of unary store.entry.page.now t) × (result ≤ t) }
+    requires leaves { Leaves (is_unary OPERANDS) store.page.now leaves.now t }
+    ensures { (result ≡ leaf_of (is_unary OPERANDS) store.entry.page.now t) × (result ≤ t) }
 {
     if !kinds::is_union(store.kind_of(t)) {
         return t;
@@ -152,11 +144,11 @@ fn leaf_of(store: Store, leaves: &[u16], unary: bool, t: usize) -> usize
     if n == 0 {
         return NULL;
     }
-    let first = leaf_at(leaves, member_at(&types, 0));
-    let key = key_in(store, unary, first);
-    for i in 0..n {
-        let leaf = leaf_at(leaves, member_at(&types, i));
-        if key_in(store, unary, leaf) != key {
+    let first = member_at(leaves, member_at(&types, 0));
+    let key = key_in::<OPERANDS>(store, first);
+    for x in &types[..n] {
+        let leaf = member_at(leaves, usize::from(*x));
+        if key_in::<OPERANDS>(store, leaf) != key {
             return NULL;
         }
     }
@@ -164,13 +156,31 @@ fn leaf_of(store: Store, leaves: &[u16], unary: bool, t: usize) -> usize
 }
 
 // Writes down the leaves of all types from `from` on, those below being there; what stands behind them stays.
-pub fn fill_leaves(store: Store, leaves: &mut [u16], unary: bool, from: usize)
-    requires { (from ≤ types_in store.page.now) × (Leaves unary store.page.now leaves.old from) }
-    ensures leaves { Leaves unary store.entry.page.now leaves.new (types_in store.entry.page.now) }
+pub fn fill_leaves<const OPERANDS: usize>(store: Store, leaves: &mut [u16], from: usize)
+    requires { (from ≤ types_in store.page.now) × (Leaves (is_unary OPERANDS) store.page.now leaves.old from) }
+    ensures leaves { Leaves (is_unary OPERANDS) store.entry.page.now leaves.new (types_in store.entry.page.now) }
     ensures leaves_unchanged { drop (types_in store.entry.page.now) leaves.new ≡ drop (types_in store.entry.page.now) leaves.old }
 {
     for t in from..store.count() {
-        let leaf = leaf_of(store, leaves, unary, t);
-        set_type(leaves, t, leaf);
+        let leaf = leaf_of::<OPERANDS>(store, leaves, t);
+        leaves[t] = leaf as u16;
+    }
+}
+
+impl<'a, const OPERANDS: usize> Leafed<'a, OPERANDS> {
+    // The store with the leaves that `fill_leaves` wrote down.
+    pub fn new(store: Store<'a>, leaves: &'a [u16]) -> Self
+        requires { Leaves (is_unary OPERANDS) store.page.now leaves.now (types_in store.page.now) }
+        ensures { result.store.page.now ≡ store.entry.page.now }
+    {
+        Leafed { store, leaves }
+    }
+
+    // The leaf that stands for a type.
+    pub fn leaf_of(self, t: usize) -> usize
+        requires { t < types_in self.store.page.now }
+        ensures { (result ≡ leaf_of (is_unary OPERANDS) self.entry.store.page.now t) × (result ≤ t) }
+    {
+        member_at(self.leaves, t)
     }
 }

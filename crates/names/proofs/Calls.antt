@@ -1,5 +1,5 @@
 -- What the calls on a table of names come to, one law for each return. Assumes nothing.
-use Rattle.std.proofs.Common.{Some, None, Ok, Err}
+use Rattle.std.proofs.Common.{Option, Some, None, Ok, Err, MatchOption}
 use mathlib.Core.Path.{◌≡◌, refl, sym, ◌∙◌, ap}
 use mathlib.Core.Bool.{Bool, true, false, ◌&&◌, not, cond}
 use mathlib.Core.List.{List, [], ◌∷◌}
@@ -66,38 +66,15 @@ in_use_named page f k h = good_named page k (all_at (good_at page) (count_of pag
 
 -- ---- names that are lent or not
 
-module _ (names : List ℕ) (lent : Bool) where
-  pub broken_lent : lent ≡ true → not (formed names) ≡ lent_broken names lent
-  unfolding lent_broken
-  broken_lent e = rw e
+pub lent_form : (page : List ℕ) → lent_broken (Some page) ≡ false → Form page
+unfolding lent_broken
+lent_form page h = form page (not-false (formed page) h)
 
-  pub broken_unlent : lent ≡ false → false ≡ lent_broken names lent
-  unfolding lent_broken
-  broken_unlent e = rw e
-
-  lent_formed : lent ≡ true → lent_broken names lent ≡ false → formed names ≡ true
-  unfolding lent_broken
-  lent_formed e h = not-false (formed names) (rw e at h)
-
-  pub lent_form : lent ≡ true → lent_broken names lent ≡ false → Form names
-  lent_form e h = form names (lent_formed e h)
-
-  pub used_lent : lent ≡ true → lent_broken names lent ≡ false → (n : ℕ) → n ≡ count_of names → (n ≡ used_of names lent) × (n ≤ names_max)
-  unfolding used_of
-  used_lent e h n is = (rw e is, rw is (lent_form e h).few)
-
-  -- no more numbers are in use than there can be
-  pub used_few : lent_broken names lent ≡ false → used_of names lent ≤ names_max
-  unfolding used_of
-  used_few h = go lent refl
-    where
-      go : (b : Bool) → lent ≡ b → cond b (count_of names) names_max ≤ names_max
-      go true e = (lent_form e h).few
-      go false e = le_refl names_max
-
-  pub used_unlent : lent ≡ false → (names_max ≡ used_of names lent) × (names_max ≤ names_max)
-  unfolding used_of
-  used_unlent e = (rw e, le_refl names_max)
+-- no more numbers are in use than there can be
+pub used_few : (names : Option (List ℕ)) → lent_broken names ≡ false → used_of names ≤ names_max
+unfolding used_of
+used_few None h = le_refl names_max
+used_few (Some page) h = (lent_form page h).few
 
 module _ (page : List ℕ) where
   pub empty_short : length page < count_bytes → (Err Broken ≡ empty_verdict page) × (page ≡ empty_page page)
@@ -201,14 +178,12 @@ module _ (page name : List ℕ) where
     unfolding find_answer find_verdict
     find_malformed w = rw (f, w)
 
-    module _ (w : well_named name ≡ true) (n k : ℕ) (e : n ≡ count_of page) (q : k ≡ number_of page n name) where
-      pub find_known : k < n → Ok (Some k) ≡ find_answer page name
-      unfolding find_answer find_verdict
-      find_known l = rw (f, w, ← e, ← q, lt-ltb k n l)
-
-      pub find_absent : n ≤ k → Ok None ≡ find_answer page name
-      unfolding find_answer find_verdict
-      find_absent l = rw (f, w, ← e, ← q, le-ltb k n l)
+    -- what `find` answers
+    pub find_given : well_named name ≡ true → (n : ℕ) → n ≡ count_of page → (r : Option ℕ) → MatchOption r (number_of page n name ≡ n) (λ k. (k < n) × (k ≡ number_of page n name))
+        → Ok r ≡ find_answer page name
+    unfolding find_answer find_verdict
+    find_given w n e (Some k) h = rw (f, w, ← e, ← h.1, lt-ltb k n h.0)
+    find_given w n e None h = rw (f, w, ← e, h, le-ltb n n (omega arith))
 
 -- ---- reading a name
 

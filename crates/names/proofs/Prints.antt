@@ -2,7 +2,7 @@
 use mathlib.Core.Path.{◌≡◌, refl, sym, ◌∙◌, ap}
 use mathlib.Core.Bool.{Bool, true, false}
 use mathlib.Core.List.{List}
-use Prim.Native.Nat.{ℕ, suc, ◌+◌, ◌-◌, ◌<◌, ◌≤◌}
+use Prim.Native.Nat.{ℕ, ◌+◌, ◌-◌, ◌<◌, ◌≤◌}
 use native.Mathlib.Nat.{not-suc-le-zero}
 use native.Mathlib.Omega.{arith}
 use lib.ListN.{length, get_or, set, replicate, take, drop, length-set, length-replicate}
@@ -15,57 +15,25 @@ use Rattle.pages.proofs.Quant.{all_none, all_more, first_none, first_below}
 use Rattle.pages.proofs.Bytes.{eqs_true}
 use Rattle.chains.specs.Last.{last_below, Heads}
 use Rattle.chains.specs.Prints.{prints_max, print_of}
-use Rattle.chains.proofs.Walk as walk
 use Rattle.chains.proofs.Grow.{heads_none, heads_more, links_none, links_more}
 use Rattle.names.specs.Table.{names_max, offset, name_at, named, number_of, good_at, well_named}
 use Rattle.names.specs.Prints.{print_at, Chained}
-use Rattle.names.proofs.Table.{offset_suc, step_in, found_at, part_is, good_name}
+use Rattle.names.proofs.Table.{offset_suc, step_in, name_there, part_is, good_name}
 
 -- ---- the chain of a print
-
--- the r bytes behind a length byte
-abbrev part_at : List ℕ → ℕ → ℕ → List ℕ
-part_at page at r = take (at + 1 + r - (at + 1)) (drop (at + 1) page)
 
 pub same_print : (page name : List ℕ) (j : ℕ) → named page name j ≡ true → print_at page j ≡ print_of name
 unfolding named
 same_print page name j e = ap print_of (eqs_true (name_at page j) name e)
 
--- the search stands at a name of the chain, and no name from there on is this one
-abbrev pub Among : List ℕ → List ℕ → ℕ → ℕ → Type 0
-Among page name = walk.Walk (print_at page) (print_of name) (named page name) (same_print page name)
+module _ (page offsets links : List ℕ) (n k : ℕ) (c : Chained page n offsets links) (h : k < n) where
+  -- where a name stands that is compared
+  pub compared_in : get_or offsets k 0 + 1 + get_or page (get_or offsets k 0) 0 ≤ length page
+  compared_in = step_in page k (get_or offsets k 0) n (c.offset_at k h) h c.inside
 
-pub among_start : (page name : List ℕ) (n head : ℕ) → head ≡ last_below (print_at page) n (print_of name) → Among page name n head
-among_start page name = walk.walk_start (print_at page) (print_of name) (named page name) (same_print page name)
-
-pub among_end : (page name : List ℕ) (n next : ℕ) → Among page name n next → next ≡ 0 → false ≡ any_to n (named page name)
-among_end page name n next w e = sym (walk.walk_end (print_at page) (print_of name) (named page name) (same_print page name) n next w e)
-
-module _ (page offsets links name : List ℕ) (n next : ℕ) (c : Chained page n offsets links) (w : Among page name n next) (h : 0 < next) where
-  before : next ≡ suc (next - 1)
-  before = omega arith
-
-  below : next - 1 < n
-  below = omega arith
-
-  -- where the name stands that is compared next
-  pub compared_in : get_or offsets (next - 1) 0 + 1 + get_or page (get_or offsets (next - 1) 0) 0 ≤ length page
-  compared_in = step_in page (next - 1) (get_or offsets (next - 1) 0) n (c.offset_at (next - 1) below) below c.inside
-
-  module _ (r : ℕ) (e : r ≡ get_or page (get_or offsets (next - 1) 0) 0) where
-    compared : (b : Bool) → eqs (part_at page (get_or offsets (next - 1) 0) r) name ≡ b
-        → named page name (next - 1) ≡ b
-    compared = found_at page (next - 1) (get_or offsets (next - 1) 0) r name (c.offset_at (next - 1) below) e
-
-    pub among_found : eqs (part_at page (get_or offsets (next - 1) 0) r) name ≡ true
-        → true ≡ any_to n (named page name)
-    among_found f =
-        sym (walk.walk_found (print_at page) (print_of name) (named page name) (same_print page name) n next (next - 1) w before (compared true f))
-
-    pub among_on : eqs (part_at page (get_or offsets (next - 1) 0) r) name ≡ false
-        → (v : ℕ) → v ≡ get_or links (next - 1) 0 → (v < next) × Among page name n v
-    among_on f =
-        walk.walk_on (print_at page) (print_of name) (named page name) (same_print page name) n next (next - 1) w before (compared false f) links c.link_at
+  pub compared : (name : List ℕ) → eqs (take (get_or page (get_or offsets k 0) 0) (drop (get_or offsets k 0 + 1) page)) name ≡ named page name k
+  unfolding named
+  compared name = ap (λ l. eqs l name) (name_there page k (get_or offsets k 0) _ (c.offset_at k h) refl)
 
 -- ---- the tables of the first i names, which are good
 
@@ -93,6 +61,10 @@ tables_none page heads links offsets h e f g =
       head_at = rw e (heads_none (print_at page) prints_max);
       chain = record { inside = h; noted = omega arith; linked = omega arith; offset_at = λ j l. absurd (not-suc-le-zero l); link_at = links_none (print_at page) links };
     }
+
+-- the r bytes behind a length byte
+abbrev part_at : List ℕ → ℕ → ℕ → List ℕ
+part_at page at r = take (at + 1 + r - (at + 1)) (drop (at + 1) page)
 
 -- the part of the page where name i stands
 module _ (page : List ℕ) (i at r : ℕ) (heads links offsets : List ℕ) (t : Tables page i at heads links offsets) (e : r ≡ get_or page at 0) (h : at + 1 + r ≤ length page) where

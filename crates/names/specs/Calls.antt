@@ -1,5 +1,5 @@
 -- What the calls on a table of names answer, and leave in the page (document 01, "Names" and the table of refusals).
-use Rattle.std.specs.Prelude.{Bool, ◌&&◌, not, cond, List, [], ◌∷◌, ℕ, ◌+◌, length, replicate, ltb, leb, Option, Some, None, Result}
+use Rattle.std.specs.Prelude.{Bool, false, ◌&&◌, not, cond, List, [], ◌∷◌, ℕ, ◌+◌, length, replicate, ltb, leb, Option, Some, None, Result}
 use Rattle.refusals.specs.Lowest.{◌when◌, lowest, unless_refused, answer_of}
 use Rattle.refusals.specs.declared.Refusal.{Refusal}
 use Rattle.refusals.specs.declared.Refusal.TheVariants.{Broken, Unused, Malformed, Full}
@@ -9,15 +9,17 @@ use Rattle.pages.specs.Pad.{padded}
 use Rattle.names.specs.Table.{names_max, name_max, well_named, offset, name_at, number_of, formed}
 use Rattle.pages.specs.declared.Padded.{Padded}
 
--- ---- names that are lent or not: a page, beside a yes or a no
+-- ---- names that are lent or not: a page, or none
 
 -- does a names page that is lent break its form
-unfoldable pub lent_broken : List ℕ → Bool → Bool
-lent_broken names lent = lent && not (formed names)
+unfoldable pub lent_broken : Option (List ℕ) → Bool
+lent_broken None = false
+lent_broken (Some page) = not (formed page)
 
 -- how many name numbers are in use: those of the lent table or, where none is lent, every number that a table can have
-unfoldable pub used_of : List ℕ → Bool → ℕ
-used_of names lent = cond lent (count_of names) names_max
+unfoldable pub used_of : Option (List ℕ) → ℕ
+used_of None = names_max
+used_of (Some page) = count_of page
 
 -- "not in use" (the table of refusals, 2 and 3): is s the number of a name, where the first `used` numbers are in use; one that no table
 -- can give never is

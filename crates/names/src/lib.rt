@@ -1,8 +1,8 @@
 // Names and their numbers, in a lent page (document 01, "Names").
 #![tactic(auto)]
 
-ghost use Rattle.std.specs.Prelude.{◌≡◌, true, false, ◌+◌, ◌≤◌, ◌<◌, length, set, replicate};
-ghost use Rattle.pages.specs.Bytes.{count_of};
+ghost use Rattle.std.specs.Prelude.{◌≡◌, true, false, ◌+◌, ◌≤◌, ◌<◌, cond, length, set, replicate, option_map, Some, None, option_copied, get_or, take, drop, MatchOption};
+ghost use Rattle.pages.specs.Bytes.{count_of, eqs};
 ghost use Rattle.pages.specs.Quant.{any_to};
 ghost use Rattle.chains.specs.Last.{last_below};
 ghost use Rattle.chains.specs.Prints.{print_of};
@@ -27,6 +27,7 @@ pub fn symbol_index(s: Symbol) -> usize
 pub const NAMES: usize = 256;
 
 // Whether s is the number of a name, where the first `used` numbers are in use.
+#[tactic(auto, unfolding(crate::specs::Calls::is_used))]
 pub fn is_used(used: usize, s: usize) -> bool
     ensures { result ≡ is_used used s }
 {
@@ -54,42 +55,40 @@ fn is_name_byte(b: u8) -> bool
 }
 
 // Whether the bytes are those of a name.
-#[tactic(auto, using(pages::proofs::Quant::all_none, pages::proofs::Quant::all_more, pages::proofs::Quant::all_failed), unfolding(crate::specs::Table::well_named))]
+#[tactic(auto, unfolding(crate::specs::Table::well_named))]
 pub fn is_name(name: &[u8]) -> bool
     ensures { result ≡ well_named name.now }
 {
-    if name.is_empty() {
-        return false;
-    }
-    if name.len() > NAME_BYTES {
-        return false;
-    }
-    if is_digit(name[0]) {
-        return false;
-    }
-    for b in name {
-        if !is_name_byte(*b) {
-            return false;
-        }
-    }
-    true
+    (1..=NAME_BYTES).contains(&name.len())
+        && !is_digit(name[0])
+        && name.iter().all(|b| is_name_byte(*b))
 }
 
-// The number of a name among the first n, or n.
-fn find(page: &[u8], n: usize, name: &[u8]) -> usize
+// The number of a name among the first n.
+fn find(page: &[u8], n: usize, name: &[u8]) -> Option<usize>
     requires { offset page.now n ≤ length page.now }
-    ensures { result ≡ number_of page.now n name.now }
+    ensures { MatchOption result (number_of page.now n name.now ≡ n) (λ k. (k < n) × (k ≡ number_of page.now n name.now)) }
 {
     let mut at: usize = pages::COUNT_BYTES;
     for i in 0..n {
         let start = at + 1;
         let end = start + index(page[at]);
         if pages::same(&page[start..end], name) {
-            return i;
+            return Some(i);
         }
         at = end;
     }
-    n
+    None
+}
+
+// Whether the name whose length byte stands at an index is this one.
+fn is_name_at(page: &[u8], at: usize, name: &[u8]) -> bool
+    requires { at + 1 + get_or page.now at 0 ≤ length page.now }
+    ensures { result ≡ eqs (take (get_or page.now at 0) (drop (at + 1) page.now)) name.now }
+{
+    let start = at + 1;
+    let end = start + index(page[at]);
+    pages::same(&page[start..end], name)
 }
 
 // Whether a name is among the first n, where `head` is one more than the last of them with its print, or 0.
@@ -104,18 +103,7 @@ fn is_among(
     requires { Chained page.now n offsets.now links.now × (head ≡ last_below (print_at page.now) n (print_of name.now)) }
     ensures { result ≡ any_to n (named page.now name.now) }
 {
-    let mut next = head;
-    while next > 0 {
-        let k = next - 1;
-        let at = offsets[k];
-        let start = at + 1;
-        let end = start + index(page[at]);
-        if pages::same(&page[start..end], name) {
-            return true;
-        }
-        next = pages::word_index(links[k]);
-    }
-    false
+    chains::any_linked(&links[..n], head, |k| is_name_at(page, offsets[k], name))
 }
 
 // Whether the page is a names table in form. Each name is compared with those before it that have its print.
@@ -157,26 +145,28 @@ pub fn is_formed(page: &[u8]) -> bool
     pages::zeros_from(page, at)
 }
 
-// Whether a names page that is lent breaks its form. Where `lent` is false the page is not looked at.
-pub fn is_broken(names: &[u8], lent: bool) -> bool
-    ensures { result ≡ lent_broken names.now lent }
+// Whether a names page that is lent breaks its form.
+#[tactic(auto, unfolding(crate::specs::Calls::lent_broken))]
+pub fn is_broken(names: Option<&[u8]>) -> bool
+    ensures { result ≡ lent_broken (option_copied names.entry) }
 {
-    if lent {
-        return !is_formed(names);
+    match names {
+        Some(page) => !is_formed(page),
+        None => false,
     }
-    false
 }
 
 // How many name numbers are in use: those of the lent table or, where none is lent, every number that a table can have. For crates
 // above, whose entry calls ask `is_broken` first.
-pub fn in_use(names: &[u8], lent: bool) -> usize
-    requires { lent_broken names.now lent ≡ false }
-    ensures { (result ≡ used_of names.now lent) × (result ≤ names_max) }
+#[tactic(auto, using(crate::proofs::Calls::lent_form), unfolding(crate::specs::Calls::lent_broken, crate::specs::Calls::used_of))]
+pub fn in_use(names: Option<&[u8]>) -> usize
+    requires { lent_broken (option_copied names) ≡ false }
+    ensures { (result ≡ used_of (option_copied names.entry)) × (result ≤ names_max) }
 {
-    if lent {
-        return pages::count(names);
+    match names {
+        Some(page) => pages::count(page),
+        None => NAMES,
     }
-    NAMES
 }
 
 // Where the length byte of name n stands, or the first free byte where n names are all.
@@ -191,15 +181,42 @@ fn offset_of(page: &[u8], n: usize) -> usize
     at
 }
 
-// The bytes of a name in use, of a table that an entry call found in form (`read_name` tests both).
-pub fn name_of(page: &[u8], k: usize) -> &[u8]
-    requires { (formed page.now ≡ true) × (k < count_of page.now) }
-    ensures { (result.now ≡ name_at page.now k) × (1 ≤ length result.now) × (length result.now ≤ name_max) }
-{
-    let at = offset_of(page, k);
-    let start = at + 1;
-    let end = start + index(page[at]);
-    &page[start..end]
+// A table of names in form.
+#[derive(Clone, Copy)]
+pub struct Names<'a> {
+    pub page: &'a [u8],
+    pub ghost formed: { formed page.now ≡ true },
+}
+
+impl<'a> Names<'a> {
+    // The table that a page is, if it is in form.
+    pub fn of(page: &'a [u8]) -> Option<Names<'a>>
+        ensures { option_map (λ t. t.page.now) result ≡ cond (formed page.now) (Some page.now) None }
+    {
+        if is_formed(page) {
+            return Some(Names { page });
+        }
+        None
+    }
+
+    // How many names there are.
+    #[tactic(auto, using(crate::proofs::Calls::form))]
+    pub fn count(self) -> usize
+        ensures { (result ≡ count_of self.entry.page.now) × (result ≤ names_max) }
+    {
+        pages::count(self.page)
+    }
+
+    // The bytes of a name in use.
+    pub fn name_of(self, k: usize) -> &'a [u8]
+        requires { k < count_of self.page.now }
+        ensures { (result.now ≡ name_at self.entry.page.now k) × (1 ≤ length result.now) × (length result.now ≤ name_max) }
+    {
+        let at = offset_of(self.page, k);
+        let start = at + 1;
+        let end = start + index(self.page[at]);
+        &self.page[start..end]
+    }
 }
 
 // Adds a name to a table that an entry call found in form (`add_name` tests it), where there can be `limit` names.
@@ -209,8 +226,7 @@ pub fn insert_name(page: &mut [u8], limit: usize, name: &[u8]) -> Result<usize, 
 {
     if is_name(name) {
         let n = pages::count(page);
-        let k = find(page, n, name);
-        if k < n {
+        if let Some(k) = find(page, n, name) {
             return Ok(k);
         }
         if n >= limit {
@@ -262,23 +278,18 @@ pub fn find_name(page: &[u8], name: &[u8]) -> Result<Option<usize>, Refusal>
     if !is_name(name) {
         return Err(Refusal::Malformed);
     }
-    let n = pages::count(page);
-    let k = find(page, n, name);
-    if k < n {
-        return Ok(Some(k));
-    }
-    Ok(None)
+    Ok(find(page, pages::count(page), name))
 }
 
 // The name with number k.
 pub fn read_name(page: &[u8], k: usize) -> Result<Name, Refusal>
     ensures { result ≡ read_answer page.now k }
 {
-    if !is_formed(page) {
+    let Some(names) = Names::of(page) else {
         return Err(Refusal::Broken);
-    }
-    if !is_used(pages::count(page), k) {
+    };
+    if !is_used(names.count(), k) {
         return Err(Refusal::Unused);
     }
-    Ok(Padded::of(name_of(page, k)))
+    Ok(Padded::of(names.name_of(k)))
 }

@@ -1,10 +1,11 @@
 -- The rule of the table of operators, proved once over the table. Assumes nothing.
 use mathlib.Core.Path.{◌≡◌, refl, ap, ◌∙◌}
-use mathlib.Core.Bool.{true}
+use mathlib.Core.Bool.{true, false}
 use mathlib.Core.List.{List, [], ◌∷◌}
 use Prim.Native.Nat.{ℕ, zero, suc, ◌+◌, ◌-◌, ◌<◌, ◌≤◌}
 use native.Mathlib.Nat.{add-zero, add-suc, suc-add, le_of_suc-le-suc, not-suc-le-zero}
 use native.Mathlib.Omega.{arith}
+use borrow.Author.Rules.{rules}
 use borrow.Author.Tests.{leb-true}
 use lib.Dec.{leb}
 use lib.ListN.{length, get_or}
@@ -55,3 +56,8 @@ row_of_operator op d h =
     let listed : Follows 1 rows = (refl, (refl, (refl, (refl, (refl, (refl, (refl, (refl, (refl, (refl, (refl, (refl, (refl, tt))))))))))))) in
     let again : 1 + (op - 1) ≡ op = omega (arith, p.0) in
     row_at rows d 1 (op - 1) listed below ∙ ap row_of again
+
+-- and any other number that of the operators that are not binary
+pub row_of_other : (op : ℕ) → is_operator op ≡ false → row NotBinary Ignored Nothing ≡ row_of op
+unfolding class_of unit_rule result_rule
+row_of_other op h = search rules

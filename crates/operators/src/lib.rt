@@ -1,9 +1,9 @@
 // Operators on plain types (document 01, "Answers"; operators/mod.rs, binary.rs and unary.rs of the source).
 #![tactic(auto)]
 
-ghost use Rattle.std.specs.Prelude.{◌≡◌, true, ◌<◌};
+ghost use Rattle.std.specs.Prelude.{◌≡◌, true, ◌<◌, cond, Some, None};
 ghost use Rattle.operators.specs.Operators.{is_operator, row_of, family_of, is_number, class_takes, rule_looks, rule_gives, taker_of};
-ghost use Rattle.operators.specs.Outcome.{count_of, first_of, second_of, failing_of, left_of, right_of, no_error, some_fail, outcome, number_of, passes, not_bools, class_misfit, plain_binary, unary_reason, plain_unary};
+ghost use Rattle.operators.specs.Outcome.{count_of, first_of, second_of, failing_of, left_of, right_of, no_error, some_fail, outcome, number_of, is_known, passes, not_bools, class_misfit, plain_binary, unary_reason, plain_unary};
 
 use kinds::{CENUM, INT, Kind, RECORD};
 use matching::Checked;
@@ -235,20 +235,26 @@ pub fn unknown(errors: Errors) -> Outcome
     }
 }
 
-// Whether an outcome is a Known type without an error.
-pub fn does_pass(o: Outcome) -> bool
-    ensures { result ≡ passes o }
-{
-    matches!((o.checked, o.errors), (Checked::Known(_), Errors::None))
-}
-
-// The number of a Known type, 0 where it is none.
-pub fn number_of(c: Checked) -> usize
-    ensures { result ≡ number_of c }
+// The number of a Known type, if one is known.
+pub fn number_of(c: Checked) -> Option<usize>
+    ensures { result ≡ cond (is_known c) (Some (number_of c)) None }
 {
     match c {
-        Checked::Known(t) => t,
-        _ => 0,
+        Checked::Known(t) => Some(t),
+        Checked::Unknown | Checked::Function(_) => None,
+    }
+}
+
+impl Outcome {
+    // The type that a check passes with: a Known one, without an error.
+    #[tactic(auto, unfolding(crate::specs::Outcome::passes))]
+    pub fn passed(self) -> Option<usize>
+        ensures { result ≡ cond (passes self) (Some (number_of self.checked)) None }
+    {
+        match self.errors {
+            Errors::None => number_of(self.checked),
+            _ => None,
+        }
     }
 }
 
@@ -259,15 +265,16 @@ pub fn is_operator(op: usize) -> bool
     matches!(op, 1..=OPERATORS)
 }
 
-// The row of an operator.
+// The row of an operator; a number that is no operator's code has that of the operators that are not binary.
+#[tactic(auto, using(crate::proofs::Table::row_of_other))]
 pub fn row_of(op: usize) -> Row
-    requires { is_operator op ≡ true }
     ensures { result ≡ row_of op }
 {
-    ROWS[op - 1]
+    if is_operator(op) { ROWS[op - 1] } else { UNARY }
 }
 
 // A kind's family.
+#[tactic(auto, unfolding(crate::specs::Operators::family_of))]
 pub fn family_of(k: Kind) -> Kind
     ensures { result ≡ family_of k }
 {
@@ -286,6 +293,7 @@ fn is_number(k: Kind) -> bool
 }
 
 // An error for each side that is no Bool, of `and` and `or`.
+#[tactic(auto, unfolding(crate::specs::Outcome::not_bools))]
 fn not_bools(f: Kind, g: Kind) -> Errors
     ensures { result ≡ not_bools f g }
 {
@@ -332,7 +340,7 @@ impl Row {
         }
     }
 
-    // What it answers with an error; the operands are of one family, which it takes, or not.
+    // What it answers with an error. `suit` is a finding of the caller's: the operands are of one family, which it takes.
     fn misfit(self, suit: bool, f: Kind, g: Kind) -> Outcome
         ensures { result ≡ class_misfit self.class suit (rule_gives self.result f) (not_bools f g) }
     {
@@ -347,8 +355,8 @@ impl Row {
 }
 
 // A binary operator's own rule on two families; the operands' units clash or not.
+#[tactic(auto, unfolding(crate::specs::Outcome::plain_binary, crate::specs::Outcome::misfit, crate::specs::Operators::fits, crate::specs::Operators::suits, crate::specs::Operators::takes, crate::specs::Operators::looks, crate::specs::Operators::gives))]
 pub fn plain_binary(op: usize, clash: bool, f: Kind, g: Kind) -> Outcome
-    requires { is_operator op ≡ true }
     ensures { result ≡ plain_binary op clash f g }
 {
     let row = row_of(op);
@@ -362,6 +370,7 @@ pub fn plain_binary(op: usize, clash: bool, f: Kind, g: Kind) -> Outcome
 
 // The operator with one operand that takes a kind; 0 for none and no Option, as the leaves of unions are told apart by this number or by
 // a family's alike.
+#[tactic(auto, unfolding(crate::specs::Operators::taker_of))]
 pub fn taker_of(k: Kind) -> usize
     ensures { result ≡ taker_of k }
 {
@@ -373,6 +382,7 @@ pub fn taker_of(k: Kind) -> usize
 }
 
 // Why an operator does not take a kind as its one operand.
+#[tactic(auto, unfolding(crate::specs::Outcome::unary_reason))]
 fn unary_reason(op: usize, k: Kind) -> Reason
     ensures { result ≡ unary_reason op k }
 {
@@ -384,8 +394,8 @@ fn unary_reason(op: usize, k: Kind) -> Reason
 }
 
 // An operator's own rule on one operand.
+#[tactic(auto, unfolding(crate::specs::Outcome::plain_unary))]
 pub fn plain_unary(op: usize, k: Kind) -> Outcome
-    requires { 0 < op }
     ensures { result ≡ plain_unary op k }
 {
     if taker_of(k) == op {

@@ -3,13 +3,12 @@
 
 ghost use Rattle.std.specs.Prelude.{◌≡◌, true, List, ◌++◌, ◌+◌, ◌≤◌, ◌<◌};
 ghost use Rattle.pages.specs.Bytes.{count_of};
-ghost use Rattle.names.specs.Table.{formed};
 ghost use Rattle.names.specs.Calls.{is_used};
 ghost use Rattle.units.specs.Unit.{places_max, Term, term, in_use};
 ghost use Rattle.units.specs.Calls.{terms_of, unit_of, terms_from};
 ghost use Rattle.order.specs.Order.{place, by_name};
 
-use names::{Symbol, name_of, symbol_index};
+use names::{Names, Symbol, symbol_index};
 use units::{Unit, with_term};
 
 // The unit v with the terms of w from place j on at its end.
@@ -25,15 +24,15 @@ fn with_rest(v: Unit, w: Unit, j: usize) -> Unit
 }
 
 // The unit w, in order of names, with one term more at its place.
-fn placed(page: &[u8], w: Unit, s: Symbol, e: i16) -> Unit
-    requires { (formed page.now ≡ true) × (w.count < places_max) × (is_used (count_of page.now) s ≡ true) × (in_use (count_of page.now) (terms_of w) ≡ true) }
-    ensures { result ≡ unit_of (place page.now (term s e) (terms_of w)) }
+fn placed(names: Names, w: Unit, s: Symbol, e: i16) -> Unit
+    requires { (w.count < places_max) × (is_used (count_of names.page.now) s ≡ true) × (in_use (count_of names.page.now) (terms_of w) ≡ true) }
+    ensures { result ≡ unit_of (place names.entry.page.now (term s e) (terms_of w)) }
 {
-    let name = name_of(page, symbol_index(s));
+    let name = names.name_of(symbol_index(s));
     let mut v = units::dimensionless();
     for j in 0..w.count {
         let t = w.symbols[j];
-        if name.cmp(&name_of(page, symbol_index(t))).is_lt() {
+        if name.cmp(&names.name_of(symbol_index(t))).is_lt() {
             return with_rest(with_term(v, s, e), w, j);
         }
         v = with_term(v, t, w.exponents[j]);
@@ -42,13 +41,13 @@ fn placed(page: &[u8], w: Unit, s: Symbol, e: i16) -> Unit
 }
 
 // The unit's terms in byte order of their names, for crates above (`unit_text` tests what it asks).
-pub fn by_name(page: &[u8], u: Unit) -> Unit
-    requires { (formed page.now ≡ true) × (u.count ≤ places_max) × (in_use (count_of page.now) (terms_of u) ≡ true) }
-    ensures { result ≡ unit_of (by_name page.now (terms_of u)) }
+pub fn by_name(names: Names, u: Unit) -> Unit
+    requires { (u.count ≤ places_max) × (in_use (count_of names.page.now) (terms_of u) ≡ true) }
+    ensures { result ≡ unit_of (by_name names.entry.page.now (terms_of u)) }
 {
     let mut w = units::dimensionless();
     for i in 0..u.count {
-        w = placed(page, w, u.symbols[i], u.exponents[i]);
+        w = placed(names, w, u.symbols[i], u.exponents[i]);
     }
     w
 }

@@ -6,3 +6,4 @@ pub mod Put
 pub mod Words
 pub mod Pad
 pub mod Low
+pub mod Options

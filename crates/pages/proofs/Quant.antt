@@ -1,11 +1,18 @@
 -- Tests over the numbers below n: what a loop over the numbers needs of them. Assumes nothing.
 use Prim.Native.Nat.{ℕ, zero, suc, ◌+◌, ◌<◌, ◌≤◌}
-use mathlib.Core.Bool.{Bool, true, false, cond, ◌&&◌, and-eq-true_iff}
-use mathlib.Core.Path.{◌≡◌, refl, ap, ◌∙◌}
+use mathlib.Core.Bool.{Bool, true, false, cond, not, ◌&&◌, and-eq-true_iff}
+use mathlib.Core.Path.{◌≡◌, refl, sym, ap, ap₂, ◌∙◌}
+use mathlib.Core.List.{List, [], ◌∷◌}
 use mathlib.Core.Logic.{⊎_elim}
 use native.Mathlib.Numerals.{add-one}
 use native.Mathlib.Omega.{arith}
 use native.Mathlib.Nat.{not-suc-le-zero, le_of_suc-le-suc, eq-or-lt_of_le}
+use lib.ListN.{length, take, get_or}
+use lib.Dec.{ltb}
+use lib.Seq.{length-take-le}
+use borrow.Author.Tests.{ltb-true, ltb-false}
+use Rattle.std.specs.Prelude.{Option, Some, None, MatchOption}
+use Rattle.std.specs.List.{list_all, position_or_len}
 use Rattle.pages.specs.Quant.{any_to, all_to, first_to}
 
 pub any_none : (p : ℕ → Bool) → any_to 0 p ≡ false
@@ -48,7 +55,7 @@ all_failed p (suc n) i h k =
     (λ (l : i < n). rw (all_failed p n i l k) refl)
     (eq-or-lt_of_le (le_of_suc-le-suc h))
 
-or_false : (a b : Bool) → cond a true b ≡ false → (a ≡ false) × (b ≡ false)
+pub or_false : (a b : Bool) → cond a true b ≡ false → (a ≡ false) × (b ≡ false)
 or_false true b h = absurd (let z : ◌≡◌ {A = ℕ} 0 1 = cc in omega arith)
 or_false false b h = (refl, h)
 
@@ -154,3 +161,66 @@ first_missed p n h = go (any_to n p) refl
     go : (a : Bool) → any_to n p ≡ a → a ≡ false
     go true e = absurd (omega (arith, first_below p n e))
     go false e = refl
+
+-- a test of the first k elements of a list, number by number
+pub all_taken : {A : Type 0} (p : A → Bool) (d : A) (k : ℕ) (xs : List A) → k ≤ length xs → list_all p (take k xs) ≡ all_to k (λ i. p (get_or xs i d))
+unfolding all_to
+all_taken p d zero xs h = refl
+all_taken p d (suc k) [] h = absurd (omega (arith, h))
+all_taken p d (suc k) (x ∷ xs) h = ap (λ b. p x && b) (all_taken p d k xs (omega (arith, h))) ∙ sym (all_front k (λ i. p (get_or (x ∷ xs) i d)))
+
+-- a test of all elements
+pub all_listed : {A : Type 0} (p : A → Bool) (d : A) (xs : List A) → list_all p xs ≡ all_to (length xs) (λ i. p (get_or xs i d))
+unfolding all_to
+all_listed p d [] = refl
+all_listed p d (x ∷ xs) = ap (λ b. p x && b) (all_listed p d xs) ∙ sym (all_front (length xs) (λ i. p (get_or (x ∷ xs) i d)))
+
+any_front : (n : ℕ) (p : ℕ → Bool) → any_to (suc n) p ≡ cond (p 0) true (any_to n (λ i. p (suc i)))
+unfolding any_to
+any_front zero p = go (p 0)
+  where
+    go : (b : Bool) → b ≡ cond b true false
+    go true = refl
+    go false = refl
+any_front (suc n) p = ap (λ (b : Bool). cond b true (p (suc n))) (any_front n p) ∙ go (p 0) (any_to n (λ i. p (suc i))) (p (suc n))
+  where
+    go : (a b x : Bool) → cond (cond a true b) true x ≡ cond a true (cond b true x)
+    go true b x = refl
+    go false b x = refl
+
+first_front : (n : ℕ) (p : ℕ → Bool) → first_to (suc n) p ≡ cond (p 0) 0 (suc (first_to n (λ i. p (suc i))))
+unfolding any_to first_to
+first_front zero p = refl
+first_front (suc n) p =
+    ap₂ (λ (b : Bool) (f : ℕ). cond b f (cond (p (suc n)) (suc n) (suc (suc n)))) (any_front n p) (first_front n p)
+    ∙ go (p 0) (any_to n (λ i. p (suc i))) (p (suc n)) (first_to n (λ i. p (suc i)))
+  where
+    go : (a b x : Bool) (f : ℕ) → cond (cond a true b) (cond a 0 (suc f)) (cond x (suc n) (suc (suc n))) ≡ cond a 0 (suc (cond b f (cond x n (suc n))))
+    go true b x f = refl
+    go false true x f = refl
+    go false false true f = refl
+    go false false false f = refl
+
+-- the first of the first k elements of a list that passes
+pub first_taken : {A : Type 0} (p : A → Bool) (d : A) (k : ℕ) (xs : List A) → k ≤ length xs → position_or_len p (take k xs) ≡ first_to k (λ i. p (get_or xs i d))
+unfolding first_to
+first_taken p d zero xs h = refl
+first_taken p d (suc k) [] h = absurd (omega (arith, h))
+first_taken p d (suc k) (x ∷ xs) h = go (p x) _ _ (first_taken p d k xs (omega (arith, h))) ∙ sym (first_front k (λ i. p (get_or (x ∷ xs) i d)))
+  where
+    go : (b : Bool) (m n : ℕ) → m ≡ n → cond (not b) (1 + m) 0 ≡ cond b 0 (suc n)
+    go true m n e = refl
+    go false m n e = omega (arith, e)
+
+-- what a search among the first k elements finds
+pub found_taken : {A : Type 0} (p : A → Bool) (d : A) (k : ℕ) (xs : List A) (r : Option ℕ) → k ≤ length xs
+    → r ≡ cond (ltb (position_or_len p (take k xs)) (length (take k xs))) (Some (position_or_len p (take k xs))) None
+    → MatchOption r (first_to k (λ i. p (get_or xs i d)) ≡ k) (λ i. (i < k) × (i ≡ first_to k (λ i. p (get_or xs i d))))
+found_taken p d k xs r h e = rw (e, first_taken p d k xs h, length-take-le k xs h) (go (first_to k (λ i. p (get_or xs i d))) (first_le (λ i. p (get_or xs i d)) k))
+  where
+    go : (f : ℕ) → f ≤ k → MatchOption (cond (ltb f k) (Some f) None) (f ≡ k) (λ i. (i < k) × (i ≡ f))
+    go f l = by (ltb f k) refl
+      where
+        by : (b : Bool) → ltb f k ≡ b → MatchOption (cond b (Some f) None) (f ≡ k) (λ i. (i < k) × (i ≡ f))
+        by true t = (ltb-true f k t, refl)
+        by false t = omega (arith, l, ltb-false f k t)

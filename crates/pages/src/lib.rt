@@ -154,7 +154,7 @@ pub fn read_bytes(page: &[u8], at: usize, numbers: &mut [u16])
     }
 }
 
-// Bytes by value: they stand from place 0 on, zeros after them, and `size` is how many they are.
+// Bytes by value, with nothing on a heap: they stand from place 0 on, zeros after them, and `size` is how many they are.
 #[derive(Clone, Copy)]
 pub struct Padded<const N: usize> {
     pub size: usize,

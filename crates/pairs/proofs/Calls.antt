@@ -1,10 +1,12 @@
 -- What the calls on a page of pairs come to, one law for each return. Assumes nothing.
+use Rattle.std.specs.Prelude.{Option}
 use Rattle.std.proofs.Common.{Some, None, Ok, Err}
 use mathlib.Core.Path.{◌≡◌, refl, sym, ◌∙◌, ap, subst}
 use mathlib.Core.Bool.{Bool, true, false, not, cond}
 use mathlib.Core.List.{List, [], ◌∷◌}
 use Prim.Native.Nat.{ℕ, ◌+◌, ◌-◌, ◌*◌, ◌<◌, ◌≤◌}
 use native.Mathlib.Omega.{arith}
+use native.Mathlib.Nat.{le_refl}
 use lib.Dec.{T, leb, ltb}
 use lib.ListN.{length, take, drop, replicate}
 use borrow.Author.Tests.{lt-ltb, le-ltb, leb-false, not-false}
@@ -13,9 +15,10 @@ use Rattle.refusals.specs.declared.Refusal.{Refusal}
 use Rattle.refusals.specs.declared.Refusal.TheVariants.{Broken, Unused, Full}
 use Rattle.refusals.specs.Numbers.{Verdict}
 use Rattle.refusals.proofs.Lowest.{first_holds, passed_parts, answer_of_ok, answer_of_err}
-use Rattle.pages.specs.Quant.{first_to}
+use Rattle.pages.specs.Quant.{any_to}
 use Rattle.pages.specs.Bytes.{count_bytes, count_of, put}
 use Rattle.pages.proofs.Pad.{length_pad}
+use Rattle.pages.proofs.Quant.{first_none, first_at}
 use Rattle.names.specs.Table.{names_max}
 use Rattle.names.specs.Calls.{lent_broken, used_of, is_used}
 use Rattle.names.proofs.Used.{used_below}
@@ -23,7 +26,7 @@ use Rattle.groups.specs.Groups.{pair, selves, walk, root_of, Below}
 use Rattle.pairs.specs.Table.{pairs_max, pair_bytes, both_used, insert_verdict, with_pair, insertion, after_insertion}
 use Rattle.pairs.specs.Table as tables
 use Rattle.pairs.specs.Page.{parents_at, size_of, bodies_in, parents_in, table_in, listed_in, holds, formed, with_table}
-use Rattle.pairs.specs.Calls.{table_broken, empty_verdict, empty_page, pair_verdict, page_after, symbol_verdict, root_answer, is_of, factor_of, factor_answer}
+use Rattle.pairs.specs.Calls.{table_broken, empty_verdict, empty_page, pair_verdict, page_after, symbol_verdict, root_answer, is_of, factor_of, first_factor, factor_answer}
 use Rattle.pairs.specs.declared.ConversionTable.{ConversionTable}
 use Rattle.pairs.proofs.Table.{length_pairs, Form, form}
 use Rattle.pairs.proofs.Page.{form_held, form_unheld, formed_parts, count_in}
@@ -42,23 +45,23 @@ module _ (page : List ℕ) where
 
 -- ---- names and table
 
-module _ (page names : List ℕ) (lent : Bool) where
-  pub broken_names : lent_broken names lent ≡ true → true ≡ table_broken page names lent
+module _ (page : List ℕ) (names : Option (List ℕ)) where
+  pub broken_names : lent_broken names ≡ true → true ≡ table_broken page names
   unfolding table_broken
   broken_names l = rw l
 
-  pub broken_rest : lent_broken names lent ≡ false → not (formed page (used_of names lent)) ≡ table_broken page names lent
+  pub broken_rest : lent_broken names ≡ false → not (formed page (used_of names)) ≡ table_broken page names
   unfolding table_broken
   broken_rest l = rw l
 
   -- where neither breaks its form
-  pub unbroken : table_broken page names lent ≡ false → (lent_broken names lent ≡ false) × (formed page (used_of names lent) ≡ true)
+  pub unbroken : table_broken page names ≡ false → (lent_broken names ≡ false) × (formed page (used_of names) ≡ true)
   unfolding table_broken
-  unbroken e = go (lent_broken names lent) refl
+  unbroken e = go (lent_broken names) refl
     where
-      go : (b : Bool) → lent_broken names lent ≡ b → (b ≡ false) × (formed page (used_of names lent) ≡ true)
+      go : (b : Bool) → lent_broken names ≡ b → (b ≡ false) × (formed page (used_of names) ≡ true)
       go true l = let z : ◌≡◌ {A = Bool} true false = rw l at e in absurd (subst T z tt)
-      go false l = (refl, not-false (formed page (used_of names lent)) (rw l at e))
+      go false l = (refl, not-false (formed page (used_of names)) (rw l at e))
 
 -- ---- insertion
 
@@ -100,59 +103,59 @@ insert_form t n s b v =
     let y = passed_parts Unused (not (both_used n (pair s b))) ((Full when leb pairs_max t.count) ∷ []) x.1 in
     (form t n (not-false (tables.formed t n) x.0), not-false (both_used n (pair s b)) y.0)
 
-module _ (page names : List ℕ) (lent : Bool) (s f b : ℕ) where
-  refused : (r : Refusal) → pair_verdict page names lent (pair s b) ≡ Err r → (Err r ≡ pair_verdict page names lent (pair s b))
-      × (page ≡ page_after page names lent s f b)
+module _ (page : List ℕ) (names : Option (List ℕ)) (s f b : ℕ) where
+  refused : (r : Refusal) → pair_verdict page names (pair s b) ≡ Err r → (Err r ≡ pair_verdict page names (pair s b))
+      × (page ≡ page_after page names s f b)
   unfolding page_after
   refused r v = (sym v, rw v)
 
-  pub pair_broken : table_broken page names lent ≡ true → (Err Broken ≡ pair_verdict page names lent (pair s b)) × (page ≡ page_after page names lent s f b)
+  pub pair_broken : table_broken page names ≡ true → (Err Broken ≡ pair_verdict page names (pair s b)) × (page ≡ page_after page names s f b)
   unfolding pair_verdict
   pair_broken t = refused Broken v
     where
-      v : pair_verdict page names lent (pair s b) ≡ Err Broken
+      v : pair_verdict page names (pair s b) ≡ Err Broken
       v =
-          rw t (first_holds Broken ((Unused when not (both_used (used_of names lent) (pair s b))) ∷ (Full when leb pairs_max (count_of page)) ∷ (Full when ltb (length page) (size_of (count_of page + 1))) ∷ []) refl)
+          rw t (first_holds Broken ((Unused when not (both_used (used_of names) (pair s b))) ∷ (Full when leb pairs_max (count_of page)) ∷ (Full when ltb (length page) (size_of (count_of page + 1))) ∷ []) refl)
 
-  pub pair_unnamed : lent_broken names lent ≡ true → (Err Broken ≡ pair_verdict page names lent (pair s b)) × (page ≡ page_after page names lent s f b)
-  pair_unnamed l = pair_broken (sym (broken_names page names lent l))
+  pub pair_unnamed : lent_broken names ≡ true → (Err Broken ≡ pair_verdict page names (pair s b)) × (page ≡ page_after page names s f b)
+  pair_unnamed l = pair_broken (sym (broken_names page names l))
 
-  module _ (l : lent_broken names lent ≡ false) where
-    pub pair_unheld : holds page ≡ false → (Err Broken ≡ pair_verdict page names lent (pair s b)) × (page ≡ page_after page names lent s f b)
-    pair_unheld h = pair_broken (sym (broken_rest page names lent l) ∙ rw (← form_unheld page (used_of names lent) h))
+  module _ (l : lent_broken names ≡ false) where
+    pub pair_unheld : holds page ≡ false → (Err Broken ≡ pair_verdict page names (pair s b)) × (page ≡ page_after page names s f b)
+    pair_unheld h = pair_broken (sym (broken_rest page names l) ∙ rw (← form_unheld page (used_of names) h))
 
     module _ (h : holds page ≡ true) where
       -- the verdict is that of the insertion by value, or the page has no room
-      by_value : pair_verdict page names lent (pair s b) ≡ roomed (insert_verdict (table_in page) (used_of names lent) (pair s b))
+      by_value : pair_verdict page names (pair s b) ≡ roomed (insert_verdict (table_in page) (used_of names) (pair s b))
           (ltb (length page) (size_of (count_of page + 1)))
       unfolding pair_verdict insert_verdict table_in
       by_value =
-          rw (← broken_rest page names lent l, ← form_held page (used_of names lent) h)
-          (lowest_room (not (tables.formed (table_in page) (used_of names lent))) (not (both_used (used_of names lent) (pair s b))) (leb pairs_max (count_of page)) (ltb (length page) (size_of (count_of page + 1))))
+          rw (← broken_rest page names l, ← form_held page (used_of names) h)
+          (lowest_room (not (tables.formed (table_in page) (used_of names))) (not (both_used (used_of names) (pair s b))) (leb pairs_max (count_of page)) (ltb (length page) (size_of (count_of page + 1))))
 
       -- where the page has room for one more pair, it is that of the insertion by value of the page's table
       pub page_verdict : size_of (count_of page + 1) ≤ length page
-          → pair_verdict page names lent (pair s b) ≡ insert_verdict (table_in page) (used_of names lent) (pair s b)
-      page_verdict room = by_value ∙ rw (le-ltb (length page) (size_of (count_of page + 1)) room) (roomy (insert_verdict (table_in page) (used_of names lent) (pair s b)))
+          → pair_verdict page names (pair s b) ≡ insert_verdict (table_in page) (used_of names) (pair s b)
+      page_verdict room = by_value ∙ rw (le-ltb (length page) (size_of (count_of page + 1)) room) (roomy (insert_verdict (table_in page) (used_of names) (pair s b)))
 
-      pub pair_refused : (r : Refusal) → Err r ≡ insertion (table_in page) (used_of names lent) s f b
-          → (Err r ≡ pair_verdict page names lent (pair s b)) × (page ≡ page_after page names lent s f b)
+      pub pair_refused : (r : Refusal) → Err r ≡ insertion (table_in page) (used_of names) s f b
+          → (Err r ≡ pair_verdict page names (pair s b)) × (page ≡ page_after page names s f b)
       unfolding roomed insertion
       pair_refused r e =
-          let w = answer_of_err (insert_verdict (table_in page) (used_of names lent) (pair s b)) (with_pair (table_in page) s f b) r e in
+          let w = answer_of_err (insert_verdict (table_in page) (used_of names) (pair s b)) (with_pair (table_in page) s f b) r e in
           refused r (by_value ∙ rw w)
 
-      module _ (o : ConversionTable) (is : Ok o ≡ insertion (table_in page) (used_of names lent) s f b) where
-        was : insert_verdict (table_in page) (used_of names lent) (pair s b) ≡ Ok tt
+      module _ (o : ConversionTable) (is : Ok o ≡ insertion (table_in page) (used_of names) s f b) where
+        was : insert_verdict (table_in page) (used_of names) (pair s b) ≡ Ok tt
         unfolding insertion
-        was = (answer_of_ok (insert_verdict (table_in page) (used_of names lent) (pair s b)) (with_pair (table_in page) s f b) o is).0
+        was = (answer_of_ok (insert_verdict (table_in page) (used_of names) (pair s b)) (with_pair (table_in page) s f b) o is).0
 
         pub pair_few : count_of page < pairs_max
-        pair_few = rw (count_in page (used_of names lent)) at (insert_count (table_in page) (used_of names lent) s f b was).0
+        pair_few = rw (count_in page (used_of names)) at (insert_count (table_in page) (used_of names) s f b was).0
 
         pub table_grown : o ≡ with_pair (table_in page) s f b
         unfolding insertion
-        table_grown = (answer_of_ok (insert_verdict (table_in page) (used_of names lent) (pair s b)) (with_pair (table_in page) s f b) o is).1
+        table_grown = (answer_of_ok (insert_verdict (table_in page) (used_of names) (pair s b)) (with_pair (table_in page) s f b) o is).1
 
         pub count_grown : o.count ≡ count_of page + 1
         unfolding with_pair table_in
@@ -161,62 +164,70 @@ module _ (page names : List ℕ) (lent : Bool) (s f b : ℕ) where
         -- its parents are symbols that a page can hold
         pub grown_below : Below names_max o.parents
         grown_below =
-            let n = used_of names lent in
+            let n = used_of names in
             let k = insert_form (table_in page) n s b was in
             let sized : length (table_in page).pairs ≡ pair_bytes * pairs_max = unfold table_in in (length_pad (pair_bytes * pairs_max) 0 (bodies_in page)) in
             let few : (table_in page).count < pairs_max = (insert_count (table_in page) n s f b was).0 in
             subst (λ (t : ConversionTable). Below names_max t.parents) (sym table_grown)
             (form_below (with_pair (table_in page) s f b) n (form_more (table_in page) s f b sized few n k.0 k.1))
 
-        pub pair_cramped : length page < size_of o.count → (Err Full ≡ pair_verdict page names lent (pair s b))
-            × (page ≡ page_after page names lent s f b)
+        pub pair_cramped : length page < size_of o.count → (Err Full ≡ pair_verdict page names (pair s b))
+            × (page ≡ page_after page names s f b)
         unfolding roomed
         pair_cramped k =
             let m : length page < size_of (count_of page + 1) = rw count_grown at k in
             refused Full (by_value ∙ rw (was, lt-ltb (length page) (size_of (count_of page + 1)) m))
 
-        pub pair_done : size_of o.count ≤ length page → (Ok tt ≡ pair_verdict page names lent (pair s b))
-            × (with_table page o ≡ page_after page names lent s f b)
+        pub pair_done : size_of o.count ≤ length page → (Ok tt ≡ pair_verdict page names (pair s b))
+            × (with_table page o ≡ page_after page names s f b)
         unfolding roomed page_after
         pair_done k =
             let m : size_of (count_of page + 1) ≤ length page = rw count_grown at k in
-            let v : pair_verdict page names lent (pair s b) ≡ (Ok tt) = by_value ∙ rw (was, le-ltb (length page) (size_of (count_of page + 1)) m) in
+            let v : pair_verdict page names (pair s b) ≡ (Ok tt) = by_value ∙ rw (was, le-ltb (length page) (size_of (count_of page + 1)) m) in
             (sym v, rw (v, table_grown))
 
 -- ---- looking up a symbol
 
-module _ (page names : List ℕ) (lent : Bool) (s : ℕ) where
-  pub symbol_broken : table_broken page names lent ≡ true → Err Broken ≡ symbol_verdict page names lent s
+module _ (page : List ℕ) (names : Option (List ℕ)) (s : ℕ) where
+  pub symbol_broken : table_broken page names ≡ true → Err Broken ≡ symbol_verdict page names s
   unfolding symbol_verdict
-  symbol_broken t = sym (rw t (first_holds Broken ((Unused when not (is_used (used_of names lent) s)) ∷ []) refl))
+  symbol_broken t = sym (rw t (first_holds Broken ((Unused when not (is_used (used_of names) s)) ∷ []) refl))
 
-  module _ (t : table_broken page names lent ≡ false) where
-    pub symbol_unused : is_used (used_of names lent) s ≡ false → Err Unused ≡ symbol_verdict page names lent s
+  module _ (t : table_broken page names ≡ false) where
+    pub symbol_unused : is_used (used_of names) s ≡ false → Err Unused ≡ symbol_verdict page names s
     unfolding symbol_verdict
     symbol_unused h = rw (t, h)
 
-    pub symbol_used_lem : is_used (used_of names lent) s ≡ true → Ok tt ≡ symbol_verdict page names lent s
+    pub symbol_used_lem : is_used (used_of names) s ≡ true → Ok tt ≡ symbol_verdict page names s
     unfolding symbol_verdict
     symbol_used_lem h = rw (t, h)
 
   -- a symbol that is looked up is looked up in a page in form
-  pub passed_formed : Ok tt ≡ symbol_verdict page names lent s → formed page (used_of names lent) ≡ true
+  pub passed_formed : Ok tt ≡ symbol_verdict page names s → formed page (used_of names) ≡ true
   unfolding symbol_verdict
-  passed_formed v = (unbroken page names lent (passed_parts Broken (table_broken page names lent) ((Unused when not (is_used (used_of names lent) s)) ∷ []) (sym v)).0).1
+  passed_formed v = (unbroken page names (passed_parts Broken (table_broken page names) ((Unused when not (is_used (used_of names) s)) ∷ []) (sym v)).0).1
 
 -- it is the number of a name
-pub symbol_below : (page names : List ℕ) (lent : Bool) (s : ℕ) → symbol_verdict page names lent s ≡ Ok tt → s < names_max
+pub symbol_below : (page : List ℕ) (names : Option (List ℕ)) (s : ℕ) → symbol_verdict page names s ≡ Ok tt → s < names_max
 unfolding symbol_verdict
-symbol_below page names lent s v =
-    let x = passed_parts Broken (table_broken page names lent) ((Unused when not (is_used (used_of names lent) s)) ∷ []) v in
-    let y = passed_parts Unused (not (is_used (used_of names lent) s)) [] x.1 in
-    (used_below (used_of names lent) s (not-false (is_used (used_of names lent) s) y.0)).1
+symbol_below page names s v =
+    let x = passed_parts Broken (table_broken page names) ((Unused when not (is_used (used_of names) s)) ∷ []) v in
+    let y = passed_parts Unused (not (is_used (used_of names) s)) [] x.1 in
+    (used_below (used_of names) s (not-false (is_used (used_of names) s) y.0)).1
 
 -- the bytes of the pairs, as a part of the page
 pub bodies_read : (page : List ℕ) (k at : ℕ) → k ≡ count_of page → at ≡ parents_at k → take (at - count_bytes) (drop count_bytes page) ≡ bodies_in page
 bodies_read page k at e is =
     let x : at - count_bytes ≡ pair_bytes * count_of page = omega arith in
     ap (λ (j : ℕ). take j (drop count_bytes page)) x
+
+-- of k pairs, that of the first with the symbol, and none where no pair has it
+module _ (bodies : List ℕ) (k s : ℕ) where
+  pub factor_found : (i : ℕ) → i < k → any_to i (is_of bodies s) ≡ false → is_of bodies s i ≡ true → Some (factor_of bodies i) ≡ first_factor bodies k s
+  factor_found i h n e = rw (first_at (is_of bodies s) k i h n e, lt-ltb i k h)
+
+  pub factor_absent : any_to k (is_of bodies s) ≡ false → None ≡ first_factor bodies k s
+  factor_absent n = rw (first_none (is_of bodies s) k n, le-ltb k k (le_refl k))
 
 -- the parents that stand in a page in form are those that its pairs give
 pub root_in : (page : List ℕ) (n k s : ℕ) → formed page n ≡ true → k ≡ count_of page → walk k (parents_in page) s ≡ root_of names_max (listed_in page) s
@@ -226,28 +237,19 @@ root_in page n k s e is =
     let l = length_pairs (table_in page).pairs (count_of page) in
     rw (l, is) (ap (λ (p : List ℕ). walk (count_of page) p s) f.given)
 
-module _ (page names : List ℕ) (lent : Bool) (s : ℕ) where
-  pub root_refused : (r : Refusal) → Err r ≡ symbol_verdict page names lent s → Err r ≡ root_answer page names lent s
+module _ (page : List ℕ) (names : Option (List ℕ)) (s : ℕ) where
+  pub root_refused : (r : Refusal) → Err r ≡ symbol_verdict page names s → Err r ≡ root_answer page names s
   unfolding root_answer
   root_refused r v = rw (← v)
 
-  pub root_given : Ok tt ≡ symbol_verdict page names lent s → (x : ℕ) → x ≡ root_of names_max (listed_in page) s → Ok x ≡ root_answer page names lent s
+  pub root_given : Ok tt ≡ symbol_verdict page names s → (x : ℕ) → x ≡ root_of names_max (listed_in page) s → Ok x ≡ root_answer page names s
   unfolding root_answer
   root_given v x e = rw (← v, e)
 
-  pub factor_refused : (r : Refusal) → Err r ≡ symbol_verdict page names lent s → Err r ≡ factor_answer page names lent s
+  pub factor_refused : (r : Refusal) → Err r ≡ symbol_verdict page names s → Err r ≡ factor_answer page names s
   unfolding factor_answer
   factor_refused r v = rw (← v)
 
-  module _ (v : Ok tt ≡ symbol_verdict page names lent s) (k : ℕ) (is : k ≡ count_of page) (i : ℕ) (at : i ≡ first_to k (is_of (bodies_in page) s)) where
-    pub factor_found : i < k → Ok (Some (factor_of (bodies_in page) i)) ≡ factor_answer page names lent s
-    unfolding factor_answer
-    factor_found h =
-        let e : i ≡ first_to (count_of page) (is_of (bodies_in page) s) = at ∙ rw is in
-        rw (← v, ← e, lt-ltb i (count_of page) (rw is at h))
-
-    pub factor_absent : k ≤ i → Ok None ≡ factor_answer page names lent s
-    unfolding factor_answer
-    factor_absent h =
-        let e : i ≡ first_to (count_of page) (is_of (bodies_in page) s) = at ∙ rw is in
-        rw (← v, ← e, le-ltb i (count_of page) (rw is at h))
+  pub factor_given : Ok tt ≡ symbol_verdict page names s → (k : ℕ) → k ≡ count_of page → Ok (first_factor (bodies_in page) k s) ≡ factor_answer page names s
+  unfolding factor_answer
+  factor_given v k is = rw (← v, is)

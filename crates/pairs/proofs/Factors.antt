@@ -88,7 +88,7 @@ module _ (l m : List ℕ) (k s : ℕ) (agree : (i : ℕ) → i < pair_bytes * k 
 
 module _ (page : List ℕ) (r : Request) (e : accepts page r ≡ true) where
   n : ℕ
-  n = used_of r.names r.lent
+  n = used_of r.names
 
   g : formed page n ≡ true
   unfolding n
@@ -96,7 +96,7 @@ module _ (page : List ℕ) (r : Request) (e : accepts page r ≡ true) where
 
   lends : UsesAtMost n r
   unfolding n
-  lends named = le_refl (used_of r.names r.lent)
+  lends named = le_refl (used_of r.names)
 
   size : length (bodies_in page) ≡ pair_bytes * count_of page
   size = simp (length-take, length-drop) (omega (arith, (formed_held page n g).room))

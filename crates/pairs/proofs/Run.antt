@@ -1,6 +1,7 @@
 -- After any list of insertions, refused ones among them, into any table in form: the table is in form, it lists the pairs of the
 -- start and then the accepted ones, and its groups are theirs. Of a table by value, each insertion saying at most 256
 -- names in use (`table_groups`), and in a page (`page_groups`). Assumes nothing.
+use Rattle.std.specs.Prelude.{Option}
 use Rattle.std.proofs.Common.{Result, Ok}
 use Rattle.refusals.specs.declared.Refusal.{Refusal}
 use mathlib.Core.Path.{◌≡◌, refl, sym, ◌∙◌, ap, subst}
@@ -127,40 +128,40 @@ form_all page n few e =
 page_stays : (page : List ℕ) (r : Request) → accepts page r ≡ false → after page r ≡ page
 unfolding page_after
 page_stays page r e =
-    sym (kept (pair_verdict page r.names r.lent (asked r)) (with_table page (with_pair (table_in page) r.symbol r.factor r.base)) page (not-false (is_err (pair_verdict page r.names r.lent (asked r))) e))
+    sym (kept (pair_verdict page r.names (asked r)) (with_table page (with_pair (table_in page) r.symbol r.factor r.base)) page (not-false (is_err (pair_verdict page r.names (asked r))) e))
 
 -- what holds where no refusal applies
 record Taken (page : List ℕ) (r : Request) : Type 0 where
   few : count_of page < pairs_max
   room : size_of (count_of page + 1) ≤ length page
-  named : lent_broken r.names r.lent ≡ false
-  form! : formed page (used_of r.names r.lent) ≡ true
-  used : both_used (used_of r.names r.lent) (asked r) ≡ true
+  named : lent_broken r.names ≡ false
+  form! : formed page (used_of r.names) ≡ true
+  used : both_used (used_of r.names) (asked r) ≡ true
   done : after page r ≡ with_table page (with_pair (table_in page) r.symbol r.factor r.base)
 
 taken : (page : List ℕ) (r : Request) → accepts page r ≡ true → Taken page r
 unfolding pair_verdict page_after
 taken page r e =
-    let n = used_of r.names r.lent in
-    let v : pair_verdict page r.names r.lent (asked r) ≡ (Ok tt) =
-    passed_is (pair_verdict page r.names r.lent (asked r)) (not-true (is_err (pair_verdict page r.names r.lent (asked r))) e) in
+    let n = used_of r.names in
+    let v : pair_verdict page r.names (asked r) ≡ (Ok tt) =
+    passed_is (pair_verdict page r.names (asked r)) (not-true (is_err (pair_verdict page r.names (asked r))) e) in
     let last = (Full when ltb (length page) (size_of (count_of page + 1))) ∷ [] in
     let x =
-    passed_parts Broken (table_broken page r.names r.lent) ((Unused when not (both_used n (asked r))) ∷ (Full when leb pairs_max (count_of page)) ∷ last) v in
+    passed_parts Broken (table_broken page r.names) ((Unused when not (both_used n (asked r))) ∷ (Full when leb pairs_max (count_of page)) ∷ last) v in
     let y = passed_parts Unused (not (both_used n (asked r))) ((Full when leb pairs_max (count_of page)) ∷ last) x.1 in
     let z = passed_parts Full (leb pairs_max (count_of page)) last y.1 in
     let o = passed_parts Full (ltb (length page) (size_of (count_of page + 1))) [] z.1 in
     record {
       few = leb-false pairs_max (count_of page) z.0;
       room = ltb-false (length page) (size_of (count_of page + 1)) o.0;
-      named = (unbroken page r.names r.lent x.0).0;
-      form! = (unbroken page r.names r.lent x.0).1;
+      named = (unbroken page r.names x.0).0;
+      form! = (unbroken page r.names x.0).1;
       used = not-false (both_used n (asked r)) y.0;
       done = rw v;
     }
 
 -- what is accepted is accepted into a page in form
-pub accepted_formed : (page : List ℕ) (r : Request) → accepts page r ≡ true → formed page (used_of r.names r.lent) ≡ true
+pub accepted_formed : (page : List ℕ) (r : Request) → accepts page r ≡ true → formed page (used_of r.names) ≡ true
 accepted_formed page r e = (taken page r e).form!
 
 -- zeros behind a table are zeros behind one of one pair more
@@ -193,7 +194,7 @@ module _ (page : List ℕ) (r : Request) (n : ℕ) (g : formed page n ≡ true) 
   unfolding grown
   grown_form =
       form_more (table_in page) r.symbol r.factor r.base sized few n (formed_parts page n g).1
-      (more_used (used_of r.names r.lent) n (asked r) (lends k.named) k.used)
+      (more_used (used_of r.names) n (asked r) (lends k.named) k.used)
 
   grown_sized : length grown.pairs ≡ pair_bytes * pairs_max
   unfolding grown
@@ -241,7 +242,7 @@ module _ (n : ℕ) (rs : List Request) (page : List ℕ) (g : formed page n ≡ 
 -- no request has more names than there can be
 pub all_lend : (rs : List Request) → Every (UsesAtMost names_max) rs
 all_lend [] = tt
-all_lend (r ∷ rs) = (used_few r.names r.lent, all_lend rs)
+all_lend (r ∷ rs) = (used_few r.names, all_lend rs)
 
 pub page_within : (page : List ℕ) (n : ℕ) → formed page n ≡ true → Within n (listed_in page)
 page_within page n g = form_within (table_in page) n (formed_parts page n g).1
@@ -278,12 +279,12 @@ root_inside : {x y : ℕ} → ◌≡◌ {A = Result ℕ Refusal} (Ok x) (Ok y) �
 root_inside e = cc
 
 -- two symbols that are not refused have one root exactly if they are in one group of the accepted pairs
-pub run_roots : (rs : List Request) (page names : List ℕ) (lent : Bool) (a b : ℕ) → formed page names_max ≡ true
-    → symbol_verdict (page_after_all page rs) names lent a ≡ Ok tt → symbol_verdict (page_after_all page rs) names lent b ≡ Ok tt
-    → (root_answer (page_after_all page rs) names lent a ≡ root_answer (page_after_all page rs) names lent b) ↔ Joined (accepted_pairs page rs) a b
+pub run_roots : (rs : List Request) (page : List ℕ) (names : Option (List ℕ)) (a b : ℕ) → formed page names_max ≡ true
+    → symbol_verdict (page_after_all page rs) names a ≡ Ok tt → symbol_verdict (page_after_all page rs) names b ≡ Ok tt
+    → (root_answer (page_after_all page rs) names a ≡ root_answer (page_after_all page rs) names b) ↔ Joined (accepted_pairs page rs) a b
 unfolding root_answer
-run_roots rs page names lent a b g va vb =
+run_roots rs page names a b g va vb =
     let end = page_after_all page rs in
-    let below : (s : ℕ) → symbol_verdict end names lent s ≡ Ok tt → s < names_max = λ s v. symbol_below end names lent s v in
+    let below : (s : ℕ) → symbol_verdict end names s ≡ Ok tt → s < names_max = λ s v. symbol_below end names s v in
     let law = page_groups rs page g a b (below a va) (below b vb) in
     rw (va, vb) (λ e. law.0 (root_inside e), λ j. ap Ok (law.1 j))

@@ -1,5 +1,4 @@
 -- What the calls on a page of pairs answer, and leave in the page (document 01, "Units and pairs" and the table of refusals).
--- Names are lent where `lent` is true.
 use Rattle.refusals.specs.declared.Refusal.{Refusal}
 use Rattle.std.specs.Prelude.{Bool, ◌||◌, not, cond, List, [], ◌∷◌, ℕ, ◌+◌, ◌*◌, ltb, leb, eqb, length, replicate, Option, Some, None, Result}
 use Rattle.refusals.specs.Lowest.{◌when◌, lowest, unless_refused, answer_of}
@@ -15,8 +14,8 @@ use Rattle.pairs.specs.Page.{size_of, bodies_in, table_in, listed_in, formed, wi
 use Rattle.pairs.specs.declared.Factor.{Factor}
 
 -- do the names that are lent, or the table, break their form
-unfoldable pub table_broken : List ℕ → List ℕ → Bool → Bool
-table_broken page names lent = lent_broken names lent || not (formed page (used_of names lent))
+unfoldable pub table_broken : List ℕ → Option (List ℕ) → Bool
+table_broken page names = lent_broken names || not (formed page (used_of names))
 
 -- ---- making a table
 
@@ -31,28 +30,28 @@ empty_page page = unless_refused (empty_verdict page) (put (replicate (length pa
 -- ---- insertion
 
 -- why a pair is refused, if it is: 2 the names or the table, 3 a symbol not in use, 10 a 513th pair or a page without room
-unfoldable pub pair_verdict : List ℕ → List ℕ → Bool → Pair → Verdict
-pair_verdict page names lent q =
+unfoldable pub pair_verdict : List ℕ → Option (List ℕ) → Pair → Verdict
+pair_verdict page names q =
     lowest
-    ((Broken when table_broken page names lent)
-    ∷ (Unused when not (both_used (used_of names lent) q))
+    ((Broken when table_broken page names)
+    ∷ (Unused when not (both_used (used_of names) q))
     ∷ (Full when leb pairs_max (count_of page))
     ∷ (Full when ltb (length page) (size_of (count_of page + 1)))
     ∷ [])
 
 -- the page afterwards: the table with one more pair, or as it was where the insertion is refused
-unfoldable pub page_after : List ℕ → List ℕ → Bool → ℕ → ℕ → ℕ → List ℕ
-page_after page names lent s f b = unless_refused (pair_verdict page names lent (pair s b)) (with_table page (with_pair (table_in page) s f b)) page
+unfoldable pub page_after : List ℕ → Option (List ℕ) → ℕ → ℕ → ℕ → List ℕ
+page_after page names s f b = unless_refused (pair_verdict page names (pair s b)) (with_table page (with_pair (table_in page) s f b)) page
 
 -- ---- looking up a symbol
 
 -- why it is refused, if it is: 2 the names or the table, 3 the symbol is not in use
-unfoldable pub symbol_verdict : List ℕ → List ℕ → Bool → ℕ → Verdict
-symbol_verdict page names lent s = lowest ((Broken when table_broken page names lent) ∷ (Unused when not (is_used (used_of names lent) s)) ∷ [])
+unfoldable pub symbol_verdict : List ℕ → Option (List ℕ) → ℕ → Verdict
+symbol_verdict page names s = lowest ((Broken when table_broken page names) ∷ (Unused when not (is_used (used_of names) s)) ∷ [])
 
 -- the root of a symbol (`canonical`)
-unfoldable pub root_answer : List ℕ → List ℕ → Bool → ℕ → Result ℕ Refusal
-root_answer page names lent s = answer_of (symbol_verdict page names lent s) (root_of names_max (listed_in page) s)
+unfoldable pub root_answer : List ℕ → Option (List ℕ) → ℕ → Result ℕ Refusal
+root_answer page names s = answer_of (symbol_verdict page names s) (root_of names_max (listed_in page) s)
 
 -- has pair i of bodies this symbol
 abbrev pub is_of : List ℕ → ℕ → ℕ → Bool
@@ -71,5 +70,5 @@ abbrev pub factor_in : List ℕ → ℕ → Option Factor
 factor_in page s = first_factor (bodies_in page) (count_of page) s
 
 -- a symbol's first factor, if a pair has the symbol
-unfoldable pub factor_answer : List ℕ → List ℕ → Bool → ℕ → Result (Option Factor) Refusal
-factor_answer page names lent s = answer_of (symbol_verdict page names lent s) (factor_in page s)
+unfoldable pub factor_answer : List ℕ → Option (List ℕ) → ℕ → Result (Option Factor) Refusal
+factor_answer page names s = answer_of (symbol_verdict page names s) (factor_in page s)

@@ -1,5 +1,5 @@
 -- Lists of insertions, "refused ones included", each into the table "as the last one left it" (document 01, "Formulas and sheets").
-use Rattle.std.specs.Prelude.{◌≡◌, Bool, false, not, cond, List, [], ◌∷◌, ◌++◌, ℕ, ◌≤◌, is_err}
+use Rattle.std.specs.Prelude.{◌≡◌, Bool, false, not, cond, List, [], ◌∷◌, ◌++◌, ℕ, ◌≤◌, Option, is_err}
 use Rattle.names.specs.Calls.{lent_broken, used_of}
 use Rattle.groups.specs.Groups.{Pair, pair}
 use Rattle.pairs.specs.Table.{body_of, listed, insert_verdict, after_insertion}
@@ -21,10 +21,9 @@ taken_by after accepts adds t (r ∷ rs) = cond (accepts t r) (adds r) [] ++ tak
 
 -- ---- a page
 
--- a request for an insertion, with names lent or not
+-- a request for an insertion, with names or none
 pub record Request : Type 0 where
-  pub names : List ℕ
-  pub lent : Bool
+  pub names : Option (List ℕ)
   pub symbol : ℕ
   pub factor : ℕ
   pub base : ℕ
@@ -39,15 +38,15 @@ body_asked r = body_of r.symbol r.factor r.base
 
 -- the request has at most n numbers in use, if its names are in form; without names that is every number that a table can have
 abbrev pub UsesAtMost : ℕ → Request → Type 0
-UsesAtMost n r = lent_broken r.names r.lent ≡ false → used_of r.names r.lent ≤ n
+UsesAtMost n r = lent_broken r.names ≡ false → used_of r.names ≤ n
 
 -- does no refusal apply
 abbrev pub accepts : List ℕ → Request → Bool
-accepts page r = not (is_err (pair_verdict page r.names r.lent (asked r)))
+accepts page r = not (is_err (pair_verdict page r.names (asked r)))
 
 -- the page after one request
 abbrev pub after : List ℕ → Request → List ℕ
-after page r = page_after page r.names r.lent r.symbol r.factor r.base
+after page r = page_after page r.names r.symbol r.factor r.base
 
 -- the page after a list of requests
 abbrev pub page_after_all : List ℕ → List Request → List ℕ

@@ -2,14 +2,14 @@
 // source's units.rs).
 #![tactic(auto)]
 
-ghost use Rattle.std.specs.Prelude.{◌≡◌, true, ◌+◌, ◌*◌, ◌≤◌, ◌<◌, length, get_or, replicate};
-ghost use Rattle.pages.specs.Quant.{all_to, first_to};
+ghost use Rattle.std.specs.Prelude.{◌≡◌, true, ◌+◌, ◌*◌, ◌≤◌, ◌<◌, length, get_or, replicate, option_copied};
+ghost use Rattle.pages.specs.Quant.{all_to};
 ghost use Rattle.names.specs.Table.{names_max};
 ghost use Rattle.groups.specs.Groups.{pair, parents_of, Below};
 ghost use Rattle.pairs.specs.Table.{pairs_max, pair_bytes, pairs_in, fresh_table, both_used, used_at, insert_verdict, insertion, after_insertion, with_pair};
 ghost use Rattle.pairs.specs.Table as tables;
 ghost use Rattle.pairs.specs.Page.{parents_at, size_of, parents_in, table_in, holds, Held, formed, with_table};
-ghost use Rattle.pairs.specs.Calls.{table_broken, empty_verdict, empty_page, pair_verdict, page_after, symbol_verdict, root_answer, is_of, factor_answer};
+ghost use Rattle.pairs.specs.Calls.{table_broken, empty_verdict, empty_page, pair_verdict, page_after, symbol_verdict, root_answer, first_factor, factor_answer};
 
 use groups::Parents;
 use names::{NAMES, Symbol, symbol_index};
@@ -31,7 +31,8 @@ pub const PAIR_BYTES: usize = FACTOR_AT + pages::LONG_BYTES;
 // The bytes of the pairs, one after another.
 pub type Bodies = [u8; PAIR_BYTES * PAIRS];
 
-// In form, the pairs stand at the first `count` places, and the parents of all symbols are as they give them.
+// In form, the pairs stand at the first `count` places, and the parents of all symbols are as they give them. Arrays in a value, with a
+// count, are document 01's form for the source's maps.
 #[derive(Clone, Copy)]
 pub struct ConversionTable {
     pub count: usize,
@@ -290,24 +291,23 @@ pub fn empty_pairs(page: &mut [u8]) -> Result<(), Refusal>
     Ok(())
 }
 
-// The insertion, in the lent page. Names are looked at where `lent` is true.
+// The insertion, in the lent page.
 pub fn insert_pair(
     page: &mut [u8],
-    names: &[u8],
-    lent: bool,
+    names: Option<&[u8]>,
     symbol: Symbol,
     factor: u64,
     base: Symbol,
 ) -> Result<(), Refusal>
-    ensures { (result ≡ pair_verdict page.old names.now lent (pair symbol base)) × (page.new ≡ page_after page.old names.now lent symbol factor base) }
+    ensures { (result ≡ pair_verdict page.old (option_copied names.entry) (pair symbol base)) × (page.new ≡ page_after page.old (option_copied names.entry) symbol factor base) }
 {
-    if names::is_broken(names, lent) {
+    if names::is_broken(names) {
         return Err(Refusal::Broken);
     }
     if !holds_table(page) {
         return Err(Refusal::Broken);
     }
-    let n = names::in_use(names, lent);
+    let n = names::in_use(names);
     let mut t = table_in(page);
     insert(&mut t, n, symbol, factor, base)?;
     if page.len() < size_of(t.count) {
@@ -318,69 +318,64 @@ pub fn insert_pair(
 }
 
 // Whether the names that are lent, or the table, break their form, for crates above.
-pub fn is_broken(page: &[u8], names: &[u8], lent: bool) -> bool
-    ensures { result ≡ table_broken page.now names.now lent }
+pub fn is_broken(page: &[u8], names: Option<&[u8]>) -> bool
+    ensures { result ≡ table_broken page.now (option_copied names.entry) }
 {
-    if names::is_broken(names, lent) {
+    if names::is_broken(names) {
         return true;
     }
-    !is_formed(page, names::in_use(names, lent))
+    !is_formed(page, names::in_use(names))
 }
 
 // Whether a symbol can be looked up in a page of pairs.
-fn symbol_verdict(page: &[u8], names: &[u8], lent: bool, symbol: Symbol) -> Result<(), Refusal>
-    ensures { result ≡ symbol_verdict page.now names.now lent symbol }
+fn symbol_verdict(page: &[u8], names: Option<&[u8]>, symbol: Symbol) -> Result<(), Refusal>
+    ensures { result ≡ symbol_verdict page.now (option_copied names.entry) symbol }
 {
-    if is_broken(page, names, lent) {
+    if is_broken(page, names) {
         return Err(Refusal::Broken);
     }
-    if !names::is_used(names::in_use(names, lent), symbol_index(symbol)) {
+    if !names::is_used(names::in_use(names), symbol_index(symbol)) {
         return Err(Refusal::Unused);
     }
     Ok(())
 }
 
 // The root of a symbol: `canonical` of the source.
-pub fn canonical(page: &[u8], names: &[u8], lent: bool, symbol: Symbol) -> Result<Symbol, Refusal>
-    ensures { result ≡ root_answer page.now names.now lent symbol }
+pub fn canonical(page: &[u8], names: Option<&[u8]>, symbol: Symbol) -> Result<Symbol, Refusal>
+    ensures { result ≡ root_answer page.now (option_copied names.entry) symbol }
 {
-    symbol_verdict(page, names, lent, symbol)?;
+    symbol_verdict(page, names, symbol)?;
     let parents = parents_of(page);
     Ok(groups::root(&parents, pages::count(page), symbol))
 }
 
-// The first of k pairs that has the symbol, or k.
-fn find_symbol(bodies: &[u8], k: usize, symbol: Symbol) -> usize
+// The factor of the first of k pairs that has the symbol, with its base.
+fn factor_in(bodies: &[u8], k: usize, symbol: Symbol) -> Option<Factor>
     requires { pair_bytes * k ≤ length bodies.now }
-    ensures { result ≡ first_to k (is_of bodies.now symbol) }
+    ensures { result ≡ first_factor bodies.now k symbol }
 {
     for i in 0..k {
-        if symbol_at(bodies, PAIR_BYTES * i) == symbol {
-            return i;
+        let at = PAIR_BYTES * i;
+        if symbol_at(bodies, at) == symbol {
+            return Some(Factor {
+                factor: pages::long(bodies, at + FACTOR_AT),
+                base: symbol_at(bodies, at + BASE_AT),
+            });
         }
     }
-    k
+    None
 }
 
 // The first factor of a symbol, with its base, if a pair has the symbol.
 pub fn first_factor(
     page: &[u8],
-    names: &[u8],
-    lent: bool,
+    names: Option<&[u8]>,
     symbol: Symbol,
 ) -> Result<Option<Factor>, Refusal>
-    ensures { result ≡ factor_answer page.now names.now lent symbol }
+    ensures { result ≡ factor_answer page.now (option_copied names.entry) symbol }
 {
-    symbol_verdict(page, names, lent, symbol)?;
+    symbol_verdict(page, names, symbol)?;
     let k = pages::count(page);
     let bodies = &page[COUNT_BYTES..parents_at(k)];
-    let i = find_symbol(bodies, k, symbol);
-    if i < k {
-        let at = PAIR_BYTES * i;
-        return Ok(Some(Factor {
-            factor: pages::long(bodies, at + FACTOR_AT),
-            base: symbol_at(bodies, at + BASE_AT),
-        }));
-    }
-    Ok(None)
+    Ok(factor_in(bodies, k, symbol))
 }

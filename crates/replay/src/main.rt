@@ -2,646 +2,363 @@
 // and what they answer is compared with what the oracle answered.
 #![tactic(auto)]
 
-ghost use Rattle.std.specs.Prelude.{◌≡◌, ◌+◌, ◌*◌, ◌≤◌, ◌<◌, length, replicate, IfOk};
+ghost use Rattle.std.specs.Prelude.{◌≡◌, ◌≤◌, ◌<◌, length, replicate, IfOk};
+ghost use Rattle.std.specs.Iterator.{at_most};
 
 use calls::{ANSWER_BYTES, BINDING_BYTES, TYPE_BYTES};
 use kinds::Kind;
 use names::Symbol;
-use pages::{LONG_BYTES, index, same, word_at};
+use pages::{LONG_BYTES, same, word_at};
+use std::convert::AsSlice;
 use std::io::{self, Read};
+use text::TEXT_BYTES;
 use types::CHILD_BYTES;
+use values::UNIT_BYTES;
 
 // How many bytes the sample has at most.
 const SAMPLE_BYTES: usize = 655360;
 
-// The sample, with zeros after it.
-type Sample = [u8; SAMPLE_BYTES];
-
 // How many bytes a page has at most that a call writes.
 const PAGE_BYTES: usize = 8192;
 
-// How many bytes the base of a pair takes.
-const BASE_BYTES: usize = 1;
-
-// How many bytes a type's name takes, and how many children follow it at most.
-const NAME_BYTES: usize = 1;
-
+// How many children follow a type's name at most.
 const CHILDREN: usize = 32;
 
-// How many bytes the number of a type, of a checked type or of an operator takes.
-const NUMBER_BYTES: usize = 4;
+// The bytes of the first field, which follow its length, and what comes after them; what is cut ends with the slice.
+fn field(s: &[u8]) -> (&[u8], &[u8])
+    ensures { (length result.1.now ≤ length s.now) × (0 < length s.now → length result.1.now < length s.now) }
+{
+    if s.len() < 2 {
+        return (&s[..0], &s[..0]);
+    }
+    let size = word_at(s, 0).min(s.len() - 2);
+    s[2..].split_at(size)
+}
 
-// What no call answers, nor any row says.
-const NO_ANSWER: u32 = 4294967295;
+// The number of a type, of a checked type or of an operator that a field begins with, and the bytes after it.
+fn number_in(field: &[u8]) -> Option<(u32, &[u8])> {
+    let (number, rest) = field.split_first_chunk()?;
+    Some((u32::from_be_bytes(*number), rest))
+}
 
-// A part of a row.
+// Such a number that is the whole field.
+fn number(field: &[u8]) -> Option<u32> {
+    Some(u32::from_be_bytes(field.try_into().ok()?))
+}
+
+// Two such numbers that are the whole field.
+fn two_numbers(field: &[u8]) -> Option<(u32, u32)> {
+    let (a, rest) = number_in(field)?;
+    Some((a, number(rest)?))
+}
+
+// A row: the call, its argument, a page and four more inputs, and the answer, which is the refusal and the value, what the call wrote,
+// and the page afterwards.
 #[derive(Clone, Copy)]
-struct Span {
-    start: usize,
-    end: usize,
-}
-
-// How many rows there were, and how many were answered otherwise.
-#[derive(Clone, Copy)]
-struct Tally {
-    rows: usize,
-    differ: usize,
-}
-
-// The bytes of the field at an index, which follow its length; what is cut ends with the slice.
-fn field(s: &[u8], at: usize) -> Span
-    requires { at ≤ length s.now }
-    ensures { (result.start ≤ result.end) × (result.end ≤ length s.now) × (at < length s.now → at < result.end) }
-{
-    let n = s.len();
-    if n - at < 2 {
-        return Span { start: n, end: n };
-    }
-    let start = at + 2;
-    let size = word_at(s, at);
-    if n - start < size {
-        return Span { start, end: n };
-    }
-    Span {
-        start,
-        end: start + size,
-    }
-}
-
-// The kind that an argument's low byte says.
-fn kind_in(argument: usize) -> Kind {
-    (argument % 256) as u8
-}
-
-// The symbol that it says.
-fn symbol_in(argument: usize) -> Symbol {
-    (argument % 256) as Symbol
-}
-
-// Whether names are lent, which an argument's high byte says.
-fn is_lent(argument: usize) -> bool {
-    argument / 256 == 1
-}
-
-// What insert_pair answers, with the base and the factor's bytes in a field; no answer where the field has another length.
-fn insertion(page: &mut [u8], argument: usize, pair: &[u8], names: &[u8]) -> u32 {
-    if pair.len() != BASE_BYTES + LONG_BYTES {
-        return NO_ANSWER;
-    }
-    let base = index(pair[0]) as Symbol;
-    let factor = pages::long(pair, BASE_BYTES);
-    let lent = is_lent(argument);
-    calls::riddlepoppy_insert_pair(page, names, lent, symbol_in(argument), factor, base)
-}
-
-// The number of a type, of a checked type or of an operator that four bytes from index at on say.
-fn number_at(numbers: &[u8], at: usize) -> u32
-    requires { at + 4 ≤ length numbers.now }
-{
-    (word_at(numbers, at) * 65536 + word_at(numbers, at + 2)) as u32
-}
-
-// Writes down the children that follow a name's number.
-fn put_children(children: &mut [u16], n: usize, body: &[u8])
-    requires { (n ≤ length children.old) × (1 + 2 * n ≤ length body.now) }
-{
-    for i in 0..n {
-        let child = word_at(body, NAME_BYTES + CHILD_BYTES * i);
-        types::set_type(children, i, child);
-    }
-}
-
-// What make_type answers, with the name and the children in a field; no answer where the field has another length.
-fn making(page: &mut [u8], argument: usize, body: &[u8], names: &[u8]) -> u32 {
-    let n = body.len() / CHILD_BYTES;
-    if CHILDREN < n {
-        return NO_ANSWER;
-    }
-    if body.len() != NAME_BYTES + CHILD_BYTES * n {
-        return NO_ANSWER;
-    }
-    let mut children = [0u16; CHILDREN];
-    put_children(&mut children, n, body);
-    let lent = is_lent(argument);
-    let kind = kind_in(argument);
-    let name = index(body[0]) as Symbol;
-    calls::riddlepoppy_make_type(page, names, lent, kind, &children[..n], name)
-}
-
-// What into_const answers, with the number in a field; no answer where the field has another length.
-fn constancy(page: &mut [u8], argument: usize, number: &[u8], names: &[u8]) -> u32 {
-    if number.len() != NUMBER_BYTES {
-        return NO_ANSWER;
-    }
-    calls::riddlepoppy_into_const(page, names, is_lent(argument), number_at(number, 0))
-}
-
-// What substitute answers, with the number and the bindings in a field each; no answer where one has another length.
-fn substitution(
-    page: &mut [u8],
-    argument: usize,
-    number: &[u8],
-    bindings: &[u8],
-    names: &[u8],
-) -> u32 {
-    if number.len() != NUMBER_BYTES {
-        return NO_ANSWER;
-    }
-    if bindings.len() != BINDING_BYTES {
-        return NO_ANSWER;
-    }
-    let mut bytes = [0u8; BINDING_BYTES];
-    pages::put_bytes(&mut bytes, 0, bindings);
-    let lent = is_lent(argument);
-    calls::riddlepoppy_substitute(page, names, lent, number_at(number, 0), &bytes)
-}
-
-// What a call answers that writes the page that it is lent.
-fn written(
+struct Row<'a> {
     call: u8,
-    argument: usize,
-    page: &mut [u8],
-    first: &[u8],
-    second: &[u8],
-    names: &[u8],
-) -> u32 {
-    match call {
-        1 => calls::riddlepoppy_empty_names(page),
-        2 => calls::riddlepoppy_add_name(page, first),
-        10 => calls::riddlepoppy_empty_pairs(page),
-        11 => insertion(page, argument, first, names),
-        16 => calls::riddlepoppy_empty_types(page),
-        17 => making(page, argument, first, names),
-        21 => constancy(page, argument, first, names),
-        _ => substitution(page, argument, first, second, names),
-    }
+    argument: u16,
+    page: &'a [u8],
+    first: &'a [u8],
+    second: &'a [u8],
+    names: &'a [u8],
+    table: &'a [u8],
+    code: u32,
+    out: &'a [u8],
+    after: &'a [u8],
 }
 
-// What check_unary_operator or check_index answers, with two numbers and a unit in a field.
-fn answering(
-    call: u8,
-    argument: usize,
-    page: &mut [u8],
-    body: &[u8],
-    names: &[u8],
-    bytes: &mut [u8; ANSWER_BYTES],
-) -> u32
-    requires { 8 ≤ length body.now }
-{
-    let lent = is_lent(argument);
-    let a = number_at(body, 0);
-    let b = number_at(body, NUMBER_BYTES);
-    let unit = &body[2 * NUMBER_BYTES..];
-    if call == 26 {
-        return calls::riddlepoppy_check_unary_operator(page, names, lent, a, b, unit, bytes);
-    }
-    calls::riddlepoppy_check_index(page, names, lent, a, unit, b, bytes)
-}
-
-fn are_answers(bytes: &[u8; ANSWER_BYTES], out: &[u8]) -> bool {
-    same(bytes, out)
-}
-
-// Whether such a call answers this number, writes these bytes, and leaves the page so.
-fn is_entered_same(
-    call: u8,
-    argument: usize,
-    page: &mut [u8],
-    body: &[u8],
-    names: &[u8],
-    code: usize,
-    out: &[u8],
-    after: &[u8],
-) -> bool {
-    if body.len() < 2 * NUMBER_BYTES {
-        return false;
-    }
-    let mut bytes = [0u8; ANSWER_BYTES];
-    if answering(call, argument, page, body, names, &mut bytes) as usize != code {
-        return false;
-    }
-    if !are_answers(&bytes, out) {
-        return false;
-    }
-    same(page, after)
-}
-
-// Whether a call that writes the page answers this number, writes these bytes if it writes any, and leaves the page so.
-fn is_page_same(
-    call: u8,
-    argument: usize,
-    page: &mut [u8],
-    first: &[u8],
-    second: &[u8],
-    names: &[u8],
-    code: usize,
-    out: &[u8],
-    after: &[u8],
-) -> bool {
-    if 26 <= call {
-        return is_entered_same(call, argument, page, first, names, code, out, after);
-    }
-    if written(call, argument, page, first, second, names) as usize != code {
-        return false;
-    }
-    same(page, after)
-}
-
-// The same on a copy of the row's page.
-fn is_copy_same(
-    call: u8,
-    argument: usize,
-    page: &[u8],
-    first: &[u8],
-    second: &[u8],
-    names: &[u8],
-    code: usize,
-    out: &[u8],
-    after: &[u8],
-) -> bool {
-    let n = page.len();
-    if PAGE_BYTES < n {
-        return false;
-    }
-    let mut copy = [0u8; PAGE_BYTES];
-    pages::put_bytes(&mut copy, 0, page);
-    is_page_same(
+// The row that these bytes say.
+fn row_in(bytes: &[u8]) -> Option<Row<'_>> {
+    let (&[call, high, low], rest) = bytes.split_first_chunk::<3>()?;
+    let (page, rest) = field(rest);
+    let (first, rest) = field(rest);
+    let (second, rest) = field(rest);
+    let (names, rest) = field(rest);
+    let (table, rest) = field(rest);
+    let (&[refusal, upper, lower], rest) = rest.split_first_chunk::<3>()?;
+    let (out, rest) = field(rest);
+    let (after, _) = field(rest);
+    Some(Row {
         call,
-        argument,
-        &mut copy[..n],
-        first,
-        second,
-        names,
-        code,
-        out,
-        after,
-    )
-}
-
-fn is_name(name: &[u8; names::NAME_BYTES], out: &[u8]) -> bool {
-    same(name, out)
-}
-
-fn is_name_same(page: &[u8], k: usize, code: usize, out: &[u8]) -> bool
-    requires { k < 65536 }
-{
-    let mut name = [0u8; names::NAME_BYTES];
-    if calls::riddlepoppy_read_name(page, k as u32, &mut name) as usize != code {
-        return false;
-    }
-    is_name(&name, out)
-}
-
-fn is_unit(unit: &[u8; values::UNIT_BYTES], out: &[u8]) -> bool {
-    same(unit, out)
-}
-
-fn is_product_same(a: &[u8], b: &[u8], quotient: bool, code: usize, out: &[u8]) -> bool {
-    let mut unit = [0u8; values::UNIT_BYTES];
-    if calls::riddlepoppy_product(a, b, quotient, &mut unit) as usize != code {
-        return false;
-    }
-    is_unit(&unit, out)
-}
-
-fn is_text(text: &[u8; text::TEXT_BYTES], out: &[u8]) -> bool {
-    same(text, out)
-}
-
-fn is_text_same(page: &[u8], unit: &[u8], code: usize, out: &[u8]) -> bool {
-    let mut text = [0u8; text::TEXT_BYTES];
-    if calls::riddlepoppy_unit_text(page, unit, &mut text) as usize != code {
-        return false;
-    }
-    is_text(&text, out)
-}
-
-fn is_factor(factor: &[u8; LONG_BYTES], out: &[u8]) -> bool {
-    same(factor, out)
-}
-
-fn is_factor_same(argument: usize, page: &[u8], names: &[u8], code: usize, out: &[u8]) -> bool {
-    let mut factor = [0u8; LONG_BYTES];
-    let lent = is_lent(argument);
-    let symbol = symbol_in(argument);
-    if calls::riddlepoppy_first_factor(page, names, lent, symbol, &mut factor) as usize != code {
-        return false;
-    }
-    is_factor(&factor, out)
-}
-
-fn are_sums_same(
-    argument: usize,
-    page: &[u8],
-    unit: &[u8],
-    names: &[u8],
-    code: usize,
-    out: &[u8],
-) -> bool {
-    let mut sums = [0u8; values::UNIT_BYTES];
-    let lent = is_lent(argument);
-    if calls::riddlepoppy_canonicalize(page, names, lent, unit, &mut sums) as usize != code {
-        return false;
-    }
-    is_unit(&sums, out)
-}
-
-fn is_type(bytes: &[u8; TYPE_BYTES], out: &[u8]) -> bool {
-    same(bytes, out)
-}
-
-fn is_type_same(
-    argument: usize,
-    page: &[u8],
-    number: &[u8],
-    names: &[u8],
-    code: usize,
-    out: &[u8],
-) -> bool {
-    if number.len() != NUMBER_BYTES {
-        return false;
-    }
-    let mut bytes = [0u8; TYPE_BYTES];
-    let lent = is_lent(argument);
-    let t = number_at(number, 0);
-    if calls::riddlepoppy_read_type(page, names, lent, t, &mut bytes) as usize != code {
-        return false;
-    }
-    is_type(&bytes, out)
-}
-
-// What unify or unify_arg answers.
-fn unifying(
-    call: u8,
-    argument: usize,
-    page: &[u8],
-    numbers: &[u8],
-    names: &[u8],
-    bindings: &mut [u8; BINDING_BYTES],
-) -> u32
-    requires { length numbers.now ≡ 8 }
-{
-    let lent = is_lent(argument);
-    let e = number_at(numbers, 0);
-    let a = number_at(numbers, NUMBER_BYTES);
-    if call == 22 {
-        return calls::riddlepoppy_unify(page, names, lent, e, a, bindings);
-    }
-    calls::riddlepoppy_unify_arg(page, names, lent, e, a, bindings)
-}
-
-fn are_bindings(bindings: &[u8; BINDING_BYTES], out: &[u8]) -> bool {
-    same(bindings, out)
-}
-
-fn are_bindings_same(
-    call: u8,
-    argument: usize,
-    page: &[u8],
-    numbers: &[u8],
-    bindings: &[u8],
-    names: &[u8],
-    code: usize,
-    out: &[u8],
-) -> bool {
-    if numbers.len() != 2 * NUMBER_BYTES {
-        return false;
-    }
-    if bindings.len() != BINDING_BYTES {
-        return false;
-    }
-    let mut bytes = [0u8; BINDING_BYTES];
-    pages::put_bytes(&mut bytes, 0, bindings);
-    if unifying(call, argument, page, numbers, names, &mut bytes) as usize != code {
-        return false;
-    }
-    are_bindings(&bytes, out)
-}
-
-// Whether check_binary_operator answers this number and writes these bytes, with three numbers and the left unit in a field.
-fn is_binary_same(
-    argument: usize,
-    page: &[u8],
-    body: &[u8],
-    right: &[u8],
-    names: &[u8],
-    table: &[u8],
-    code: usize,
-    out: &[u8],
-) -> bool {
-    if body.len() < 3 * NUMBER_BYTES {
-        return false;
-    }
-    let mut bytes = [0u8; ANSWER_BYTES];
-    let lent = is_lent(argument);
-    let op = number_at(body, 0);
-    let a = number_at(body, NUMBER_BYTES);
-    let b = number_at(body, 2 * NUMBER_BYTES);
-    let left = &body[3 * NUMBER_BYTES..];
-    if calls::riddlepoppy_check_binary_operator(
-        page, names, lent, table, op, a, left, b, right, &mut bytes,
-    ) as usize
-        != code
-    {
-        return false;
-    }
-    are_answers(&bytes, out)
-}
-
-// What matches answers, with the numbers in a field; no answer where the field has another length.
-fn matching(argument: usize, page: &[u8], numbers: &[u8], names: &[u8]) -> u32 {
-    if numbers.len() != 2 * NUMBER_BYTES {
-        return NO_ANSWER;
-    }
-    let lent = is_lent(argument);
-    let a = number_at(numbers, 0);
-    let e = number_at(numbers, NUMBER_BYTES);
-    calls::riddlepoppy_matches(page, names, lent, a, e)
-}
-
-// What has_generic answers, with the number in a field; no answer where the field has another length.
-fn generic(argument: usize, page: &[u8], number: &[u8], names: &[u8]) -> u32 {
-    if number.len() != NUMBER_BYTES {
-        return NO_ANSWER;
-    }
-    calls::riddlepoppy_has_generic(page, names, is_lent(argument), number_at(number, 0))
-}
-
-// What a call answers that answers a number and writes nothing.
-fn number(
-    call: u8,
-    argument: usize,
-    page: &[u8],
-    first: &[u8],
-    second: &[u8],
-    names: &[u8],
-) -> u32 {
-    let symbol = symbol_in(argument);
-    let lent = is_lent(argument);
-    match call {
-        3 => calls::riddlepoppy_find_name(page, first),
-        5 => calls::riddlepoppy_unit_form(first),
-        7 => calls::riddlepoppy_exponent(first, symbol),
-        8 => calls::riddlepoppy_is_dimensionless(first),
-        12 => calls::riddlepoppy_canonical(page, names, lent, symbol),
-        15 => calls::riddlepoppy_is_convertible_to(page, names, lent, first, second),
-        19 => matching(argument, page, first, names),
-        _ => generic(argument, page, first, names),
-    }
-}
-
-// Whether a call answers this number, writes these bytes, and leaves the page so. No other call than these is in a row.
-fn is_answer(
-    call: u8,
-    argument: usize,
-    page: &[u8],
-    first: &[u8],
-    second: &[u8],
-    names: &[u8],
-    table: &[u8],
-    code: usize,
-    out: &[u8],
-    after: &[u8],
-) -> bool
-    requires { argument < 65536 }
-{
-    match call {
-        1 | 2 | 10 | 11 | 16 | 17 | 21 | 24 | 26 | 27 => {
-            is_copy_same(call, argument, page, first, second, names, code, out, after)
-        }
-        4 => is_name_same(page, argument, code, out),
-        6 => is_product_same(first, second, argument == 1, code, out),
-        9 => is_text_same(page, first, code, out),
-        13 => is_factor_same(argument, page, names, code, out),
-        14 => are_sums_same(argument, page, first, names, code, out),
-        18 => is_type_same(argument, page, first, names, code, out),
-        22 | 23 => are_bindings_same(call, argument, page, first, second, names, code, out),
-        25 => is_binary_same(argument, page, first, second, names, table, code, out),
-        3 | 5 | 7 | 8 | 12 | 15 | 19 | 20 => {
-            number(call, argument, page, first, second, names) as usize == code
-        }
-        _ => false,
-    }
-}
-
-// Whether a call answers what the end of its row says: the refusal, the value, what it wrote, and the page afterwards.
-fn is_answered(
-    call: u8,
-    argument: usize,
-    page: &[u8],
-    first: &[u8],
-    second: &[u8],
-    names: &[u8],
-    table: &[u8],
-    answer: &[u8],
-) -> bool
-    requires { argument < 65536 }
-{
-    if answer.len() < 3 {
-        return false;
-    }
-    let code = index(answer[0]) * 65536 + word_at(answer, 1);
-    let out = field(answer, 3);
-    let start = out.start;
-    let end = out.end;
-    let after = field(answer, end);
-    let from = after.start;
-    let to = after.end;
-    is_answer(
-        call,
-        argument,
+        argument: u16::from_be_bytes([high, low]),
         page,
         first,
         second,
         names,
         table,
-        code,
-        &answer[start..end],
-        &answer[from..to],
-    )
+        code: u32::from_be_bytes([0, refusal, upper, lower]),
+        out,
+        after,
+    })
 }
 
-// The same where the names and the pairs that are lent, and the answer, are still to be read.
-fn is_lent_same(
-    call: u8,
-    argument: usize,
-    page: &[u8],
-    first: &[u8],
-    second: &[u8],
-    rest: &[u8],
-) -> bool
-    requires { argument < 65536 }
-{
-    let names = field(rest, 0);
-    let a = names.start;
-    let b = names.end;
-    let table = field(rest, b);
-    let c = table.start;
-    let d = table.end;
-    is_answered(
-        call,
-        argument,
-        page,
-        first,
-        second,
-        &rest[a..b],
-        &rest[c..d],
-        &rest[d..],
-    )
-}
-
-// The same where the two inputs beside the page are still to be read, too.
-fn is_given_same(call: u8, argument: usize, page: &[u8], rest: &[u8]) -> bool
-    requires { argument < 65536 }
-{
-    let first = field(rest, 0);
-    let a = first.start;
-    let b = first.end;
-    let second = field(rest, b);
-    let c = second.start;
-    let d = second.end;
-    is_lent_same(call, argument, page, &rest[a..b], &rest[c..d], &rest[d..])
-}
-
-// Whether a row's call answers what the row says: the call, its argument, a page and four more inputs, and the answer.
-fn is_same(row: &[u8]) -> bool {
-    if row.len() < 3 {
-        return false;
+impl<'a> Row<'a> {
+    // The kind that the argument's low byte says.
+    fn kind(&self) -> Kind {
+        (self.argument % 256) as Kind
     }
-    let call = row[0];
-    let argument = word_at(row, 1);
-    let page = field(row, 3);
-    let start = page.start;
-    let end = page.end;
-    is_given_same(call, argument, &row[start..end], &row[end..])
-}
 
-// Replays every row.
-fn replayed(sample: &[u8]) -> Tally {
-    let mut rows: usize = 0;
-    let mut differ: usize = 0;
-    let mut at: usize = 0;
-    while at < sample.len() {
-        let row = field(sample, at);
-        let start = row.start;
-        let end = row.end;
-        rows += 1;
-        at = end;
-        if !is_same(&sample[start..end]) {
-            differ += 1;
+    // The symbol that it says.
+    fn symbol(&self) -> Symbol {
+        self.argument % 256
+    }
+
+    // Whether names are lent, which the argument's high byte says.
+    fn lent(&self) -> bool {
+        self.argument / 256 == 1
+    }
+
+    // What a call answers, where what it writes over these bytes is what the row says.
+    fn writes<T: AsSlice<u8> + Copy, F: FnOnce(&mut T) -> Option<u32>>(
+        &self,
+        mut bytes: T,
+        call: F,
+    ) -> Option<u32>
+        requires { F.IsAlwaysCallable call }
+    {
+        let code = call(&mut bytes);
+        if same(bytes.as_slice(), self.out) {
+            code
+        } else {
+            None
         }
     }
-    Tally { rows, differ }
+
+    // What a call answers, where it leaves a copy of the row's page as the row says.
+    fn leaves<F: FnOnce(&mut [u8]) -> Option<u32>>(&self, call: F) -> Option<u32>
+        requires { F.IsAlwaysCallable call }
+    {
+        let mut copy = [0u8; PAGE_BYTES];
+        let page = copy.get_mut(..self.page.len())?;
+        page.copy_from_slice(self.page);
+        let code = call(page);
+        if same(page, self.after) { code } else { None }
+    }
+
+    // The methods below say what the calls of their names answer, or `None` where a field has another length than the call reads.
+    fn read_name(&self) -> Option<u32> {
+        let k = u32::from(self.argument);
+        self.writes([0; names::NAME_BYTES], |name| {
+            Some(calls::riddlepoppy_read_name(self.page, k, name))
+        })
+    }
+
+    fn product(&self) -> Option<u32> {
+        let quotient = self.argument == 1;
+        self.writes([0; UNIT_BYTES], |unit| {
+            Some(calls::riddlepoppy_product(self.first, self.second, quotient, unit))
+        })
+    }
+
+    fn unit_text(&self) -> Option<u32> {
+        self.writes([0; TEXT_BYTES], |text| {
+            Some(calls::riddlepoppy_unit_text(self.page, self.first, text))
+        })
+    }
+
+    // The first field has the base and the factor's bytes.
+    fn insert_pair(&self, page: &mut [u8]) -> Option<u32> {
+        let (base, factor) = self.first.split_first()?;
+        let base = Symbol::from(*base);
+        let factor = u64::from_be_bytes(factor.try_into().ok()?);
+        let lent = self.lent();
+        Some(calls::riddlepoppy_insert_pair(page, self.names, lent, self.symbol(), factor, base))
+    }
+
+    fn canonical(&self) -> Option<u32> {
+        Some(calls::riddlepoppy_canonical(self.page, self.names, self.lent(), self.symbol()))
+    }
+
+    fn first_factor(&self) -> Option<u32> {
+        let (lent, symbol) = (self.lent(), self.symbol());
+        self.writes([0; LONG_BYTES], |factor| {
+            Some(calls::riddlepoppy_first_factor(self.page, self.names, lent, symbol, factor))
+        })
+    }
+
+    fn canonicalize(&self) -> Option<u32> {
+        let lent = self.lent();
+        self.writes([0; UNIT_BYTES], |sums| {
+            Some(calls::riddlepoppy_canonicalize(self.page, self.names, lent, self.first, sums))
+        })
+    }
+
+    fn is_convertible_to(&self) -> Option<u32> {
+        let (page, names, lent) = (self.page, self.names, self.lent());
+        Some(calls::riddlepoppy_is_convertible_to(page, names, lent, self.first, self.second))
+    }
+
+    // The first field has the name and the children.
+    fn make_type(&self, page: &mut [u8]) -> Option<u32> {
+        let (name, rest) = self.first.split_first()?;
+        if rest.len() % CHILD_BYTES != 0 {
+            return None;
+        }
+        let mut words = [0u16; CHILDREN];
+        let children = words.get_mut(..rest.len() / CHILD_BYTES)?;
+        pages::read_words(rest, 0, children);
+        let (lent, kind) = (self.lent(), self.kind());
+        let name = Symbol::from(*name);
+        Some(calls::riddlepoppy_make_type(page, self.names, lent, kind, children, name))
+    }
+
+    fn read_type(&self) -> Option<u32> {
+        let t = number(self.first)?;
+        let lent = self.lent();
+        self.writes([0; TYPE_BYTES], |bytes| {
+            Some(calls::riddlepoppy_read_type(self.page, self.names, lent, t, bytes))
+        })
+    }
+
+    fn matches(&self) -> Option<u32> {
+        let (a, e) = two_numbers(self.first)?;
+        Some(calls::riddlepoppy_matches(self.page, self.names, self.lent(), a, e))
+    }
+
+    fn has_generic(&self) -> Option<u32> {
+        let t = number(self.first)?;
+        Some(calls::riddlepoppy_has_generic(self.page, self.names, self.lent(), t))
+    }
+
+    fn into_const(&self, page: &mut [u8]) -> Option<u32> {
+        let c = number(self.first)?;
+        Some(calls::riddlepoppy_into_const(page, self.names, self.lent(), c))
+    }
+
+    // The second field has the bindings before the call.
+    fn unify(&self) -> Option<u32> {
+        let (e, a) = two_numbers(self.first)?;
+        let lent = self.lent();
+        self.writes(self.second.try_into().ok()?, |bindings| {
+            Some(calls::riddlepoppy_unify(self.page, self.names, lent, e, a, bindings))
+        })
+    }
+
+    fn unify_arg(&self) -> Option<u32> {
+        let (e, a) = two_numbers(self.first)?;
+        let lent = self.lent();
+        self.writes(self.second.try_into().ok()?, |bindings| {
+            Some(calls::riddlepoppy_unify_arg(self.page, self.names, lent, e, a, bindings))
+        })
+    }
+
+    fn substitute(&self, page: &mut [u8]) -> Option<u32> {
+        let t = number(self.first)?;
+        let bindings: [u8; BINDING_BYTES] = self.second.try_into().ok()?;
+        Some(calls::riddlepoppy_substitute(page, self.names, self.lent(), t, &bindings))
+    }
+
+    // The first field has three numbers and the left unit.
+    fn check_binary_operator(&self) -> Option<u32> {
+        let (op, rest) = number_in(self.first)?;
+        let (a, rest) = number_in(rest)?;
+        let (b, left) = number_in(rest)?;
+        let (page, names, lent) = (self.page, self.names, self.lent());
+        self.writes([0; ANSWER_BYTES], |answer| {
+            Some(calls::riddlepoppy_check_binary_operator(
+                page,
+                names,
+                lent,
+                self.table,
+                op,
+                a,
+                left,
+                b,
+                self.second,
+                answer,
+            ))
+        })
+    }
+
+    // The first field has two numbers and a unit.
+    fn check_unary_operator(&self, page: &mut [u8]) -> Option<u32> {
+        let (op, rest) = number_in(self.first)?;
+        let (a, unit) = number_in(rest)?;
+        let (names, lent) = (self.names, self.lent());
+        self.writes([0; ANSWER_BYTES], |answer| {
+            Some(calls::riddlepoppy_check_unary_operator(page, names, lent, op, a, unit, answer))
+        })
+    }
+
+    fn check_index(&self, page: &mut [u8]) -> Option<u32> {
+        let (target, rest) = number_in(self.first)?;
+        let (key, unit) = number_in(rest)?;
+        let (names, lent) = (self.names, self.lent());
+        self.writes([0; ANSWER_BYTES], |answer| {
+            Some(calls::riddlepoppy_check_index(page, names, lent, target, unit, key, answer))
+        })
+    }
+
+    // What the row's call answers, where it writes what the row says and leaves the page so. The calls' numbers stand here alone, so an
+    // enum of the calls would only list them a second time.
+    fn answer(&self) -> Option<u32> {
+        match self.call {
+            1 => self.leaves(|page| Some(calls::riddlepoppy_empty_names(page))),
+            2 => self.leaves(|page| Some(calls::riddlepoppy_add_name(page, self.first))),
+            3 => Some(calls::riddlepoppy_find_name(self.page, self.first)),
+            4 => self.read_name(),
+            5 => Some(calls::riddlepoppy_unit_form(self.first)),
+            6 => self.product(),
+            7 => Some(calls::riddlepoppy_exponent(self.first, self.symbol())),
+            8 => Some(calls::riddlepoppy_is_dimensionless(self.first)),
+            9 => self.unit_text(),
+            10 => self.leaves(|page| Some(calls::riddlepoppy_empty_pairs(page))),
+            11 => self.leaves(|page| self.insert_pair(page)),
+            12 => self.canonical(),
+            13 => self.first_factor(),
+            14 => self.canonicalize(),
+            15 => self.is_convertible_to(),
+            16 => self.leaves(|page| Some(calls::riddlepoppy_empty_types(page))),
+            17 => self.leaves(|page| self.make_type(page)),
+            18 => self.read_type(),
+            19 => self.matches(),
+            20 => self.has_generic(),
+            21 => self.leaves(|page| self.into_const(page)),
+            22 => self.unify(),
+            23 => self.unify_arg(),
+            24 => self.leaves(|page| self.substitute(page)),
+            25 => self.check_binary_operator(),
+            26 => self.leaves(|page| self.check_unary_operator(page)),
+            27 => self.leaves(|page| self.check_index(page)),
+            _ => None,
+        }
+    }
 }
 
-// No byte of the sample yet.
-fn no_sample() -> Sample
+// Whether a row's call answers what the row says.
+fn is_same(bytes: &[u8]) -> bool {
+    row_in(bytes).is_some_and(|row| row.answer() == Some(row.code))
+}
+
+// The rows that these bytes begin with, each with a length of its own.
+#[derive(Drop)]
+struct Rows<'a>(&'a [u8]);
+
+impl<'a> Iterator for Rows<'a> {
+    type Item = &'a [u8];
+
+    ghost remaining = { λ s. at_most (length s.0.now) };
+
+    fn next(&mut self) -> Option<&'a [u8]> {
+        if self.0.is_empty() {
+            return None;
+        }
+        let (row, after) = field(self.0);
+        self.0 = after;
+        Some(row)
+    }
+}
+
+// No byte of the sample yet. In a function of its own, since the proof of a `main` with so many zeros in it does not close.
+fn no_sample() -> [u8; SAMPLE_BYTES]
     ensures { result ≡ replicate 655360 0 }
 {
     [0; SAMPLE_BYTES]
 }
 
-// Reads as much of the sample as the input has and there is room for. Says how many bytes that is.
+// Reads as much of the sample as the input has and there is room for. Says how many bytes that is. A `while`, since the library reads
+// a slice whole or not at all, or else as much as comes at once.
 fn read_sample<R: Read>(reader: &mut R, sample: &mut [u8]) -> io::Result<usize>
     ensures { IfOk result (λ n. n ≤ length sample.new) }
 {
@@ -656,14 +373,15 @@ fn read_sample<R: Read>(reader: &mut R, sample: &mut [u8]) -> io::Result<usize>
     Ok(n)
 }
 
-// Says how many rows there were, and how many were answered otherwise.
-fn say(rt: &impl Print, tally: Tally) -> io::Result<()> {
-    let Tally { rows, differ } = tally;
+// Replays every row. Says how many there were, and how many were answered otherwise.
+fn replay(rt: &impl Print, sample: &[u8]) -> io::Result<()> {
+    let rows = Rows(sample).count();
+    let differ = Rows(sample).filter(|row| !is_same(row)).count();
     println!(rt; "{rows} rows, {differ} differ")
 }
 
 fn main(rt: HostRuntime) -> io::Result<()> {
     let mut sample = no_sample();
     let n = read_sample(&mut rt.reader(), &mut sample)?;
-    say(&rt, replayed(&sample[..n]))
+    replay(&rt, &sample[..n])
 }

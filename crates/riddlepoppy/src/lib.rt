@@ -1,8 +1,10 @@
 // The entry calls for programs in other languages, as a static library. Each is the function of its name in `calls`, which crates
 // of this repository call; here they stand once more since no crate can use a static library, and a library exports nothing.
+// The numbers, and the `lent` beside a page, are the C interface, which has no Option, Result or enum with fields.
 #![tactic(auto)]
 
 ghost use Rattle.std.specs.Prelude.{◌≡◌};
+ghost use Rattle.std.specs.Bool.{then_some};
 ghost use Rattle.names.specs.Table.{names_max};
 ghost use Rattle.names.specs.Calls.{empty_verdict, empty_page, add_answer, page_after, find_answer, read_answer};
 ghost use Rattle.units.specs.Calls.{form_verdict, exponent_answer};
@@ -118,7 +120,7 @@ pub extern "C" fn riddlepoppy_insert_pair(
     factor: u64,
     base: Symbol,
 ) -> u32
-    ensures { (result ≡ packed (pair_verdict page.old names.now lent (pair symbol base)) 0) × (page.new ≡ tables.page_after page.old names.now lent symbol factor base) }
+    ensures { (result ≡ packed (pair_verdict page.old (then_some lent names.now) (pair symbol base)) 0) × (page.new ≡ tables.page_after page.old (then_some lent names.now) symbol factor base) }
 {
     calls::riddlepoppy_insert_pair(page, names, lent, symbol, factor, base)
 }
@@ -131,7 +133,7 @@ pub extern "C" fn riddlepoppy_canonical(
     lent: bool,
     symbol: Symbol,
 ) -> u32
-    ensures { result ≡ number_code (root_answer page.now names.now lent symbol) }
+    ensures { result ≡ number_code (root_answer page.now (then_some lent names.now) symbol) }
 {
     calls::riddlepoppy_canonical(page, names, lent, symbol)
 }
@@ -145,7 +147,7 @@ pub extern "C" fn riddlepoppy_first_factor(
     symbol: Symbol,
     out: &mut [u8; LONG_BYTES],
 ) -> u32
-    ensures { (result ≡ factor_code (factor_answer page.now names.now lent symbol)) × (out.new ≡ out_after_factor (factor_answer page.now names.now lent symbol) out.old) }
+    ensures { (result ≡ factor_code (factor_answer page.now (then_some lent names.now) symbol)) × (out.new ≡ out_after_factor (factor_answer page.now (then_some lent names.now) symbol) out.old) }
 {
     calls::riddlepoppy_first_factor(page, names, lent, symbol, out)
 }
@@ -159,7 +161,7 @@ pub extern "C" fn riddlepoppy_canonicalize(
     unit: &[u8],
     out: &mut [u8; UNIT_BYTES],
 ) -> u32
-    ensures { (result ≡ nothing_code (group_sums_in page.now names.now lent unit.now)) × (out.new ≡ out_after bytes_of_sums (group_sums_in page.now names.now lent unit.now) out.old) }
+    ensures { (result ≡ nothing_code (group_sums_in page.now (then_some lent names.now) unit.now)) × (out.new ≡ out_after bytes_of_sums (group_sums_in page.now (then_some lent names.now) unit.now) out.old) }
 {
     calls::riddlepoppy_canonicalize(page, names, lent, unit, out)
 }
@@ -173,7 +175,7 @@ pub extern "C" fn riddlepoppy_is_convertible_to(
     left: &[u8],
     right: &[u8],
 ) -> u32
-    ensures { result ≡ answer_code (convertible_in page.now names.now lent left.now right.now) }
+    ensures { result ≡ answer_code (convertible_in page.now (then_some lent names.now) left.now right.now) }
 {
     calls::riddlepoppy_is_convertible_to(page, names, lent, left, right)
 }
@@ -196,7 +198,7 @@ pub extern "C" fn riddlepoppy_make_type(
     children: &[u16],
     name: Symbol,
 ) -> u32
-    ensures { (result ≡ number_code (make_answer page.old names.now lent kind children.now name)) × (page.new ≡ make_page page.old names.now lent kind children.now name) }
+    ensures { (result ≡ number_code (make_answer page.old (then_some lent names.now) kind children.now name)) × (page.new ≡ make_page page.old (then_some lent names.now) kind children.now name) }
 {
     calls::riddlepoppy_make_type(page, names, lent, kind, children, name)
 }
@@ -210,7 +212,7 @@ pub extern "C" fn riddlepoppy_read_type(
     t: u32,
     out: &mut [u8; TYPE_BYTES],
 ) -> u32
-    ensures { (result ≡ nothing_code (store.read_answer page.now names.now lent t)) × (out.new ≡ out_after bytes_of_type (store.read_answer page.now names.now lent t) out.old) }
+    ensures { (result ≡ nothing_code (store.read_answer page.now (then_some lent names.now) t)) × (out.new ≡ out_after bytes_of_type (store.read_answer page.now (then_some lent names.now) t) out.old) }
 {
     calls::riddlepoppy_read_type(page, names, lent, t, out)
 }
@@ -224,7 +226,7 @@ pub extern "C" fn riddlepoppy_matches(
     actual: u32,
     expected: u32,
 ) -> u32
-    ensures { result ≡ answer_code (matches_answer page.now names.now lent (checked_of actual) (checked_of expected)) }
+    ensures { result ≡ answer_code (matches_answer page.now (then_some lent names.now) (checked_of actual) (checked_of expected)) }
 {
     calls::riddlepoppy_matches(page, names, lent, actual, expected)
 }
@@ -232,7 +234,7 @@ pub extern "C" fn riddlepoppy_matches(
 // Whether a generic name stands in a type: 1 for yes.
 #[unsafe(no_mangle)]
 pub extern "C" fn riddlepoppy_has_generic(page: &[u8], names: &[u8], lent: bool, t: u32) -> u32
-    ensures { result ≡ answer_code (generic_answer page.now names.now lent t) }
+    ensures { result ≡ answer_code (generic_answer page.now (then_some lent names.now) t) }
 {
     calls::riddlepoppy_has_generic(page, names, lent, t)
 }
@@ -240,7 +242,7 @@ pub extern "C" fn riddlepoppy_has_generic(page: &[u8], names: &[u8], lent: bool,
 // The number of a checked type's const form, which is made if it is new.
 #[unsafe(no_mangle)]
 pub extern "C" fn riddlepoppy_into_const(page: &mut [u8], names: &[u8], lent: bool, c: u32) -> u32
-    ensures { (result ≡ const_code (into_const page.old names.now lent (checked_of c))) × (page.new ≡ into_const_page page.old names.now lent (checked_of c)) }
+    ensures { (result ≡ const_code (into_const page.old (then_some lent names.now) (checked_of c))) × (page.new ≡ into_const_page page.old (then_some lent names.now) (checked_of c)) }
 {
     calls::riddlepoppy_into_const(page, names, lent, c)
 }
@@ -255,7 +257,7 @@ pub extern "C" fn riddlepoppy_unify(
     actual: u32,
     bindings: &mut [u8; BINDING_BYTES],
 ) -> u32
-    ensures { (result ≡ answer_code (unify_in page.now names.now lent bindings.old expected actual).answer) × (bindings.new ≡ bindings_after (unify_in page.now names.now lent bindings.old expected actual).answer (unify_in page.now names.now lent bindings.old expected actual).bindings bindings.old) }
+    ensures { (result ≡ answer_code (unify_in page.now (then_some lent names.now) bindings.old expected actual).answer) × (bindings.new ≡ bindings_after (unify_in page.now (then_some lent names.now) bindings.old expected actual).answer (unify_in page.now (then_some lent names.now) bindings.old expected actual).bindings bindings.old) }
 {
     calls::riddlepoppy_unify(page, names, lent, expected, actual, bindings)
 }
@@ -270,7 +272,7 @@ pub extern "C" fn riddlepoppy_unify_arg(
     actual: u32,
     bindings: &mut [u8; BINDING_BYTES],
 ) -> u32
-    ensures { (result ≡ answer_code (unify_arg_in page.now names.now lent bindings.old expected actual).answer) × (bindings.new ≡ bindings_after (unify_arg_in page.now names.now lent bindings.old expected actual).answer (unify_arg_in page.now names.now lent bindings.old expected actual).bindings bindings.old) }
+    ensures { (result ≡ answer_code (unify_arg_in page.now (then_some lent names.now) bindings.old expected actual).answer) × (bindings.new ≡ bindings_after (unify_arg_in page.now (then_some lent names.now) bindings.old expected actual).answer (unify_arg_in page.now (then_some lent names.now) bindings.old expected actual).bindings bindings.old) }
 {
     calls::riddlepoppy_unify_arg(page, names, lent, expected, actual, bindings)
 }
@@ -284,7 +286,7 @@ pub extern "C" fn riddlepoppy_substitute(
     t: u32,
     bindings: &[u8; BINDING_BYTES],
 ) -> u32
-    ensures { (result ≡ number_code (substitute_answer page.old names.now lent (bindings_in bindings.now) t)) × (page.new ≡ substitute_page page.old names.now lent (bindings_in bindings.now) t) }
+    ensures { (result ≡ number_code (substitute_answer page.old (then_some lent names.now) (bindings_in bindings.now) t)) × (page.new ≡ substitute_page page.old (then_some lent names.now) (bindings_in bindings.now) t) }
 {
     calls::riddlepoppy_substitute(page, names, lent, t, bindings)
 }
@@ -303,7 +305,7 @@ pub extern "C" fn riddlepoppy_check_binary_operator(
     other: &[u8],
     out: &mut [u8; ANSWER_BYTES],
 ) -> u32
-    ensures { (result ≡ answered_code (binary_in page.now names.now lent table.now op left unit.now right other.now)) × (out.new ≡ out_after_answer (binary_in page.now names.now lent table.now op left unit.now right other.now) out.old) }
+    ensures { (result ≡ answered_code (binary_in page.now (then_some lent names.now) table.now op left unit.now right other.now)) × (out.new ≡ out_after_answer (binary_in page.now (then_some lent names.now) table.now op left unit.now right other.now) out.old) }
 {
     calls::riddlepoppy_check_binary_operator(
         page, names, lent, table, op, left, unit, right, other, out,
@@ -321,8 +323,8 @@ pub extern "C" fn riddlepoppy_check_unary_operator(
     unit: &[u8],
     out: &mut [u8; ANSWER_BYTES],
 ) -> u32
-    ensures value { (result ≡ answered_code (unary_in page.old names.now lent op operand unit.now)) × (out.new ≡ out_after_answer (unary_in page.old names.now lent op operand unit.now) out.old) }
-    ensures page_after { page.new ≡ unary_page_in page.old names.now lent op operand unit.now }
+    ensures value { (result ≡ answered_code (unary_in page.old (then_some lent names.now) op operand unit.now)) × (out.new ≡ out_after_answer (unary_in page.old (then_some lent names.now) op operand unit.now) out.old) }
+    ensures page_after { page.new ≡ unary_page_in page.old (then_some lent names.now) op operand unit.now }
 {
     calls::riddlepoppy_check_unary_operator(page, names, lent, op, operand, unit, out)
 }
@@ -338,8 +340,8 @@ pub extern "C" fn riddlepoppy_check_index(
     key: u32,
     out: &mut [u8; ANSWER_BYTES],
 ) -> u32
-    ensures value { (result ≡ answered_code (index_in page.old names.now lent target unit.now key)) × (out.new ≡ out_after_answer (index_in page.old names.now lent target unit.now key) out.old) }
-    ensures page_after { page.new ≡ index_page_in page.old names.now lent target unit.now key }
+    ensures value { (result ≡ answered_code (index_in page.old (then_some lent names.now) target unit.now key)) × (out.new ≡ out_after_answer (index_in page.old (then_some lent names.now) target unit.now key) out.old) }
+    ensures page_after { page.new ≡ index_page_in page.old (then_some lent names.now) target unit.now key }
 {
     calls::riddlepoppy_check_index(page, names, lent, target, unit, key, out)
 }

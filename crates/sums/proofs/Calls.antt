@@ -29,64 +29,64 @@ use Rattle.sums.specs.Calls.{all_used, all_formed, units_verdict, roots_in, sums
 
 -- ---- two units
 
-module _ (page names : List ℕ) (lent : Bool) (a b : Unit) where
-  pub units_broken : table_broken page names lent ≡ true → Err Broken ≡ units_verdict page names lent (a ∷ b ∷ [])
+module _ (page : List ℕ) (names : Option (List ℕ)) (a b : Unit) where
+  pub units_broken : table_broken page names ≡ true → Err Broken ≡ units_verdict page names (a ∷ b ∷ [])
   unfolding units_verdict
   units_broken t =
-      sym (rw t (first_holds Broken ((Unused when not (all_used (used_of names lent) (a ∷ b ∷ []))) ∷ (BadUnit when not (all_formed (a ∷ b ∷ []))) ∷ []) refl))
+      sym (rw t (first_holds Broken ((Unused when not (all_used (used_of names) (a ∷ b ∷ []))) ∷ (BadUnit when not (all_formed (a ∷ b ∷ []))) ∷ []) refl))
 
-  module _ (t : table_broken page names lent ≡ false) where
-    unused : all_used (used_of names lent) (a ∷ b ∷ []) ≡ false → Err Unused ≡ units_verdict page names lent (a ∷ b ∷ [])
+  module _ (t : table_broken page names ≡ false) where
+    unused : all_used (used_of names) (a ∷ b ∷ []) ≡ false → Err Unused ≡ units_verdict page names (a ∷ b ∷ [])
     unfolding units_verdict
     unused u = sym (rw (t, u) (first_holds Unused ((BadUnit when not (all_formed (a ∷ b ∷ []))) ∷ []) refl))
 
-    pub left_unused : in_use (used_of names lent) (present a) ≡ false → Err Unused ≡ units_verdict page names lent (a ∷ b ∷ [])
+    pub left_unused : in_use (used_of names) (present a) ≡ false → Err Unused ≡ units_verdict page names (a ∷ b ∷ [])
     left_unused u = unused (rw u)
 
-    module _ (ua : in_use (used_of names lent) (present a) ≡ true) where
-      pub right_unused : in_use (used_of names lent) (present b) ≡ false → Err Unused ≡ units_verdict page names lent (a ∷ b ∷ [])
+    module _ (ua : in_use (used_of names) (present a) ≡ true) where
+      pub right_unused : in_use (used_of names) (present b) ≡ false → Err Unused ≡ units_verdict page names (a ∷ b ∷ [])
       right_unused u = unused (rw (ua, u))
 
-      module _ (ub : in_use (used_of names lent) (present b) ≡ true) where
-        bad : all_formed (a ∷ b ∷ []) ≡ false → Err BadUnit ≡ units_verdict page names lent (a ∷ b ∷ [])
+      module _ (ub : in_use (used_of names) (present b) ≡ true) where
+        bad : all_formed (a ∷ b ∷ []) ≡ false → Err BadUnit ≡ units_verdict page names (a ∷ b ∷ [])
         unfolding units_verdict
         bad f = rw (t, ua, ub, f)
 
-        pub left_bad : units.formed places_max names_max (terms_of a) ≡ false → Err BadUnit ≡ units_verdict page names lent (a ∷ b ∷ [])
+        pub left_bad : units.formed places_max names_max (terms_of a) ≡ false → Err BadUnit ≡ units_verdict page names (a ∷ b ∷ [])
         left_bad f = bad (rw f)
 
         module _ (fa : units.formed places_max names_max (terms_of a) ≡ true) where
-          pub right_bad : units.formed places_max names_max (terms_of b) ≡ false → Err BadUnit ≡ units_verdict page names lent (a ∷ b ∷ [])
+          pub right_bad : units.formed places_max names_max (terms_of b) ≡ false → Err BadUnit ≡ units_verdict page names (a ∷ b ∷ [])
           right_bad f = bad (rw (fa, f))
 
-          pub units_passed : units.formed places_max names_max (terms_of b) ≡ true → Ok tt ≡ units_verdict page names lent (a ∷ b ∷ [])
+          pub units_passed : units.formed places_max names_max (terms_of b) ≡ true → Ok tt ≡ units_verdict page names (a ∷ b ∷ [])
           unfolding units_verdict
           units_passed fb = rw (t, ua, ub, fa, fb)
 
   -- what two units have that are not refused
-  module _ (v : units_verdict page names lent (a ∷ b ∷ []) ≡ Ok tt) where
-    rest : (table_broken page names lent ≡ false) × (all_formed (a ∷ b ∷ []) ≡ true)
+  module _ (v : units_verdict page names (a ∷ b ∷ []) ≡ Ok tt) where
+    rest : (table_broken page names ≡ false) × (all_formed (a ∷ b ∷ []) ≡ true)
     unfolding units_verdict
     rest =
         let x =
-        passed_parts Broken (table_broken page names lent)
-        ((Unused when not (all_used (used_of names lent) (a ∷ b ∷ []))) ∷ (BadUnit when not (all_formed (a ∷ b ∷ []))) ∷ []) v in
-        let y = passed_parts Unused (not (all_used (used_of names lent) (a ∷ b ∷ []))) ((BadUnit when not (all_formed (a ∷ b ∷ []))) ∷ []) x.1 in
+        passed_parts Broken (table_broken page names)
+        ((Unused when not (all_used (used_of names) (a ∷ b ∷ []))) ∷ (BadUnit when not (all_formed (a ∷ b ∷ []))) ∷ []) v in
+        let y = passed_parts Unused (not (all_used (used_of names) (a ∷ b ∷ []))) ((BadUnit when not (all_formed (a ∷ b ∷ []))) ∷ []) x.1 in
         let z = passed_parts BadUnit (not (all_formed (a ∷ b ∷ []))) [] y.1 in
         (x.0, not-false (all_formed (a ∷ b ∷ [])) z.0)
 
-    sound : (lent_broken names lent ≡ false) × (formed page (used_of names lent) ≡ true)
-    sound = unbroken page names lent rest.0
+    sound : (lent_broken names ≡ false) × (formed page (used_of names) ≡ true)
+    sound = unbroken page names rest.0
 
     -- the page is in form, whether or not names are lent
     pub passed_all_names : formed page names_max ≡ true
-    passed_all_names = form_all page (used_of names lent) (used_few names lent sound.0) sound.1
+    passed_all_names = form_all page (used_of names) (used_few names sound.0) sound.1
 
     pub passed_held : Held page
-    passed_held = formed_held page (used_of names lent) sound.1
+    passed_held = formed_held page (used_of names) sound.1
 
     pub passed_root : (k s : ℕ) → k ≡ count_of page → walk k (parents_in page) s ≡ roots_in page s
-    passed_root k s is = root_in page (used_of names lent) k s sound.1 is
+    passed_root k s is = root_in page (used_of names) k s sound.1 is
 
     both : (units.formed places_max names_max (terms_of a) ≡ true) × (all_formed (b ∷ []) ≡ true)
     both = and_true (units.formed places_max names_max (terms_of a)) (all_formed (b ∷ [])) rest.1
@@ -103,32 +103,32 @@ and_twice : (a : Bool) → (a && (a && true)) ≡ (a && true)
 and_twice true = refl
 and_twice false = refl
 
-module _ (page names : List ℕ) (lent : Bool) (u : Unit) where
+module _ (page : List ℕ) (names : Option (List ℕ)) (u : Unit) where
   -- a unit given twice is refused as it is by itself
-  twice : units_verdict page names lent (u ∷ u ∷ []) ≡ units_verdict page names lent (u ∷ [])
+  twice : units_verdict page names (u ∷ u ∷ []) ≡ units_verdict page names (u ∷ [])
   unfolding units_verdict
-  twice = rw (and_twice (in_use (used_of names lent) (present u)), and_twice (units.formed places_max names_max (terms_of u)))
+  twice = rw (and_twice (in_use (used_of names) (present u)), and_twice (units.formed places_max names_max (terms_of u)))
 
-  pub sums_refused : (r : Refusal) → Err r ≡ units_verdict page names lent (u ∷ u ∷ []) → Err r ≡ sums_answer page names lent u
+  pub sums_refused : (r : Refusal) → Err r ≡ units_verdict page names (u ∷ u ∷ []) → Err r ≡ sums_answer page names u
   unfolding sums_answer
   sums_refused r is = rw (← twice, ← is)
 
-  pub sums_given : Ok tt ≡ units_verdict page names lent (u ∷ u ∷ []) → (root : ℕ → ℕ) → ((s : ℕ) → root s ≡ roots_in page s)
-      → Ok (sums_of (group_sums names_max root (terms_of u))) ≡ sums_answer page names lent u
+  pub sums_given : Ok tt ≡ units_verdict page names (u ∷ u ∷ []) → (root : ℕ → ℕ) → ((s : ℕ) → root s ≡ roots_in page s)
+      → Ok (sums_of (group_sums names_max root (terms_of u))) ≡ sums_answer page names u
   unfolding sums_answer
   sums_given is root same = let e : root ≡ roots_in page = fun_ext same in rw (← twice, ← is, e)
 
 -- ---- convertible or not
 
-module _ (page names : List ℕ) (lent : Bool) (left right : Option Unit) where
-  pub convert_refused : (r : Refusal) → Err r ≡ units_verdict page names lent (or_empty left ∷ or_empty right ∷ [])
-      → Err r ≡ convert_answer page names lent left right
+module _ (page : List ℕ) (names : Option (List ℕ)) (left right : Option Unit) where
+  pub convert_refused : (r : Refusal) → Err r ≡ units_verdict page names (or_empty left ∷ or_empty right ∷ [])
+      → Err r ≡ convert_answer page names left right
   unfolding convert_answer
   convert_refused r v = rw (← v)
 
-  pub convert_given : Ok tt ≡ units_verdict page names lent (or_empty left ∷ or_empty right ∷ [])
+  pub convert_given : Ok tt ≡ units_verdict page names (or_empty left ∷ or_empty right ∷ [])
       → (root : ℕ → ℕ) → ((s : ℕ) → root s ≡ roots_in page s)
       → (b : Bool) → b ≡ convertible names_max root (terms_of (or_empty left)) (terms_of (or_empty right))
-      → Ok b ≡ convert_answer page names lent left right
+      → Ok b ≡ convert_answer page names left right
   unfolding convert_answer
   convert_given v root same b h = let e : root ≡ roots_in page = fun_ext same in rw (← v, ← e, h)

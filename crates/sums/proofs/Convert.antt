@@ -3,7 +3,7 @@
 -- For any number of symbols. Assumes nothing.
 use mathlib.Core.Path.{◌≡◌, refl, sym, ap, ap₂, subst, ◌∙◌}
 use mathlib.Core.Logic.{◌↔◌}
-use mathlib.Core.Bool.{Bool, true, false}
+use mathlib.Core.Bool.{true}
 use mathlib.Core.List.{List, [], ◌∷◌}
 use Prim.Native.Nat.{ℕ, ◌<◌}
 use native.Mathlib.Decide.{ℕ_discrete}
@@ -55,16 +55,6 @@ module _ (n : ℕ) (root : ℕ → ℕ) (xs ys : List Term) where
     λ h. written_agree n (λ g. sum_at root g xs) (λ g. sum_at root g ys) (convertible_each h),
     λ e. each_convertible (λ g l. sym (written_exponent g n (λ g. sum_at root g xs) l) ∙ ap (exponent g) e ∙ written_exponent g n (λ g. sum_at root g ys) l),
   )
-
--- a test that says yes exactly where the group sums are the same is the test for convertible
-pub same_convertible : (n : ℕ) (root : ℕ → ℕ) (xs ys : List Term) (b : Bool) → ((b ≡ true) ↔ (group_sums n root xs ≡ group_sums n root ys))
-    → b ≡ convertible n root xs ys
-same_convertible n root xs ys b e = go b (convertible n root xs ys) (λ h. (convertible_sums n root xs ys).1 (e.0 h)) (λ h. e.1 ((convertible_sums n root xs ys).0 h))
-  where
-    go : (b d : Bool) → (b ≡ true → d ≡ true) → (d ≡ true → b ≡ true) → b ≡ d
-    go true d f g = sym (f refl)
-    go false true f g = g refl
-    go false false f g = refl
 
 -- ---- the sum in a group
 

@@ -1,8 +1,8 @@
 -- Terms of any symbols, in any order, gathered: the next symbol, the sum of its exponents, one symbol after another.
 -- Assumes nothing.
-use mathlib.Core.Path.{◌≡◌, refl, sym, ap, ap₂, ◌∙◌}
-use mathlib.Core.Bool.{Bool, true, false, cond, ◌&&◌}
-use mathlib.Core.List.{List, [], ◌∷◌, ◌++◌}
+use mathlib.Core.Path.{◌≡◌, refl, sym, ap, ap₂, subst, ◌∙◌}
+use mathlib.Core.Bool.{Bool, true, false, ◌&&◌}
+use mathlib.Core.List.{List, [], ◌∷◌, ◌++◌, append-nil}
 use Prim.Native.Nat.{ℕ, suc, ◌+◌, ◌*◌, ◌≤◌, ◌<◌}
 use native.Mathlib.Numerals.{add-one}
 use native.Mathlib.Omega.{arith}
@@ -16,71 +16,101 @@ use Rattle.pages.proofs.Quant.{and_true}
 use Rattle.names.specs.Table.{names_max}
 use Rattle.units.specs.Unit.{places_max, exponent_max, Term, term, is_zero, outside, part, exponent}
 use Rattle.units.specs.Product.{any_outside, power, written}
-use Rattle.units.specs.Calls.{terms_of, terms_from}
+use Rattle.units.specs.Calls.{terms, terms_of, terms_from, syms, unit_of, with_term}
 use Rattle.units.specs.declared.Unit.{Unit}
 use Rattle.units.proofs.Signed.{small}
 use Rattle.units.proofs.Form.{sym_at, exp_at, length_terms, from_start, from_step, from_end}
 use Rattle.units.proofs.Order.{or_both, part_same, part_other}
-use Rattle.units.proofs.Held.{places_of}
-use Rattle.sums.specs.Sums.{sums_of}
-use Rattle.sums.specs.Gather.{nearer, least_from}
-use Rattle.sums.specs.declared.Sums.{Sums}
+use Rattle.units.proofs.Held.{places_of, grown}
+use Rattle.sums.specs.Gather.{next_from}
+use Rattle.std.specs.List.{filter}
+use Rattle.std.specs.Prelude.{Some, None, min, fold, take, drop, get_or, zero}
+use Rattle.std.proofs.Math.Seq.{drop-cons}
+use lib.Dec.{T}
 use Rattle.sums.proofs.Written.{written_skip, written_few}
 use Rattle.sums.proofs.Bound.{abs_sum, abs_fits}
 
 -- ---- the next symbol
 
--- what holds of n and, where it is taken, of s holds of the nearer
-nearer_both : (C : ℕ → Type 0) (lo n s : ℕ) → C n → (lo ≤ s → s < n → C s) → C (nearer lo n s)
-nearer_both C lo n s cn cs = go (leb lo s && ltb s n) refl
-  where
-    go : (b : Bool) → (leb lo s && ltb s n) ≡ b → C (cond b s n)
-    go true h = let v = and_true (leb lo s) (ltb s n) h in cs (leb-true lo s v.0) (ltb-true s n v.1)
-    go false h = cn
+module _ (lo n : ℕ) where
+  abbrev inside_range : ℕ → Bool
+  inside_range s = leb lo s && ltb s n
 
-nearer_le : (lo n s : ℕ) → nearer lo n s ≤ n
-nearer_le lo n s = nearer_both (λ (m : ℕ). m ≤ n) lo n s (omega arith) (λ a b. omega arith)
+  in_range : (s : ℕ) → inside_range s ≡ true → (lo ≤ s) × (s < n)
+  in_range s h = let v = and_true (leb lo s) (ltb s n) h in (leb-true lo s v.0, ltb-true s n v.1)
 
--- no number from lo on that is below the nearer is s
-nearer_passes : (lo n s t : ℕ) → lo ≤ t → t < nearer lo n s → t ≡ s → ⊥
-nearer_passes lo n s t a b e =
-    let l : t < n = omega (arith, nearer_le lo n s) in
-    let m : nearer lo n s ≡ s = rw (le-leb lo s (omega arith), lt-ltb s n (omega arith)) in
-    omega (arith, m)
+  range_in : (s : ℕ) → lo ≤ s → s < n → inside_range s ≡ true
+  range_in s a b = rw (le-leb lo s a, lt-ltb s n b)
 
-least_le : (lo n : ℕ) (xs : List Term) → least_from lo n xs ≤ n
-least_le lo n [] = omega arith
-least_le lo n (x ∷ xs) = omega (arith, least_le lo (nearer lo n x.symbol) xs, nearer_le lo n x.symbol)
+  abbrev least : ℕ → List ℕ → ℕ
+  least m ss = fold min m (filter inside_range ss)
 
-least_from_lem : (lo n : ℕ) (xs : List Term) → lo ≤ n → lo ≤ least_from lo n xs
-least_from_lem lo n [] h = h
-least_from_lem lo n (x ∷ xs) h = least_from_lem lo (nearer lo n x.symbol) xs (nearer_both (λ (m : ℕ). lo ≤ m) lo n x.symbol h (λ a b. a))
+  -- the least of m and of the symbols in the range is in it, as m is
+  least_in : (m : ℕ) (ss : List ℕ) → lo ≤ m → m < n → (lo ≤ least m ss) × (least m ss < n)
+  least_in m [] a b = (a, b)
+  least_in m (s ∷ ss) a b = go (inside_range s) refl (λ r. least_in (min m s) ss (omega (arith, r.0)) (omega (arith, r.1))) (least_in m ss a b)
+    where
+      go : (x : Bool) → inside_range s ≡ x → ((lo ≤ s) × (s < n) → (lo ≤ least (min m s) ss) × (least (min m s) ss < n)) → (lo ≤ least m ss) × (least m ss < n)
+          → (lo ≤ least m (s ∷ ss)) × (least m (s ∷ ss) < n)
+      go true e f g = rw e (f (in_range s e))
+      go false e f g = rw e g
 
--- the symbols that are passed by have no exponent
-least_passes : (lo n : ℕ) (xs : List Term) (t : ℕ) → lo ≤ t → t < least_from lo n xs → exponent t xs ≡ pos 0
-least_passes lo n [] t a b = refl
-least_passes lo n (x ∷ xs) t a b =
-    ap₂ ◌+ℤ◌
-    (part_other t x (nearer_passes lo n x.symbol t a (omega (arith, least_le lo (nearer lo n x.symbol) xs))))
-    (least_passes lo (nearer lo n x.symbol) xs t a b)
+  -- a symbol in the range is not one outside it
+  apart : (t s : ℕ) → lo ≤ t → t < n → inside_range s ≡ false → t ≡ s → ⊥
+  apart t s a b e q = absurd (subst T (sym (range_in t a b) ∙ ap inside_range q ∙ e) tt)
 
--- Where the search stands: what is left comes to what the whole comes to.
-pub record Nearing (lo : ℕ) (u : Unit) (least i : ℕ) : Type 0 where
-  pub i_in : i ≤ u.count
-  pub whole : least_from lo least (terms_from u i) ≡ least_from lo names_max (terms_of u)
+  -- what is in the range and below that least is below m, and has no exponent
+  least_above : (m : ℕ) (xs : List Term) (t : ℕ) → lo ≤ t → t < n → t < least m (syms xs) → (t < m) × (exponent t xs ≡ pos 0)
+  least_above m [] t a b h = (h, refl)
+  least_above m (x ∷ xs) t a b h = go (inside_range x.symbol) refl (λ k. least_above (min m x.symbol) xs t a b k) (λ k. least_above m xs t a b k)
+    where
+      go : (y : Bool) → inside_range x.symbol ≡ y → (t < least (min m x.symbol) (syms xs) → (t < min m x.symbol) × (exponent t xs ≡ pos 0))
+          → (t < least m (syms xs) → (t < m) × (exponent t xs ≡ pos 0)) → (t < m) × (exponent t (x ∷ xs) ≡ pos 0)
+      go true e f g = let r = f (rw e at h) in (omega (arith, r.0), ap₂ ◌+ℤ◌ (part_other t x (λ q. absurd (omega (arith, r.0, q)))) r.1)
+      go false e f g = let r = g (rw e at h) in (r.0, ap₂ ◌+ℤ◌ (part_other t x (apart t x.symbol a b e)) r.1)
 
-pub nearing_start : (lo : ℕ) (u : Unit) → Nearing lo u names_max 0
-nearing_start lo u = record { i_in = omega arith; whole = ap (least_from lo names_max) (from_start (places_of u)) }
+  least_from_lem : (ss : List ℕ) (g : ℕ) → next_from lo n ss ≡ Some g → (lo ≤ g) × (g < n)
+  least_from_lem [] g e = absurd cc
+  least_from_lem (s ∷ ss) g e = go (inside_range s) refl (λ k. least_from_lem ss g k)
+    where
+      go : (x : Bool) → inside_range s ≡ x → (next_from lo n ss ≡ Some g → (lo ≤ g) × (g < n)) → (lo ≤ g) × (g < n)
+      go true q f =
+          let r = in_range s q in
+          let h = rw q at e in
+          let z : least s ss ≡ g = cc in
+          rw (← z) (least_in s ss r.0 r.1)
+      go false q f = f (rw q at e)
 
-module _ (lo : ℕ) (u : Unit) (least i : ℕ) (k : Nearing lo u least i) where
-  pub nearing_next : i < u.count → (r : ℕ) → r ≡ nearer lo least (sym_at (places_of u) i) → Nearing lo u r (i + 1)
-  nearing_next h r e = record {
-    i_in = omega arith;
-    whole = ap (λ (m : ℕ). least_from lo m (terms_from u (i + 1))) e ∙ ap (least_from lo least) (sym (from_step (places_of u) i h)) ∙ k.whole;
-  }
+  -- the symbols that are passed by have no exponent
+  next_passes : (xs : List Term) (g t : ℕ) → next_from lo n (syms xs) ≡ Some g → lo ≤ t → t < g → exponent t xs ≡ pos 0
+  next_passes [] g t e a b = refl
+  next_passes (x ∷ xs) g t e a b = go (inside_range x.symbol) refl (λ k. next_passes xs g t k a b)
+    where
+      below : t < n
+      below = let k = least_from_lem (syms (x ∷ xs)) g e in omega (arith, k.1)
 
-  pub nearing_end : u.count ≤ i → least ≡ least_from lo names_max (terms_of u)
-  nearing_end h = ap (least_from lo least) (sym (from_end (places_of u) i h)) ∙ k.whole
+      go : (y : Bool) → inside_range x.symbol ≡ y → (next_from lo n (syms xs) ≡ Some g → exponent t xs ≡ pos 0) → exponent t (x ∷ xs) ≡ pos 0
+      go true q f =
+          let h = rw q at e in
+          let z : least x.symbol (syms xs) ≡ g = cc in
+          let r = least_above x.symbol xs t a below (rw z b) in
+          ap₂ ◌+ℤ◌ (part_other t x (λ y. absurd (omega (arith, r.0, y)))) r.1
+      go false q f = ap₂ ◌+ℤ◌ (part_other t x (apart t x.symbol a below q)) (f (rw q at e))
+
+  none_passes : (xs : List Term) (t : ℕ) → next_from lo n (syms xs) ≡ None → lo ≤ t → t < n → exponent t xs ≡ pos 0
+  none_passes [] t e a b = refl
+  none_passes (x ∷ xs) t e a b = go (inside_range x.symbol) refl (λ k. none_passes xs t k a b)
+    where
+      go : (y : Bool) → inside_range x.symbol ≡ y → (next_from lo n (syms xs) ≡ None → exponent t xs ≡ pos 0) → exponent t (x ∷ xs) ≡ pos 0
+      go true q f = let h = rw q at e in absurd cc
+      go false q f = ap₂ ◌+ℤ◌ (part_other t x (apart t x.symbol a b q)) (f (rw q at e))
+
+-- the symbols of a unit's terms stand in its first places
+syms_terms : (n i : ℕ) (ss : List ℕ) (es : List ℤ) → i + n ≤ length ss → syms (terms n i ss es) ≡ take n (drop i ss)
+syms_terms zero i ss es h = refl
+syms_terms (suc n) i ss es h =
+    let l : i < length ss = omega arith in
+    rw (drop-cons ss i 0 l) (ap (λ t. get_or ss i 0 ∷ t) (syms_terms n (suc i) ss es (omega arith)))
 
 -- ---- the sum of its exponents
 
@@ -144,47 +174,55 @@ module _ (s : ℕ) (u : Unit) (sum : ℤ) (i : ℕ) (k : Summing s u sum i) wher
 -- ---- one symbol after another
 
 -- the sums of the symbols below lo are held
-pub record Gathering (u : Unit) (w : Sums) (lo : ℕ) : Type 0 where
+pub record Gathering (u w : Unit) (lo : ℕ) : Type 0 where
   pub lo_in : lo ≤ names_max
-  pub held : w ≡ sums_of (written lo (λ s. exponent s (terms_of u)))
+  pub held : w ≡ unit_of (written lo (λ s. exponent s (terms_of u)))
 
-pub gathering_start : (u : Unit) (w : Sums) → w ≡ sums_of [] → Gathering u w 0
-gathering_start u w e = record { lo_in = omega arith; held = e }
-
-module _ (u : Unit) (w : Sums) (lo : ℕ) (k : Gathering u w lo) (g : ℕ) (next : g ≡ least_from lo names_max (terms_of u)) where
-  from_lo : lo ≤ g
-  from_lo = rw next (least_from_lem lo names_max (terms_of u) k.lo_in)
+-- u holds as many terms as it says
+module _ (u : Unit) (full : length u.symbols ≡ places_max) (few : u.count ≤ places_max) (w : Unit) (lo : ℕ) (k : Gathering u w lo) where
+  held_syms : syms (terms_of u) ≡ take u.count u.symbols
+  held_syms = syms_terms u.count 0 u.symbols u.exponents (omega (arith, full))
 
   -- nothing is written between
-  between : written g (λ s. exponent s (terms_of u)) ≡ written lo (λ s. exponent s (terms_of u))
-  between = written_skip (λ s. exponent s (terms_of u)) lo g from_lo (λ s a b. least_passes lo names_max (terms_of u) s a (rw (← next) b))
+  between : (g : ℕ) → lo ≤ g → ((s : ℕ) → lo ≤ s → s < g → exponent s (terms_of u) ≡ pos 0) → written g (λ s. exponent s (terms_of u)) ≡ written lo (λ s. exponent s (terms_of u))
+  between g l f = written_skip (λ s. exponent s (terms_of u)) lo g l f
 
-  pub gathering_less : lo < g + 1
-  gathering_less = omega (arith, from_lo)
+  pub gathering_end : next_from lo names_max (take u.count u.symbols) ≡ None → w ≡ unit_of (written names_max (λ s. exponent s (terms_of u)))
+  gathering_end e =
+      k.held ∙ ap unit_of (sym (between names_max k.lo_in (λ s a b. none_passes lo names_max (terms_of u) s (ap (next_from lo names_max) held_syms ∙ e) a b)))
 
-  pub gathering_end : names_max ≤ g → w ≡ sums_of (written names_max (λ s. exponent s (terms_of u)))
-  gathering_end h =
-      let e : g ≡ names_max = omega (arith, next, least_le lo names_max (terms_of u)) in
-      k.held ∙ ap sums_of (sym between ∙ ap (λ (m : ℕ). written m (λ s. exponent s (terms_of u))) e)
+  module _ (g : ℕ) (e : next_from lo names_max (take u.count u.symbols) ≡ Some g) where
+    pub gathering_in : (lo ≤ g) × (g < names_max)
+    gathering_in = least_from_lem lo names_max (take u.count u.symbols) g e
 
-  -- there is a place for a sum that is not zero
-  pub gathering_room : u.count ≤ places_max → is_zero (exponent g (terms_of u)) ≡ false → w.count < places_max
-  gathering_room h z =
-      let one : length (power g (exponent g (terms_of u))) ≡ 1 = rw z in
-      let size : w.count ≡ length (written lo (λ s. exponent s (terms_of u))) = ap (λ (v : Sums). v.count) k.held in
-      omega (
-        arith,
-        ap length between,
-        length-append (written g (λ s. exponent s (terms_of u))) (power g (exponent g (terms_of u))),
-        written_few (suc g) (terms_of u),
-        length_terms u.count 0 u.symbols u.exponents,
-      )
+    skipped : written g (λ s. exponent s (terms_of u)) ≡ written lo (λ s. exponent s (terms_of u))
+    skipped = between g gathering_in.0 (λ s a b. next_passes lo names_max (terms_of u) g s (ap (next_from lo names_max) held_syms ∙ e) a b)
 
-  pub gathering_next : g < names_max → (r : Sums) → ((l : List Term) → w ≡ sums_of l → r ≡ sums_of (l ++ power g (exponent g (terms_of u)))) → Gathering u r (g + 1)
-  gathering_next h r f = record {
-    lo_in = omega arith;
-    held =
-        f (written lo (λ s. exponent s (terms_of u))) k.held
-        ∙ ap (λ t. sums_of (t ++ power g (exponent g (terms_of u)))) (sym between)
-        ∙ ap (λ (m : ℕ). sums_of (written m (λ s. exponent s (terms_of u)))) (sym (add-one g));
-  }
+    -- there is a place for a sum that is not zero
+    pub gathering_room : is_zero (exponent g (terms_of u)) ≡ false → w.count < places_max
+    gathering_room z =
+        let one : length (power g (exponent g (terms_of u))) ≡ 1 = rw z in
+        let size : w.count ≡ length (written lo (λ s. exponent s (terms_of u))) = ap (λ (v : Unit). v.count) k.held in
+        omega (
+          arith,
+          ap length skipped,
+          length-append (written g (λ s. exponent s (terms_of u))) (power g (exponent g (terms_of u))),
+          written_few (suc g) (terms_of u),
+          length_terms u.count 0 u.symbols u.exponents,
+        )
+
+    more : (r : Unit) → r ≡ unit_of (written lo (λ s. exponent s (terms_of u)) ++ power g (exponent g (terms_of u))) → Gathering u r (g + 1)
+    more r e = record {
+      lo_in = omega (arith, gathering_in.1);
+      held =
+          e
+          ∙ ap (λ t. unit_of (t ++ power g (exponent g (terms_of u)))) (sym skipped)
+          ∙ ap (λ (m : ℕ). unit_of (written m (λ s. exponent s (terms_of u)))) (sym (add-one g));
+    }
+
+    -- zero is left out
+    pub gathering_none : is_zero (exponent g (terms_of u)) ≡ true → Gathering u w (g + 1)
+    gathering_none z = more w (rw z (k.held ∙ ap unit_of (sym (append-nil (written lo (λ s. exponent s (terms_of u)))))))
+
+    pub gathering_next : is_zero (exponent g (terms_of u)) ≡ false → Gathering u (with_term w g (exponent g (terms_of u))) (g + 1)
+    gathering_next z = more _ (rw z (grown w g (exponent g (terms_of u)) (written lo (λ s. exponent s (terms_of u))) k.held))

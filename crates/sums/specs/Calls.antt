@@ -1,5 +1,5 @@
 -- What the calls for group sums and convertibility answer, over the pairs of a page (document 01, "Units and pairs" and the
--- table of refusals). Names are lent where `lent` is true.
+-- table of refusals).
 use Rattle.refusals.specs.declared.Refusal.{Refusal}
 use Rattle.std.specs.Prelude.{Bool, true, ◌&&◌, not, List, [], ◌∷◌, ℕ, Option, Some, None, Result}
 use Rattle.refusals.specs.Lowest.{◌when◌, lowest, answer_of}
@@ -30,11 +30,11 @@ all_formed [] = true
 all_formed (u ∷ us) = units.formed places_max names_max (terms_of u) && all_formed us
 
 -- why they are refused, if they are: 2 the names or the table, 3 a symbol not in use, 5 a unit
-unfoldable pub units_verdict : List ℕ → List ℕ → Bool → List Unit → Verdict
-units_verdict page names lent us =
+unfoldable pub units_verdict : List ℕ → Option (List ℕ) → List Unit → Verdict
+units_verdict page names us =
     lowest
-    ((Broken when table_broken page names lent)
-    ∷ (Unused when not (all_used (used_of names lent) us))
+    ((Broken when table_broken page names)
+    ∷ (Unused when not (all_used (used_of names) us))
     ∷ (BadUnit when not (all_formed us))
     ∷ [])
 
@@ -45,8 +45,8 @@ roots_in page = root_of names_max (listed_in page)
 -- ---- group sums
 
 -- the group sums of a unit (`canonicalize`)
-unfoldable pub sums_answer : List ℕ → List ℕ → Bool → Unit → Result Sums Refusal
-sums_answer page names lent u = answer_of (units_verdict page names lent (u ∷ [])) (sums_of (group_sums names_max (roots_in page) (terms_of u)))
+unfoldable pub sums_answer : List ℕ → Option (List ℕ) → Unit → Result Sums Refusal
+sums_answer page names u = answer_of (units_verdict page names (u ∷ [])) (sums_of (group_sums names_max (roots_in page) (terms_of u)))
 
 -- ---- convertible or not
 
@@ -56,7 +56,7 @@ or_empty None = unit_of []
 or_empty (Some u) = u
 
 -- are two units, or none, convertible (`is_convertible_to`)
-unfoldable pub convert_answer : List ℕ → List ℕ → Bool → Option Unit → Option Unit → Result Bool Refusal
-convert_answer page names lent left right =
-    answer_of (units_verdict page names lent (or_empty left ∷ or_empty right ∷ []))
+unfoldable pub convert_answer : List ℕ → Option (List ℕ) → Option Unit → Option Unit → Result Bool Refusal
+convert_answer page names left right =
+    answer_of (units_verdict page names (or_empty left ∷ or_empty right ∷ []))
     (convertible names_max (roots_in page) (terms_of (or_empty left)) (terms_of (or_empty right)))

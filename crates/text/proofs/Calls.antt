@@ -73,7 +73,6 @@ module _ (page : List ℕ) (u : Unit) where
           -- the terms in order can be written
           pub sorted_writable : Writable page w
           sorted_writable = record {
-            form = f;
             few = rw s sorted_few;
             used = rw sorted (by_name_used page (count_of page) (terms_of u) formed_used);
             inside = rw sorted (by_name_inside page (terms_of u) (ordered_inside names_max 0 (terms_of u) (formed_ordered places_max names_max (terms_of u) g)));

@@ -13,6 +13,7 @@ use Rattle.units.specs.Calls.{terms_of}
 use Rattle.units.specs.declared.Unit.{Unit}
 use Rattle.units.proofs.Form.{length_terms}
 use Rattle.digits.proofs.Wrote.{Wrote, spelled, wrote_both}
+use Rattle.names.specs.Table.{formed}
 use Rattle.text.specs.Text.{side, or_one, line_of}
 use Rattle.text.specs.Calls.{power_max, text_max, count_on, Writable}
 use Rattle.text.proofs.Sides.{Sound, side_short}
@@ -40,7 +41,7 @@ or_one_short : (t : List ℕ) → length (or_one t) ≤ 1 + length t
 or_one_short [] = omega arith
 or_one_short (x ∷ t) = omega arith
 
-module _ (page : List ℕ) (v : Unit) (w : Writable page v) where
+module _ (page : List ℕ) (v : Unit) (form : formed page ≡ true) (w : Writable page v) where
   sound : Sound page (terms_of v)
   sound = record { used = w.used; inside = w.inside }
 
@@ -48,10 +49,10 @@ module _ (page : List ℕ) (v : Unit) (w : Writable page v) where
   few = omega (arith, count_both (terms_of v), length_terms v.count 0 v.symbols v.exponents, w.few)
 
   above_short : length (side page true (terms_of v)) ≤ power_max * count_on true (terms_of v)
-  above_short = side_short page true w.form (terms_of v) sound
+  above_short = side_short page true form (terms_of v) sound
 
   below_short : length (side page false (terms_of v)) ≤ power_max * count_on false (terms_of v)
-  below_short = side_short page false w.form (terms_of v) sound
+  below_short = side_short page false form (terms_of v) sound
 
   -- ---- there is room for each part
 

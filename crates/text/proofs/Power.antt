@@ -1,40 +1,19 @@
--- An exponent's side and size, a power, and what stands before it: one law for each return. Assumes nothing.
+-- A power, and what stands before it: one law for each return. Assumes nothing.
 use mathlib.Core.Path.{◌≡◌, refl, sym, ◌∙◌}
 use mathlib.Core.Bool.{Bool, true, false, cond}
 use mathlib.Core.List.{List, [], ◌∷◌, ◌++◌, append_assoc, append-nil}
-use Prim.Native.Nat.{ℕ, zero, suc, ◌+◌, ◌≤◌}
+use Prim.Native.Nat.{ℕ, ◌+◌, ◌≤◌}
 use native.Mathlib.Omega.{arith}
-use lib.Dec.{T, eqb}
+use lib.Dec.{eqb}
 use lib.ListN.{length, length-append}
-use lib.IntN.{ℤ, pos, negsuc, neg_ℤ, ◌-ℤ◌, +ℤ_idl}
-use lib.Signed.{lt_z, non_neg}
-use mir.Syntax.{w16}
-use mir.Val.{SFits, to_z, of_z}
-use mir.Facts.{to_z-of_z}
-use borrow.Author.Tests.{ltb-true, eq-eqb, ne_eqb}
+use borrow.Author.Tests.{eq-eqb, ne_eqb}
 use Rattle.names.specs.Table.{name_max}
-use Rattle.units.specs.Unit.{exponent_max, outside}
-use Rattle.units.proofs.Signed.{small, neg_fits}
+use Rattle.units.specs.Unit.{exponent_max}
 use Rattle.digits.specs.Decimal.{decimal_of}
 use Rattle.digits.proofs.Digits.{decimal_short}
 use Rattle.digits.proofs.Wrote.{Wrote, wrote_none, spelled, wrote_both}
 use Rattle.text.specs.Text.{power, separator}
 use Rattle.text.specs.Calls.{exponent_digits}
-
--- ---- which side, and how large
-
--- an exponent turned, as it is read from its bits
-pub turned_back : (e : ℤ) → SFits w16 e → outside e ≡ false → to_z w16 (of_z w16 (pos 0 -ℤ to_z w16 (of_z w16 e))) ≡ neg_ℤ e
-turned_back e f h = rw (to_z-of_z f, +ℤ_idl) (to_z-of_z (neg_fits e (small e h)))
-
-pub turned_up : (e : ℤ) → lt_z e (pos 0) ≡ true → T (non_neg (neg_ℤ e))
-turned_up (pos zero) h = tt
-turned_up (pos (suc n)) h = let z = ltb-true (suc n) 0 h in absurd (omega arith)
-turned_up (negsuc n) h = tt
-
-pub stands_up : (e : ℤ) → lt_z e (pos 0) ≡ false → T (non_neg e)
-stands_up (pos n) h = tt
-stands_up (negsuc n) h = absurd (let z : ◌≡◌ {A = ℕ} 0 1 = cc in omega arith)
 
 -- ---- a power
 

@@ -33,7 +33,6 @@ count_on above (x ∷ xs) = cond (stands above x.exp) 1 0 + count_on above xs
 
 -- a unit whose terms, in any order, can be written
 pub record Writable (page : List ℕ) (v : Unit) : Type 0 where
-  pub form : names.formed page ≡ true
   pub few : v.count ≤ units.places_max
   pub used : units.in_use (count_of page) (terms_of v) ≡ true
   pub inside : any_outside (terms_of v) ≡ false

@@ -11,7 +11,7 @@ ghost use Rattle.text.specs.Text.{power, stands, separator, side, line_of};
 ghost use Rattle.text.specs.Calls.{exponent_digits, power_max, text_max, count_on, Writable, text_answer};
 
 use digits::push;
-use names::{name_of, symbol_index};
+use names::{Names, symbol_index};
 use pages::Padded;
 use refusals::Refusal;
 use units::{PLACES, Unit};
@@ -25,7 +25,8 @@ pub const EXPONENT_DIGITS: usize = 4;
 // A text by value.
 pub type Text = Padded<TEXT_BYTES>;
 
-// Whether a term with this exponent stands above the line or, with false, below it.
+// Whether a term with this exponent stands above the line or, with false, below it. The sides differ in this and in what leads them; a
+// closure for the one beside a slice for the other would be two parameters that travel together.
 fn is_on(e: i16, above: bool) -> bool
     ensures { result ≡ stands above e }
 {
@@ -33,14 +34,12 @@ fn is_on(e: i16, above: bool) -> bool
 }
 
 // How large an exponent is.
+#[tactic(auto, using(units::proofs::Signed::small))]
 fn size(e: i16) -> usize
     requires { outside e ≡ false }
     ensures { (result ≡ nat_abs e) × (result ≤ exponent_max) }
 {
-    if e < 0 {
-        return (-e) as usize;
-    }
-    e as usize
+    usize::from(e.unsigned_abs())
 }
 
 // Writes a name with its power.
@@ -71,9 +70,9 @@ fn write_separator(out: &mut [u8], start: usize, at: usize, above: bool) -> usiz
 }
 
 // Writes one side of the line.
-fn write_side(out: &mut [u8], start: usize, page: &[u8], v: Unit, above: bool) -> usize
-    requires { Writable page.now v × (start + power_max * count_on above (terms_of v) ≤ length out.old) }
-    ensures { (result ≡ start + length (side page.now above (terms_of v))) × (out.new ≡ put out.old start (side page.now above (terms_of v))) }
+fn write_side(out: &mut [u8], start: usize, names: Names, v: Unit, above: bool) -> usize
+    requires { Writable names.page.now v × (start + power_max * count_on above (terms_of v) ≤ length out.old) }
+    ensures { (result ≡ start + length (side names.entry.page.now above (terms_of v))) × (out.new ≡ put out.old start (side names.entry.page.now above (terms_of v))) }
 {
     let n = v.count;
     let mut at = start;
@@ -83,31 +82,31 @@ fn write_side(out: &mut [u8], start: usize, page: &[u8], v: Unit, above: bool) -
             continue;
         }
         let a = write_separator(out, start, at, above);
-        at = write_power(out, a, name_of(page, symbol_index(v.symbols[i])), size(e));
+        at = write_power(out, a, names.name_of(symbol_index(v.symbols[i])), size(e));
     }
     at
 }
 
 // Writes both sides at the front of `out`, and answers how many bytes they have.
-fn write_line(out: &mut [u8], page: &[u8], v: Unit) -> usize
-    requires { Writable page.now v × (text_max ≤ length out.old) }
-    ensures { (result ≡ length (line_of page.now (terms_of v))) × (out.new ≡ put out.old 0 (line_of page.now (terms_of v))) }
+fn write_line(out: &mut [u8], names: Names, v: Unit) -> usize
+    requires { Writable names.page.now v × (text_max ≤ length out.old) }
+    ensures { (result ≡ length (line_of names.entry.page.now (terms_of v))) × (out.new ≡ put out.old 0 (line_of names.entry.page.now (terms_of v))) }
 {
-    let a = write_side(out, 0, page, v, true);
+    let a = write_side(out, 0, names, v, true);
     if a == 0 {
         let b = push(out, a, b"1");
-        return write_side(out, b, page, v, false);
+        return write_side(out, b, names, v, false);
     }
-    write_side(out, a, page, v, false)
+    write_side(out, a, names, v, false)
 }
 
 // The text of terms in order.
-fn written(page: &[u8], v: Unit) -> Text
-    requires { Writable page.now v }
-    ensures { result ≡ padded text_max (line_of page.now (terms_of v)) }
+fn written(names: Names, v: Unit) -> Text
+    requires { Writable names.page.now v }
+    ensures { result ≡ padded text_max (line_of names.entry.page.now (terms_of v)) }
 {
     let mut bytes = [0u8; TEXT_BYTES];
-    let size = write_line(&mut bytes, page, v);
+    let size = write_line(&mut bytes, names, v);
     Padded { size, bytes }
 }
 
@@ -115,14 +114,14 @@ fn written(page: &[u8], v: Unit) -> Text
 pub fn unit_text(page: &[u8], u: Unit) -> Result<Text, Refusal>
     ensures { result ≡ text_answer page.now u }
 {
-    if !names::is_formed(page) {
+    let Some(names) = Names::of(page) else {
         return Err(Refusal::Broken);
-    }
-    if !units::is_used(u, pages::count(page)) {
+    };
+    if !units::is_used(u, names.count()) {
         return Err(Refusal::Unused);
     }
     if !units::is_formed(u) {
         return Err(Refusal::BadUnit);
     }
-    Ok(written(page, order::by_name(page, u)))
+    Ok(written(names, order::by_name(names, u)))
 }

@@ -1,4 +1,6 @@
 -- What the calls on a store of types come to, one law for each return. Assumes nothing.
+use Rattle.std.specs.Prelude.{Option}
+use Rattle.std.specs.List.{list_all}
 use Rattle.std.proofs.Common.{Result, Ok, Err}
 use mathlib.Core.Path.{◌≡◌, refl, ◌∙◌, ap, subst, sym}
 use mathlib.Core.Bool.{Bool, true, false, ◌&&◌, ◌||◌, not, cond}
@@ -41,33 +43,33 @@ module _ (page : List ℕ) where
 
 -- ---- names and store
 
-module _ (page names : List ℕ) (lent : Bool) where
-  pub broken_names : lent_broken names lent ≡ true → store_broken page names lent ≡ true
+module _ (page : List ℕ) (names : Option (List ℕ)) where
+  pub broken_names : lent_broken names ≡ true → store_broken page names ≡ true
   unfolding store_broken
   broken_names l = rw l
 
-  module _ (l : lent_broken names lent ≡ false) where
-    pub broken_store : formed page (used_of names lent) ≡ false → store_broken page names lent ≡ true
+  module _ (l : lent_broken names ≡ false) where
+    pub broken_store : formed page (used_of names) ≡ false → store_broken page names ≡ true
     unfolding store_broken
     broken_store f = rw (l, f)
 
-    pub unbroken : formed page (used_of names lent) ≡ true → store_broken page names lent ≡ false
+    pub unbroken : formed page (used_of names) ≡ true → store_broken page names ≡ false
     unfolding store_broken
     unbroken f = rw (l, f)
 
   -- where neither breaks its form
   -- whether it is broken, once the names are not
-  pub broken_or_not : lent_broken names lent ≡ false → (n : ℕ) → n ≡ used_of names lent → (r : Bool) → r ≡ formed page n → store_broken page names lent ≡ not r
+  pub broken_or_not : lent_broken names ≡ false → (n : ℕ) → n ≡ used_of names → (r : Bool) → r ≡ formed page n → store_broken page names ≡ not r
   unfolding store_broken
   broken_or_not l n is r e = rw (l, ← is, e) refl
 
-  pub unbroken_both : store_broken page names lent ≡ false → (lent_broken names lent ≡ false) × (formed page (used_of names lent) ≡ true)
+  pub unbroken_both : store_broken page names ≡ false → (lent_broken names ≡ false) × (formed page (used_of names) ≡ true)
   unfolding store_broken
-  unbroken_both e = go (lent_broken names lent) refl
+  unbroken_both e = go (lent_broken names) refl
     where
-      go : (b : Bool) → lent_broken names lent ≡ b → (b ≡ false) × (formed page (used_of names lent) ≡ true)
+      go : (b : Bool) → lent_broken names ≡ b → (b ≡ false) × (formed page (used_of names) ≡ true)
       go true l = let z : ◌≡◌ {A = Bool} true false = rw l at e in absurd (subst T z tt)
-      go false l = (refl, not-false (formed page (used_of names lent)) (rw l at e))
+      go false l = (refl, not-false (formed page (used_of names)) (rw l at e))
 
 -- ---- the parts of a type
 
@@ -95,10 +97,10 @@ unstored_fixed k l s = leb-false fixed_max k (go (leb fixed_max k) (rw (le-leb k
     go true e = e
     go false e = refl
 
-module _ (page names : List ℕ) (lent : Bool) (k : ℕ) (cs : List ℕ) (m : ℕ) where
+module _ (page : List ℕ) (names : Option (List ℕ)) (k : ℕ) (cs : List ℕ) (m : ℕ) where
   -- what `make_type` promises
   abbrev Makes : Result ℕ Refusal → List ℕ → Type 0
-  Makes r after = (r ≡ make_answer page names lent k cs m) × (after ≡ make_page page names lent k cs m)
+  Makes r after = (r ≡ make_answer page names k cs m) × (after ≡ make_page page names k cs m)
 
   -- the conditions of depth and room, and those before them
   abbrev deep : List Condition
@@ -111,31 +113,31 @@ module _ (page names : List ℕ) (lent : Bool) (k : ℕ) (cs : List ℕ) (m : �
   wide = (Width when not (within (fewest k) (most k) (length cs))) ∷ deep
 
   abbrev unused : List Condition
-  unused = (Unused when not (parts_used page (used_of names lent) k cs m)) ∷ wide
+  unused = (Unused when not (parts_used page (used_of names) k cs m)) ∷ wide
 
-  refused : (q : Refusal) → make_verdict page names lent k cs m ≡ Err q → Makes (Err q) page
+  refused : (q : Refusal) → make_verdict page names k cs m ≡ Err q → Makes (Err q) page
   unfolding make_answer make_page
   refused q v = (rw v, rw v)
 
   pub make_undefined : kind_last < k → Makes (Err Undefined) page
   unfolding make_verdict
-  make_undefined h = refused Undefined (rw (lt-ltb kind_last k h) (first_holds Undefined ((Broken when store_broken page names lent) ∷ unused) refl))
+  make_undefined h = refused Undefined (rw (lt-ltb kind_last k h) (first_holds Undefined ((Broken when store_broken page names) ∷ unused) refl))
 
   module _ (d : k ≤ kind_last) where
-    broken : store_broken page names lent ≡ true → Makes (Err Broken) page
+    broken : store_broken page names ≡ true → Makes (Err Broken) page
     unfolding make_verdict
     broken b = refused Broken (rw (le-ltb kind_last k d, b) (first_holds Broken unused refl))
 
-    pub make_unnamed : lent_broken names lent ≡ true → Makes (Err Broken) page
-    make_unnamed l = broken (broken_names page names lent l)
+    pub make_unnamed : lent_broken names ≡ true → Makes (Err Broken) page
+    make_unnamed l = broken (broken_names page names l)
 
-    module _ (l : lent_broken names lent ≡ false) (n : ℕ) (is : n ≡ used_of names lent) where
+    module _ (l : lent_broken names ≡ false) (n : ℕ) (is : n ≡ used_of names) where
       pub make_unformed : formed page n ≡ false → Makes (Err Broken) page
-      make_unformed f = broken (broken_store page names lent l (rw (← is) f))
+      make_unformed f = broken (broken_store page names l (rw (← is) f))
 
       module _ (f : formed page n ≡ true) where
-        sound : store_broken page names lent ≡ false
-        sound = unbroken page names lent l (rw (← is) f)
+        sound : store_broken page names ≡ false
+        sound = unbroken page names l (rw (← is) f)
 
         pub make_unused : parts_used page n k cs m ≡ false → Makes (Err Unused) page
         unfolding make_verdict
@@ -147,14 +149,14 @@ module _ (page names : List ℕ) (lent : Bool) (k : ℕ) (cs : List ℕ) (m : �
           make_miscounted w = refused Width (rw (le-ltb kind_last k d, sound, ← is, u, w) (first_holds Width deep refl))
 
           module _ (w : within (fewest k) (most k) (length cs) ≡ true) where
-            verdict_is : make_verdict page names lent k cs m ≡ lowest deep
+            verdict_is : make_verdict page names k cs m ≡ lowest deep
             unfolding make_verdict
             verdict_is = rw (le-ltb kind_last k d, sound, ← is, u, w)
 
             pub make_fixed : is_stored k ≡ false → Makes (Ok k) page
             unfolding make_answer make_page is_new
             make_fixed s =
-                let v : make_verdict page names lent k cs m ≡ (Ok tt) = verdict_is ∙ rw s refl in
+                let v : make_verdict page names k cs m ≡ (Ok tt) = verdict_is ∙ rw s refl in
                 (rw (v, lt-ltb k fixed_max (unstored_fixed k d s)), rw (v, s))
 
             module _ (s : is_stored k ≡ true) where
@@ -163,7 +165,7 @@ module _ (page names : List ℕ) (lent : Bool) (k : ℕ) (cs : List ℕ) (m : �
               unfolding is_new
               new_is = rw s
 
-              entered : make_verdict page names lent k cs m ≡ enter_verdict page (entry_of k cs m)
+              entered : make_verdict page names k cs m ≡ enter_verdict page (entry_of k cs m)
               unfolding enter_verdict
               entered = verdict_is ∙ rw new_is
 
@@ -199,22 +201,22 @@ module _ (page names : List ℕ) (lent : Bool) (k : ℕ) (cs : List ℕ) (m : �
               }
 
   -- a type that was made is there
-  pub made_is : (t : ℕ) → make_answer page names lent k cs m ≡ Ok t → t < types_in (make_page page names lent k cs m)
+  pub made_is : (t : ℕ) → make_answer page names k cs m ≡ Ok t → t < types_in (make_page page names k cs m)
   unfolding make_answer make_verdict
   made_is t at = go (is_stored k) refl
     where
-      v : (lowest ((Undefined when ltb kind_last k) ∷ (Broken when store_broken page names lent) ∷ unused) ≡ Ok tt)
+      v : (lowest ((Undefined when ltb kind_last k) ∷ (Broken when store_broken page names) ∷ unused) ≡ Ok tt)
           × (cond (ltb k fixed_max) k (fixed_max + equal_to page (count_of page) (entry_of k cs m)) ≡ t)
-      v = let z = answer_of_ok (make_verdict page names lent k cs m) (cond (ltb k fixed_max) k (fixed_max + equal_to page (count_of page) (entry_of k cs m))) t (sym at) in (z.0, sym z.1)
+      v = let z = answer_of_ok (make_verdict page names k cs m) (cond (ltb k fixed_max) k (fixed_max + equal_to page (count_of page) (entry_of k cs m))) t (sym at) in (z.0, sym z.1)
 
-      d : (ltb kind_last k ≡ false) × (lowest ((Broken when store_broken page names lent) ∷ unused) ≡ Ok tt)
-      d = passed_parts Undefined (ltb kind_last k) ((Broken when store_broken page names lent) ∷ unused) v.0
+      d : (ltb kind_last k ≡ false) × (lowest ((Broken when store_broken page names) ∷ unused) ≡ Ok tt)
+      d = passed_parts Undefined (ltb kind_last k) ((Broken when store_broken page names) ∷ unused) v.0
 
-      b : (store_broken page names lent ≡ false) × (lowest unused ≡ Ok tt)
-      b = passed_parts Broken (store_broken page names lent) unused d.1
+      b : (store_broken page names ≡ false) × (lowest unused ≡ Ok tt)
+      b = passed_parts Broken (store_broken page names) unused d.1
 
-      u : (not (parts_used page (used_of names lent) k cs m) ≡ false) × (lowest wide ≡ Ok tt)
-      u = passed_parts Unused (not (parts_used page (used_of names lent) k cs m)) wide b.1
+      u : (not (parts_used page (used_of names) k cs m) ≡ false) × (lowest wide ≡ Ok tt)
+      u = passed_parts Unused (not (parts_used page (used_of names) k cs m)) wide b.1
 
       w : (not (within (fewest k) (most k) (length cs)) ≡ false) × (lowest deep ≡ Ok tt)
       w = passed_parts Width (not (within (fewest k) (most k) (length cs))) deep u.1
@@ -222,15 +224,20 @@ module _ (page names : List ℕ) (lent : Bool) (k : ℕ) (cs : List ℕ) (m : �
       known : k ≤ kind_last
       known = ltb-false kind_last k d.0
 
-      go : (x : Bool) → is_stored k ≡ x → t < types_in (make_page page names lent k cs m)
+      go : (x : Bool) → is_stored k ≡ x → t < types_in (make_page page names k cs m)
       go true s =
-          let z = unbroken_both page names lent b.0 in
-          let used = not-false (parts_used page (used_of names lent) k cs m) u.0 in
+          let z = unbroken_both page names b.0 in
+          let used = not-false (parts_used page (used_of names) k cs m) u.0 in
           let counted = not-false (within (fewest k) (most k) (length cs)) w.0 in
-          let r = make_entered known z.0 (used_of names lent) refl z.1 used counted s in
-          let e = make_enterable known z.0 (used_of names lent) refl z.1 used counted s in
-          rw (← r.1) (enter_used page (entry_of k cs m) (record { names = used_of names lent; form = z.1 }) e t (r.0 ∙ at))
+          let r = make_entered known z.0 (used_of names) refl z.1 used counted s in
+          let e = make_enterable known z.0 (used_of names) refl z.1 used counted s in
+          rw (← r.1) (enter_used page (entry_of k cs m) (record { names = used_of names; form = z.1 }) e t (r.0 ∙ at))
       go false s =
           let l = unstored_fixed k known s in
           let q : k ≡ t = rw (lt-ltb k fixed_max l) at v.1 in
           omega (arith, l, q)
+
+-- numbers below t, one by one
+pub below_listed : (t : ℕ) (cs : List ℕ) → list_all (λ c. ltb c t) cs ≡ all_below t cs
+below_listed t [] = refl
+below_listed t (c ∷ cs) = ap (λ b. ltb c t && b) (below_listed t cs)

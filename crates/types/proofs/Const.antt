@@ -7,18 +7,18 @@ use Prim.Native.Nat.{ℕ, zero, suc, ◌+◌, ◌-◌, ◌*◌, ◌<◌, ◌≤�
 use native.Mathlib.Nat.{not-suc-le-zero, le_of_suc-le-suc}
 use native.Mathlib.Omega.{arith}
 use lib.Dec.{ltb, eqb}
-use lib.ListN.{length, get_or, take, drop, set, replicate, length-set, length-drop, length-replicate}
+use lib.ListN.{length, get_or, take, drop, set, length-set, length-drop}
 use lib.Seq.{get_or-take, get_or-drop, get_or-set_same, get_or-set_other, length-take-le}
 use borrow.Author.Tests.{lt-ltb, le-ltb, ltb-false}
 use Rattle.refusals.specs.Lowest.{◌when◌, lowest, answer_of}
 use Rattle.refusals.specs.declared.Refusal.{Refusal}
 use Rattle.refusals.specs.declared.Refusal.TheVariants.{Depth, Full}
 use Rattle.pages.specs.Quant.{all_to}
-use Rattle.pages.specs.Bytes.{within, count_of, put}
-use Rattle.pages.specs.Pad.{pad}
+use Rattle.pages.specs.Bytes.{within, count_of}
+use Rattle.pages.specs.Pad.{pad, padded}
+use Rattle.pages.specs.declared.Padded.{Padded}
 use Rattle.pages.proofs.Quant.{and_true, all_each}
 use Rattle.pages.proofs.Bytes.{number_alike}
-use Rattle.pages.proofs.Pad.{put_pad}
 use Rattle.names.specs.Calls.{is_used}
 use Rattle.kinds.specs.Kinds.{fixed_max, is_named, is_stored, fewest, most, const_variant}
 use Rattle.kinds.proofs.Const.{Keeps, variant_keeps}
@@ -146,11 +146,9 @@ module _ (page : List ℕ) (f : Formed page) (t : ℕ) (l : fixed_max ≤ t) (u 
     pub const_size : size ≡ size_at page (place_of page t)
     const_size = s ∙ ap (size_at page) p
 
-    pub const_fits : (places : List ℕ) → places ≡ replicate entry_max 0 → 0 + length (take (at + size - at) (drop at page)) ≤ length places
+    pub const_fits : length (take (at + size - at) (drop at page)) ≤ entry_max
     unfolding e
-    const_fits places q =
-        let n : length places ≡ entry_max = ap length q ∙ length-replicate {A = ℕ} entry_max 0 in
-        omega (arith, ap length const_part, e_length, const_small, n)
+    const_fits = omega (arith, ap length const_part, e_length, const_small)
 
   -- it can be entered
   const_enterable : Enterable page (const_entry page t) f
@@ -183,12 +181,16 @@ module _ (page : List ℕ) (f : Formed page) (t : ℕ) (l : fixed_max ≤ t) (u 
 
   -- and is written like this
   pub const_made : (v : ℕ) → v ≡ const_variant (kind_at page (place_of page t))
-      → set (put (replicate entry_max 0) 0 (entry_at page (place_of page t))) 1 v ≡ pad entry_max 0 (const_entry page t)
+      → ◌≡◌ {A = Padded entry_max} (record { size = length (entry_at page (place_of page t)); bytes = set (pad entry_max 0 (entry_at page (place_of page t))) 1 v })
+      (padded entry_max (const_entry page t))
   unfolding const_entry e
   const_made v h =
       let k : v ≡ const_variant (kind_of page t) = h ∙ ap const_variant (kind_entry page t l) in
       let s : length e ≤ entry_max = omega (arith, e_length, const_small) in
-      rw (put_pad entry_max e s, k) (set_pad entry_max e 1 (const_variant (kind_of page t)) (omega (arith, e_two)) s)
+      λ i. record {
+        size = sym (length-set e 1 (const_variant (kind_of page t))) i;
+        bytes = (ap (set (pad entry_max 0 e) 1) k ∙ set_pad entry_max e 1 (const_variant (kind_of page t)) (omega (arith, e_two)) s) i;
+      }
 
 -- ---- the call
 

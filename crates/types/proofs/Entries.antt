@@ -1,5 +1,5 @@
 -- The bytes of an entry: what they say, and how they are written. Assumes nothing.
-use mathlib.Core.Path.{◌≡◌, refl, sym, ◌∙◌}
+use mathlib.Core.Path.{◌≡◌, refl, ◌∙◌}
 use mathlib.Core.Bool.{Bool, true, false, ◌&&◌, ◌||◌, not, cond}
 use mathlib.Core.List.{List, [], ◌∷◌}
 use Prim.Native.Nat.{ℕ, zero, suc, ◌+◌, ◌*◌, ◌%◌, ◌^◌, ◌<◌, ◌≤◌}
@@ -8,7 +8,8 @@ use native.Mathlib.Omega.{arith}
 use lib.Dec.{ltb, eqb}
 use lib.ListN.{length, get_or, take, replicate}
 use Rattle.pages.specs.Bytes.{within, words, big_endian, put}
-use Rattle.pages.specs.Pad.{pad}
+use Rattle.pages.specs.Pad.{pad, padded}
+use Rattle.pages.specs.declared.Padded.{Padded}
 use Rattle.pages.proofs.Quant.{and_true, all_each}
 use Rattle.pages.proofs.Bytes.{big_length, number_back}
 use Rattle.pages.proofs.Put.{put_append}
@@ -30,8 +31,8 @@ below_at (c ∷ cs) t u zero l = (and_true (ltb c t) (all_below t cs) u).0
 below_at (c ∷ cs) t u (suc i) l = below_at cs t (and_true (ltb c t) (all_below t cs) u).1 i (le_of_suc-le-suc l)
 
 -- the front of an entry's places is the entry
-pub entry_front : (e bytes : List ℕ) (size : ℕ) → (bytes ≡ pad entry_max 0 e) × (size ≡ length e) × (size ≤ entry_max) → take size bytes ≡ e
-entry_front e bytes size h = rw h.0 (pad_front entry_max e size (sym h.1) h.2)
+pub entry_front : (e : List ℕ) (v : Padded entry_max) → (v ≡ padded entry_max e) × (v.size ≤ entry_max) → take v.size v.bytes ≡ e
+entry_front e v h = rw h.0 (pad_front entry_max e (length e) refl (rw h.0 at h.1))
 
 -- ---- an entry
 
@@ -61,11 +62,11 @@ module _ (k : ℕ) (cs : List ℕ) (m : ℕ) where
         let s : m < 256 ^ name_bytes = omega (arith, (used_below n m u).1, names_fit) in
         number_back (entry_of k cs m) (0 + head_bytes) m name_bytes s name_bytes_lem
 
-    pub named_size : head_bytes + name_bytes ≡ length (entry_of k cs m)
+    named_size : head_bytes + name_bytes ≡ length (entry_of k cs m)
     named_size = rw (named_is, big_length name_bytes m) (omega arith)
 
-    pub named_made : put (replicate entry_max 0) 0 (0 ∷ k ∷ m % 256 ∷ []) ≡ pad entry_max 0 (entry_of k cs m)
-    named_made = rw (named_is, byte_name m) (put_pad entry_max (0 ∷ k ∷ m % 256 ∷ []) (omega arith))
+    pub named_made : 0 ∷ k ∷ m % 256 ∷ [] ≡ entry_of k cs m
+    named_made = rw (named_is, byte_name m) refl
 
   module _ (h : is_named k ≡ false) where
     other_is : entry_of k cs m ≡ length cs ∷ k ∷ words cs

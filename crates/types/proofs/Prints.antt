@@ -13,9 +13,8 @@ use Rattle.pages.specs.Bytes.{eqs}
 use Rattle.pages.specs.Quant.{any_to}
 use Rattle.pages.proofs.Quant.{first_none, first_below}
 use Rattle.pages.proofs.Bytes.{eqs_true}
-use Rattle.chains.specs.Last.{last_below, Links}
+use Rattle.chains.specs.Last.{last_below}
 use Rattle.chains.specs.Prints.{prints_max, print_of}
-use Rattle.chains.proofs.Walk as walk
 use Rattle.chains.proofs.Grow.{heads_none, heads_more, links_none, links_more}
 use Rattle.types.specs.Store.{entries_max, size_at, entry_at, offset, is_entry}
 use Rattle.types.specs.Survey.{new_at, print_at, Placed, Chained}
@@ -24,48 +23,22 @@ use Rattle.types.proofs.Placing.{offset_next, offset_le, entry_part}
 pub same_print : (page entry : List ℕ) (i : ℕ) → is_entry page entry i ≡ true → print_at page i ≡ print_of entry
 same_print page entry i e = ap print_of (eqs_true (entry_at page (offset page i)) entry e)
 
--- the search stands at an entry of the chain, and no entry from there on has these bytes
-abbrev pub Among : List ℕ → List ℕ → ℕ → ℕ → Type 0
-Among page entry = walk.Walk (print_at page) (print_of entry) (is_entry page entry) (same_print page entry)
+-- an entry that is compared
+module _ (page offsets : List ℕ) (j k : ℕ) (t : Placed page offsets j) (h : k < j) where
+  start_is : get_or offsets k 0 ≡ offset page k
+  start_is = t.places k (omega arith)
 
-pub among_start : (page entry : List ℕ) (j head : ℕ) → head ≡ last_below (print_at page) j (print_of entry) → Among page entry j head
-among_start page entry = walk.walk_start (print_at page) (print_of entry) (is_entry page entry) (same_print page entry)
+  end_is : get_or offsets (k + 1) 0 ≡ get_or offsets k 0 + size_at page (get_or offsets k 0)
+  end_is = t.places (k + 1) (omega arith) ∙ rw (start_is, offset_next page k) refl
 
-pub among_end : (page entry : List ℕ) (j next : ℕ) → Among page entry j next → next ≡ 0 → false ≡ any_to j (is_entry page entry)
-among_end page entry j next w e = sym (walk.walk_end (print_at page) (print_of entry) (is_entry page entry) (same_print page entry) j next w e)
-
-module _ (page offsets entry : List ℕ) (j next : ℕ) (t : Placed page offsets j) (w : Among page entry j next) (h : 0 < next) where
-  before : next ≡ suc (next - 1)
-  before = omega arith
-
-  -- the part of the page that is compared next
-  start_is : get_or offsets (next - 1) 0 ≡ offset page (next - 1)
-  start_is = t.places (next - 1) (omega arith)
-
-  end_is : get_or offsets next 0 ≡ get_or offsets (next - 1) 0 + size_at page (get_or offsets (next - 1) 0)
-  end_is =
-      let e : next - 1 + 1 ≡ next = omega arith in
-      t.places next w.0 ∙ rw (start_is, offset_next page (next - 1), e) refl
-
-  pub part_ordered : get_or offsets (next - 1) 0 ≤ get_or offsets next 0
+  pub part_ordered : get_or offsets k 0 ≤ get_or offsets (k + 1) 0
   part_ordered = omega (arith, end_is)
 
-  pub part_in : get_or offsets next 0 ≤ length page
-  part_in = omega (arith, t.places next w.0, offset_le page next j w.0, t.inside)
+  pub part_in : get_or offsets (k + 1) 0 ≤ length page
+  part_in = omega (arith, t.places (k + 1) (omega arith), offset_le page (k + 1) j (omega arith), t.inside)
 
-  compared : (b : Bool) → eqs (take (get_or offsets next 0 - get_or offsets (next - 1) 0) (drop (get_or offsets (next - 1) 0) page)) entry ≡ b
-      → is_entry page entry (next - 1) ≡ b
-  compared b f = rw (← start_is, ← entry_part page (get_or offsets (next - 1) 0) (get_or offsets next 0) end_is) f
-
-  pub among_found : eqs (take (get_or offsets next 0 - get_or offsets (next - 1) 0) (drop (get_or offsets (next - 1) 0) page)) entry ≡ true
-      → true ≡ any_to j (is_entry page entry)
-  among_found f =
-      sym (walk.walk_found (print_at page) (print_of entry) (is_entry page entry) (same_print page entry) j next (next - 1) w before (compared true f))
-
-  pub among_on : eqs (take (get_or offsets next 0 - get_or offsets (next - 1) 0) (drop (get_or offsets (next - 1) 0) page)) entry ≡ false
-      → (links : List ℕ) → Links (print_at page) links j → (v : ℕ) → v ≡ get_or links (next - 1) 0 → (v < next) × Among page entry j v
-  among_on f =
-      walk.walk_on (print_at page) (print_of entry) (is_entry page entry) (same_print page entry) j next (next - 1) w before (compared false f)
+  pub compared : (entry : List ℕ) → eqs (take (get_or offsets (k + 1) 0 - get_or offsets k 0) (drop (get_or offsets k 0) page)) entry ≡ is_entry page entry k
+  compared entry = rw (entry_part page (get_or offsets k 0) (get_or offsets (k + 1) 0) end_is, start_is) refl
 
 -- ---- the chains, from none on, an entry more at a time
 

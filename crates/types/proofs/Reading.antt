@@ -1,7 +1,8 @@
 -- Reading a type by value: one law for each step and each return. Assumes nothing.
+use Rattle.std.specs.Prelude.{Option}
 use Rattle.std.proofs.Common.{Ok, Err}
 use mathlib.Core.Path.{◌≡◌, refl, sym}
-use mathlib.Core.Bool.{Bool, true, false, not}
+use mathlib.Core.Bool.{true, false, not}
 use mathlib.Core.List.{List, [], ◌∷◌}
 use Prim.Native.Nat.{ℕ, ◌+◌, ◌<◌, ◌≤◌}
 use native.Mathlib.Numerals.{add-one}
@@ -48,23 +49,23 @@ module _ (page os ds : List ℕ) (g : Measured page os ds) (t : ℕ) (u : t < ty
 
 -- ---- the call
 
-module _ (page names : List ℕ) (lent : Bool) (t : ℕ) where
-  broken : store_broken page names lent ≡ true → Err Broken ≡ read_answer page names lent t
+module _ (page : List ℕ) (names : Option (List ℕ)) (t : ℕ) where
+  broken : store_broken page names ≡ true → Err Broken ≡ read_answer page names t
   unfolding read_answer read_verdict
   broken b = rw (b, first_holds Broken ((Unused when not (ltb t (types_in page))) ∷ []) refl)
 
-  pub read_unnamed : lent_broken names lent ≡ true → Err Broken ≡ read_answer page names lent t
-  read_unnamed l = broken (broken_names page names lent l)
+  pub read_unnamed : lent_broken names ≡ true → Err Broken ≡ read_answer page names t
+  read_unnamed l = broken (broken_names page names l)
 
-  module _ (l : lent_broken names lent ≡ false) (n : ℕ) (is : n ≡ used_of names lent) where
-    pub read_unformed : formed page n ≡ false → Err Broken ≡ read_answer page names lent t
-    read_unformed f = broken (broken_store page names lent l (rw (← is) f))
+  module _ (l : lent_broken names ≡ false) (n : ℕ) (is : n ≡ used_of names) where
+    pub read_unformed : formed page n ≡ false → Err Broken ≡ read_answer page names t
+    read_unformed f = broken (broken_store page names l (rw (← is) f))
 
     module _ (f : formed page n ≡ true) where
-      pub read_unused : types_in page ≤ t → Err Unused ≡ read_answer page names lent t
+      pub read_unused : types_in page ≤ t → Err Unused ≡ read_answer page names t
       unfolding read_answer read_verdict
-      read_unused h = rw (unbroken page names lent l (rw (← is) f), le-ltb t (types_in page) h)
+      read_unused h = rw (unbroken page names l (rw (← is) f), le-ltb t (types_in page) h)
 
-      pub read_given : t < types_in page → (s : Shape) → s ≡ type_at page t → Ok s ≡ read_answer page names lent t
+      pub read_given : t < types_in page → (s : Shape) → s ≡ type_at page t → Ok s ≡ read_answer page names t
       unfolding read_answer read_verdict
-      read_given h s e = rw (unbroken page names lent l (rw (← is) f), lt-ltb t (types_in page) h, e)
+      read_given h s e = rw (unbroken page names l (rw (← is) f), lt-ltb t (types_in page) h, e)

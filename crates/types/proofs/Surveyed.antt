@@ -1,4 +1,5 @@
 -- The form of a store, one entry after another, and what is left in the tables. Assumes nothing.
+use Rattle.std.specs.Prelude.{Option}
 use mathlib.Core.Path.{◌≡◌, refl, sym, ◌∙◌, ap, subst}
 use mathlib.Core.Bool.{Bool, true, false, ◌&&◌, not}
 use mathlib.Core.List.{List, ◌++◌}
@@ -190,12 +191,12 @@ module _ {page : List ℕ} {n k : ℕ} {os₀ ds₀ heads links os ds : List ℕ
 
 -- ---- names and store
 
-module _ (page names : List ℕ) (lent : Bool) (os ds : List ℕ) where
-  pub unopened : lent_broken names lent ≡ true → (os ≡ opened_offsets page names lent os) × (ds ≡ opened_depths page names lent ds)
+module _ (page : List ℕ) (names : Option (List ℕ)) (os ds : List ℕ) where
+  pub unopened : lent_broken names ≡ true → (os ≡ opened_offsets page names os) × (ds ≡ opened_depths page names ds)
   unfolding opened_offsets opened_depths
   unopened l = (rw l, rw l)
 
-  pub opened_is : lent_broken names lent ≡ false → (n : ℕ) → n ≡ used_of names lent
-      → (offsets_left page n os ≡ opened_offsets page names lent os) × (depths_left page n ds ≡ opened_depths page names lent ds)
+  pub opened_is : lent_broken names ≡ false → (n : ℕ) → n ≡ used_of names
+      → (offsets_left page n os ≡ opened_offsets page names os) × (depths_left page n ds ≡ opened_depths page names ds)
   unfolding opened_offsets opened_depths
   opened_is l n is = (rw (l, ← is), rw (l, ← is))

@@ -1,7 +1,6 @@
--- What the calls on a store of types answer, and leave in the page (document 01, "Types" and the table of refusals). Names are lent
--- where `lent` is true.
+-- What the calls on a store of types answer, and leave in the page (document 01, "Types" and the table of refusals).
 use Rattle.refusals.specs.declared.Refusal.{Refusal}
-use Rattle.std.specs.Prelude.{Bool, true, ◌&&◌, ◌||◌, not, cond, List, [], ◌∷◌, ◌++◌, ℕ, zero, suc, ◌+◌, ltb, length, set, replicate, Result, Ok}
+use Rattle.std.specs.Prelude.{Bool, true, ◌&&◌, ◌||◌, not, cond, List, [], ◌∷◌, ◌++◌, ℕ, zero, suc, ◌+◌, ltb, length, set, replicate, Result, Ok, Option, Some, None}
 use Rattle.refusals.specs.Lowest.{◌when◌, lowest, unless_refused, answer_of}
 use Rattle.refusals.specs.declared.Refusal.TheVariants.{Undefined, Broken, Unused, Width, Depth, Full}
 use Rattle.refusals.specs.Numbers.{Verdict}
@@ -15,8 +14,8 @@ use Rattle.types.specs.Making.{entry_of, is_made, depth_of, roomy, with_entry, e
 use Rattle.types.specs.declared.Shape.{Shape}
 
 -- do the names that are lent, or the store beside them, break their form, the store also by a name number not in use
-unfoldable pub store_broken : List ℕ → List ℕ → Bool → Bool
-store_broken page names lent = lent_broken names lent || not (formed page (used_of names lent))
+unfoldable pub store_broken : List ℕ → Option (List ℕ) → Bool
+store_broken page names = lent_broken names || not (formed page (used_of names))
 
 -- ---- making a store
 
@@ -45,27 +44,27 @@ is_new page k children name = is_stored k && not (is_made page (entry_of k child
 
 -- why it is refused, if it is: 1 the kind, 2 the names or the store, 3 a child or the name, 6 how many children, 7 the depth, 10 no
 -- number or no place left
-unfoldable pub make_verdict : List ℕ → List ℕ → Bool → ℕ → List ℕ → ℕ → Verdict
-make_verdict page names lent k children name =
+unfoldable pub make_verdict : List ℕ → Option (List ℕ) → ℕ → List ℕ → ℕ → Verdict
+make_verdict page names k children name =
     lowest
     ((Undefined when ltb kind_last k)
-    ∷ (Broken when store_broken page names lent)
-    ∷ (Unused when not (parts_used page (used_of names lent) k children name))
+    ∷ (Broken when store_broken page names)
+    ∷ (Unused when not (parts_used page (used_of names) k children name))
     ∷ (Width when not (within (fewest k) (most k) (length children)))
     ∷ (Depth when (is_new page k children name && ltb depth_max (depth_of page (entry_of k children name))))
     ∷ (Full when (is_new page k children name && not (roomy page (entry_of k children name))))
     ∷ [])
 
 -- kinds 0 to 18 answer their own number, others that of their equal, else the next
-unfoldable pub make_answer : List ℕ → List ℕ → Bool → ℕ → List ℕ → ℕ → Result ℕ Refusal
-make_answer page names lent k children name =
-    answer_of (make_verdict page names lent k children name)
+unfoldable pub make_answer : List ℕ → Option (List ℕ) → ℕ → List ℕ → ℕ → Result ℕ Refusal
+make_answer page names k children name =
+    answer_of (make_verdict page names k children name)
     (cond (ltb k fixed_max) k (fixed_max + equal_to page (count_of page) (entry_of k children name)))
 
 -- the page afterwards: changed only by a new type that is not refused
-unfoldable pub make_page : List ℕ → List ℕ → Bool → ℕ → List ℕ → ℕ → List ℕ
-make_page page names lent k children name =
-    unless_refused (make_verdict page names lent k children name) (cond (is_new page k children name) (with_entry page (entry_of k children name)) page) page
+unfoldable pub make_page : List ℕ → Option (List ℕ) → ℕ → List ℕ → ℕ → List ℕ
+make_page page names k children name =
+    unless_refused (make_verdict page names k children name) (cond (is_new page k children name) (with_entry page (entry_of k children name)) page) page
 
 -- ---- reading a type
 
@@ -74,23 +73,23 @@ abbrev pub list_to : ℕ → (ℕ → ℕ) → List ℕ
 list_to zero f = []
 list_to (suc n) f = list_to n f ++ (f n ∷ [])
 
--- the type with number t: its kind, its depth, its children with zeros after them, its name, 0 where it has none
+-- the type with number t: its kind, its depth, its children with zeros after them, its name, if it has one
 unfoldable pub type_at : List ℕ → ℕ → Shape
 type_at page t = record {
   kind = kind_of page t;
   depth = depth_in (depths page (count_of page)) t;
   count = arity page t;
   children = pad children_max 0 (list_to (arity page t) (child_of page t));
-  name = cond (is_named (kind_of page t)) (name_of page t) 0;
+  name = cond (is_named (kind_of page t)) (Some (name_of page t)) None;
 }
 
 -- 2 the names or the store, 3 the number
-unfoldable pub read_verdict : List ℕ → List ℕ → Bool → ℕ → Verdict
-read_verdict page names lent t = lowest ((Broken when store_broken page names lent) ∷ (Unused when not (ltb t (types_in page))) ∷ [])
+unfoldable pub read_verdict : List ℕ → Option (List ℕ) → ℕ → Verdict
+read_verdict page names t = lowest ((Broken when store_broken page names) ∷ (Unused when not (ltb t (types_in page))) ∷ [])
 
 -- the type with number t by value
-unfoldable pub read_answer : List ℕ → List ℕ → Bool → ℕ → Result Shape Refusal
-read_answer page names lent t = answer_of (read_verdict page names lent t) (type_at page t)
+unfoldable pub read_answer : List ℕ → Option (List ℕ) → ℕ → Result Shape Refusal
+read_answer page names t = answer_of (read_verdict page names t) (type_at page t)
 
 -- ---- a type's const form (`into_const`, `const_variant`), made if it is new
 

@@ -1,5 +1,5 @@
 -- The test of a store's form, one entry after another: what it keeps in mind, and what it leaves in the tables that it is lent.
-use Rattle.std.specs.Prelude.{◌≡◌, Bool, ◌&&◌, not, cond, List, ◌++◌, ℕ, suc, ◌+◌, ◌<◌, ◌≤◌, leb, length, get_or, drop}
+use Rattle.std.specs.Prelude.{◌≡◌, Bool, ◌&&◌, not, cond, List, ◌++◌, ℕ, suc, ◌+◌, ◌<◌, ◌≤◌, leb, length, get_or, drop, Option}
 use Rattle.pages.specs.Quant.{first_to}
 use Rattle.pages.specs.Bytes.{count_bytes, count_of}
 use Rattle.chains.specs.Last.{Heads, Links}
@@ -69,8 +69,8 @@ unfoldable pub depths_left : List ℕ → ℕ → List ℕ → List ℕ
 depths_left page n ds = cond (counted page) (depths page (good_to page n) ++ drop (good_to page n) ds) ds
 
 -- where names and store are tested: if the names break their form, the store is not looked at
-unfoldable pub opened_offsets : List ℕ → List ℕ → Bool → List ℕ → List ℕ
-opened_offsets page names lent os = cond (lent_broken names lent) os (offsets_left page (used_of names lent) os)
+unfoldable pub opened_offsets : List ℕ → Option (List ℕ) → List ℕ → List ℕ
+opened_offsets page names os = cond (lent_broken names) os (offsets_left page (used_of names) os)
 
-unfoldable pub opened_depths : List ℕ → List ℕ → Bool → List ℕ → List ℕ
-opened_depths page names lent ds = cond (lent_broken names lent) ds (depths_left page (used_of names lent) ds)
+unfoldable pub opened_depths : List ℕ → Option (List ℕ) → List ℕ → List ℕ
+opened_depths page names ds = cond (lent_broken names) ds (depths_left page (used_of names) ds)

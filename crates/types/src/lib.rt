@@ -1,10 +1,10 @@
 // The store of types in a lent page (document 01, "Types").
 #![tactic(auto)]
 
-ghost use Rattle.std.specs.Prelude.{◌≡◌, true, cond, not, List, [], ◌∷◌, ℕ, suc, ◌+◌, ◌-◌, ◌*◌, ◌≤◌, ◌<◌, length, get_or, set, replicate};
+ghost use Rattle.std.specs.Prelude.{◌≡◌, true, cond, not, List, [], ◌∷◌, ℕ, suc, ◌+◌, ◌-◌, ◌*◌, ◌≤◌, ◌<◌, length, get_or, set, replicate, option_copied, MatchOption, Some, None};
 ghost use Rattle.pages.specs.Quant.{any_to, all_to};
 ghost use Rattle.pages.specs.Bytes.{within, count_bytes};
-ghost use Rattle.pages.specs.Pad.{pad};
+ghost use Rattle.pages.specs.Pad.{pad, padded};
 ghost use Rattle.chains.specs.Last.{last_below, Links};
 ghost use Rattle.chains.specs.Prints.{print_of};
 ghost use Rattle.kinds.specs.Kinds.{fixed_max, children_max, is_named, fewest, most};
@@ -16,7 +16,7 @@ ghost use Rattle.types.specs.Survey.{whole_at, new_at, print_at, Placed, Chained
 
 use kinds::{CHILDREN, FIXED, Kind};
 use names::{Symbol, symbol_index};
-use pages::{COUNT_BYTES, WORD_BYTES, Word, index};
+use pages::{COUNT_BYTES, Padded, WORD_BYTES, Word, index};
 use refusals::Refusal;
 
 // How many types there can be.
@@ -37,15 +37,17 @@ type Depths = [u8; ENTRIES];
 // Where each of the entries begins, and the last one ends.
 type Offsets = [usize; ENTRIES + 1];
 
-// What the test of a store writes down of its entries: where each begins, and how deep it is. A page that is written goes beside
-// them, not with them in a struct: through two `&mut` in one, contracts say `store.old.page.old` and no plainer.
+// What the test of a store writes down of its entries: where each begins, and how deep it is, in arrays, since there is no heap. A page
+// that is written goes beside them, not with them in a struct: through two `&mut` in one, contracts say `store.old.page.old` and no
+// plainer.
 #[derive(Drop)]
 pub struct Tables {
     pub offsets: Offsets,
     pub depths: Depths,
 }
 
-// A store in form, with where each of its entries begins.
+// A store in form, with where each of its entries begins. Its types are numbers, which pages and callers hold: one that carried its store
+// would have every function of two types ask that their stores are the same.
 #[derive(Clone, Copy)]
 pub struct Store<'a> {
     pub page: &'a [u8],
@@ -65,30 +67,25 @@ const NAME_BYTES: usize = 1;
 // How many bytes an entry takes at most.
 pub const ENTRY_BYTES: usize = HEAD_BYTES + CHILD_BYTES * CHILDREN;
 
-// The places of an entry's bytes.
-type EntryBytes = [u8; ENTRY_BYTES];
-
-// An entry by value: its bytes from place 0 on, with zeros after them, and how many they are.
-#[derive(Clone, Copy)]
-pub struct Entry {
-    pub bytes: EntryBytes,
-    pub size: usize,
-}
+// An entry by value.
+pub type Entry = Padded<ENTRY_BYTES>;
 
 // The places of a type's children.
 type Children = [u16; CHILDREN];
 
-// A type as it is read: its kind, its depth, its children with zeros after them, its name, 0 where it has none.
+// A type as it is read: its kind, its depth, its children with zeros after them, its name, if it has one. The children are an
+// array with a count, since there is no heap.
 #[derive(Clone, Copy)]
 pub struct Shape {
     pub kind: Kind,
     pub depth: usize,
     pub count: usize,
     pub children: Children,
-    pub name: Symbol,
+    pub name: Option<Symbol>,
 }
 
 // How many bytes the entry at o takes.
+#[tactic(auto, using(crate::proofs::Placing::size_named, crate::proofs::Placing::size_children, crate::proofs::Width::name_width))]
 fn entry_size(page: &[u8], o: usize) -> usize
     requires { o + head_bytes ≤ length page.now }
     ensures { (result ≡ size_at page.now o) × (result < 65536) }
@@ -137,23 +134,24 @@ fn has_parts(page: &[u8], n: usize, t: usize, o: usize) -> bool
     are_below(page, o, children, t)
 }
 
-// The first of the first j entries that has these bytes, or j.
-fn find_entry(page: &[u8], j: usize, entry: &[u8]) -> usize
+// The first of the first j entries that has these bytes.
+fn find_entry(page: &[u8], j: usize, entry: &[u8]) -> Option<usize>
     requires { offset page.now j ≤ length page.now }
-    ensures { (result ≡ equal_to page.now j entry.now) × (result ≤ j) }
+    ensures { MatchOption result (equal_to page.now j entry.now ≡ j) (λ k. (k < j) × (k ≡ equal_to page.now j entry.now)) }
 {
     let mut at = COUNT_BYTES;
     for i in 0..j {
         let next = at + entry_size(page, at);
         if pages::same(&page[at..next], entry) {
-            return i;
+            return Some(i);
         }
         at = next;
     }
-    j
+    None
 }
 
 // The depth of a type, where depths has those of the entries.
+#[tactic(auto, using(crate::proofs::Placing::depth_fixed, crate::proofs::Placing::depth_entry))]
 fn depth_in(depths: &[u8], t: usize) -> usize
     requires { t < fixed_max + length depths.now }
     ensures { (result ≡ depth_in depths.now t) × (result < 256) }
@@ -165,6 +163,7 @@ fn depth_in(depths: &[u8], t: usize) -> usize
 }
 
 // The depth of the entry at o.
+#[tactic(auto, using(crate::proofs::Placing::deepest_none, crate::proofs::Placing::deepest_next, crate::proofs::Placing::larger_most, crate::proofs::Placing::larger_is, crate::proofs::Placing::child_below))]
 fn entry_depth(page: &[u8], depths: &[u8], o: usize) -> usize
     requires { (o + head_bytes ≤ length page.now) × (o + head_bytes + child_bytes * children_at page.now o ≤ length page.now) × (children_below page.now o (fixed_max + length depths.now) ≡ true) }
     ensures { (result ≡ depth_at page.now depths.now o) × (result ≤ 256) }
@@ -207,17 +206,11 @@ fn is_among(
     requires { Placed page.now offsets.now j × (j ≤ length links.now) × Links (print_at page.now) links.now j × (head ≡ last_below (print_at page.now) j (print_of entry.now)) }
     ensures { result ≡ any_to j (is_entry page.now entry.now) }
 {
-    let mut next = head;
-    while next > 0 {
-        let k = next - 1;
-        let start = offsets[k];
-        let end = offsets[next];
-        if pages::same(&page[start..end], entry) {
-            return true;
-        }
-        next = pages::word_index(links[k]);
-    }
-    false
+    chains::any_linked(
+        &links[..j],
+        head,
+        |k| pages::same(&page[offsets[k]..offsets[k + 1]], entry),
+    )
 }
 
 // Whether entry j, which lies in the page, is equal to none before it. It is put into the chain of its print.
@@ -364,7 +357,7 @@ impl Store<'_> {
         index(self.page[self.place_of(t) + HEAD_BYTES]) as Symbol
     }
 
-    // The children of a type, with zeros after them.
+    // The children of a type, with zeros after them. A loop, since `pages::read_words` would need a test for a type without an entry.
     fn children_of(self, t: usize) -> Children
         requires { t < types_in self.page.now }
         ensures { result ≡ pad children_max 0 (list_to (arity self.entry.page.now t) (child_of self.entry.page.now t)) }
@@ -376,28 +369,27 @@ impl Store<'_> {
         children
     }
 
-    // The name of a type, 0 where it has none.
-    fn name_or_zero(self, t: usize) -> Symbol
+    // The name of a type, if it has one.
+    fn name_if_any(self, t: usize) -> Option<Symbol>
         requires { t < types_in self.page.now }
-        ensures { result ≡ cond (is_named (kind_of self.entry.page.now t)) (name_of self.entry.page.now t) 0 }
+        ensures { result ≡ cond (is_named (kind_of self.entry.page.now t)) (Some (name_of self.entry.page.now t)) None }
     {
         if kinds::is_named(self.kind_of(t)) {
-            return self.name_of(t);
+            return Some(self.name_of(t));
         }
-        0
+        None
     }
 
     // The entry of a type that is not fixed, under its const kind.
     fn const_entry(self, t: usize) -> Entry
         requires { (fixed_max ≤ t) × (t < types_in self.page.now) }
-        ensures { (result.bytes ≡ pad entry_max 0 (const_entry self.entry.page.now t)) × (result.size ≡ length (const_entry self.entry.page.now t)) × (result.size ≤ entry_max) }
+        ensures { (result ≡ padded entry_max (const_entry self.entry.page.now t)) × (result.size ≤ entry_max) }
     {
         let at = self.place_of(t);
         let size = entry_size(self.page, at);
-        let mut bytes = [0; ENTRY_BYTES];
-        pages::put_bytes(&mut bytes, 0, &self.page[at..at + size]);
-        bytes[1] = kinds::const_variant(self.page[at + 1]);
-        Entry { bytes, size }
+        let mut entry: Entry = Padded::of(&self.page[at..at + size]);
+        entry.bytes[1] = kinds::const_variant(self.page[at + 1]);
+        entry
     }
 }
 
@@ -407,8 +399,7 @@ pub fn enter(page: &mut [u8], tables: &mut Tables, entry: &[u8]) -> Result<usize
     ensures { (result ≡ enter_answer page.old entry.now) × (page.new ≡ enter_page page.old entry.now) × (Measured page.new tables.new.offsets tables.new.depths) }
 {
     let n = pages::count(page);
-    let k = find_entry(page, n, entry);
-    if k < n {
+    if let Some(k) = find_entry(page, n, entry) {
         return Ok(FIXED + k);
     }
     let depth = entry_depth(entry, &tables.depths, 0);
@@ -442,25 +433,22 @@ pub fn empty_types(page: &mut [u8]) -> Result<(), Refusal>
 }
 
 // The entry of a type: of a kind with a name that name, of another kind its children. The number of a name in use fits its byte.
+#[tactic(auto, using(crate::proofs::Entries::named_made, crate::proofs::Entries::other_size, crate::proofs::Entries::other_made))]
 pub fn entry_of(kind: Kind, children: &[u16], name: Symbol) -> Entry
     requires { length children.now ≤ children_max }
-    ensures { (result.bytes ≡ pad entry_max 0 (entry_of kind children.now name)) × (result.size ≡ length (entry_of kind children.now name)) × (result.size ≤ entry_max) }
+    ensures { (result ≡ padded entry_max (entry_of kind children.now name)) × (result.size ≤ entry_max) }
 {
-    let mut bytes = [0; ENTRY_BYTES];
     if kinds::is_named(kind) {
         let named = [0, kind, (name % 256) as u8];
-        pages::put_bytes(&mut bytes, 0, &named);
-        return Entry {
-            bytes,
-            size: HEAD_BYTES + NAME_BYTES,
-        };
+        return Padded::of(&named);
     }
     let head = [children.len() as u8, kind];
+    let mut bytes = [0; ENTRY_BYTES];
     pages::put_bytes(&mut bytes, 0, &head);
     pages::put_words(&mut bytes, HEAD_BYTES, children);
-    Entry {
-        bytes,
+    Padded {
         size: HEAD_BYTES + CHILD_BYTES * children.len(),
+        bytes,
     }
 }
 
@@ -484,15 +472,11 @@ pub fn enter_type(
 fn all_below(children: &[u16], t: usize) -> bool
     ensures { result ≡ all_below t children.now }
 {
-    for child in children {
-        if t <= pages::word_index(*child) {
-            return false;
-        }
-    }
-    true
+    children.iter().all(|child| pages::word_index(*child) < t)
 }
 
 // Whether the children of a type are in use and, if its kind has one, its name, of n.
+#[tactic(auto, using(crate::proofs::Calls::parts_above, crate::proofs::Calls::parts_named, crate::proofs::Calls::parts_nameless))]
 fn parts_used(page: &[u8], n: usize, kind: Kind, children: &[u16], name: Symbol) -> bool
     requires { count_bytes ≤ length page.now }
     ensures { result ≡ parts_used page.now n kind children.now name }
@@ -513,24 +497,23 @@ fn is_counted(kind: Kind, count: usize) -> bool
     (kinds::fewest(kind) <= count) & (count <= kinds::most(kind))
 }
 
-// The number of a type, which is made if it is new. Names are looked at where `lent` is true, the name where the kind has one.
+// The number of a type, which is made if it is new. The name is looked at where the kind has one.
 pub fn make_type(
     page: &mut [u8],
-    names: &[u8],
-    lent: bool,
+    names: Option<&[u8]>,
     kind: Kind,
     children: &[u16],
     name: Symbol,
 ) -> Result<usize, Refusal>
-    ensures { (result ≡ make_answer page.old names.now lent kind children.now name) × (page.new ≡ make_page page.old names.now lent kind children.now name) }
+    ensures { (result ≡ make_answer page.old (option_copied names.entry) kind children.now name) × (page.new ≡ make_page page.old (option_copied names.entry) kind children.now name) }
 {
     if kinds::GENERIC < kind {
         return Err(Refusal::Undefined);
     }
-    if names::is_broken(names, lent) {
+    if names::is_broken(names) {
         return Err(Refusal::Broken);
     }
-    let n = names::in_use(names, lent);
+    let n = names::in_use(names);
     let mut tables = Tables::new();
     if !survey(page, n, &mut tables) {
         return Err(Refusal::Broken);
@@ -547,14 +530,6 @@ pub fn make_type(
     enter_type(page, &mut tables, kind, children, name)
 }
 
-// Writes down the number of a type.
-pub fn set_type(types: &mut [u16], i: usize, t: usize)
-    requires { (i < length types.old) × (t < 65536) }
-    ensures { types.new ≡ set types.old i t }
-{
-    types[i] = t as u16;
-}
-
 // A type by value.
 fn shape_of(page: &[u8], tables: &Tables, t: usize) -> Shape
     requires measured { Measured page.now tables.now.offsets tables.now.depths }
@@ -567,18 +542,18 @@ fn shape_of(page: &[u8], tables: &Tables, t: usize) -> Shape
         depth: depth_in(&tables.depths, t),
         count: store.arity(t),
         children: store.children_of(t),
-        name: store.name_or_zero(t),
+        name: store.name_if_any(t),
     }
 }
 
-// The type with number t. Names are looked at where `lent` is true.
-pub fn read_type(page: &[u8], names: &[u8], lent: bool, t: usize) -> Result<Shape, Refusal>
-    ensures { result ≡ read_answer page.now names.now lent t }
+// The type with number t.
+pub fn read_type(page: &[u8], names: Option<&[u8]>, t: usize) -> Result<Shape, Refusal>
+    ensures { result ≡ read_answer page.now (option_copied names.entry) t }
 {
-    if names::is_broken(names, lent) {
+    if names::is_broken(names) {
         return Err(Refusal::Broken);
     }
-    let n = names::in_use(names, lent);
+    let n = names::in_use(names);
     let mut tables = Tables::new();
     if !survey(page, n, &mut tables) {
         return Err(Refusal::Broken);
@@ -604,6 +579,7 @@ pub fn const_form(page: &mut [u8], tables: &mut Tables, t: usize) -> Result<usiz
 }
 
 // Takes back the entries from index `end` on, the count's bytes having been these.
+#[tactic(auto, using(crate::proofs::Back::end_cleared), unfolding(crate::specs::Making::taken_back))]
 pub fn take_back(page: &mut [u8], count: Word, end: usize)
     requires { (count_bytes ≤ end) × (end ≤ length page.old) }
     ensures { page.new ≡ taken_back page.old count end }
@@ -612,13 +588,13 @@ pub fn take_back(page: &mut [u8], count: Word, end: usize)
     pages::put_bytes(page, 0, &count);
 }
 
-// Whether names and store are in form, names being looked at where `lent` is true; the tables are filled as `survey` does.
-pub fn opened(page: &[u8], names: &[u8], lent: bool, tables: &mut Tables) -> bool
-    ensures { (store_broken page.now names.now lent ≡ not result) × (result ≡ true → Measured page.now tables.new.offsets tables.new.depths) × (tables.new.offsets ≡ opened_offsets page.now names.now lent tables.old.offsets) × (tables.new.depths ≡ opened_depths page.now names.now lent tables.old.depths) }
+// Whether names, where they are lent, and store are in form; the tables are filled as `survey` does.
+pub fn opened(page: &[u8], names: Option<&[u8]>, tables: &mut Tables) -> bool
+    ensures { (store_broken page.now (option_copied names.entry) ≡ not result) × (result ≡ true → Measured page.now tables.new.offsets tables.new.depths) × (tables.new.offsets ≡ opened_offsets page.now (option_copied names.entry) tables.old.offsets) × (tables.new.depths ≡ opened_depths page.now (option_copied names.entry) tables.old.depths) }
 {
-    if names::is_broken(names, lent) {
+    if names::is_broken(names) {
         return false;
     }
-    let n = names::in_use(names, lent);
+    let n = names::in_use(names);
     survey(page, n, tables)
 }

@@ -11,7 +11,7 @@ use native.Mathlib.Numerals.{add-one}
 use native.Mathlib.Nat.{le_of_suc-le-suc, eq-or-lt_of_le}
 use native.Mathlib.Omega.{arith}
 use lib.Dec.{eqb}
-use lib.ListN.{length, get_or, take, set, length-set, replicate, length-replicate}
+use lib.ListN.{length, take, set, length-set, replicate, length-replicate}
 use borrow.Author.Tests.{eq-eqb, ne_eqb}
 use Rattle.refusals.specs.declared.Refusal.{Refusal}
 use Rattle.kinds.specs.Kinds.{is_union}
@@ -21,7 +21,7 @@ use Rattle.types.specs.Making.{Grows}
 use Rattle.types.specs.Calls.{all_below}
 use Rattle.types.proofs.Filled.{found_none, found_more}
 use Rattle.types.proofs.Types.{types_few}
-use Rattle.types.proofs.Grown.{grows_refl, grows_trans}
+use Rattle.types.proofs.Grown.{grows_trans}
 use Rattle.matching.specs.declared.Checked.{Checked}
 use Rattle.operators.specs.Operators.{no_family, family_of}
 use Rattle.operators.specs.Outcome.{no_error, outcome, plain_unary, count_of}
@@ -68,10 +68,6 @@ module _ {page os ds : List ℕ} {done : List (Option ℕ)} {op t : ℕ} (w : Wo
 
   pub done_plain : {k r : ℕ} → k ≡ kind_of page t → is_union k ≡ false → r ≡ family_of k → Done t page page os ds done (Ok r)
   done_plain is h e = (rw (e, is) (sym (answer_plain t page (rw is at h))), (w.measured, w.remembered))
-
-  -- met before
-  pub done_before : {r : ℕ} → get_or done t None ≡ Some r → Done t page page os ds done (Ok r)
-  done_before {r} e = (sym (w.remembered.right t r e page (grows_refl page) form), (w.measured, w.remembered))
 
   module _ {after os' ds' : List ℕ} {done' : List (Option ℕ)} where
     pub done_low : {m : Result ℕ Refusal} → Done t page after os' ds' done' m → {r : ℕ} → m ≡ Ok r → r < types_max
@@ -136,9 +132,6 @@ module _ {page os₀ ds₀ : List ℕ} {done₀ : List (Option ℕ)} {op t : ℕ
   module _ {i k : ℕ} {results p os ds : List ℕ} {done : List (Option ℕ)} (z : Trying page t n i k results p os ds done) where
     sound : ResultsSound page (so_far (take k results) p)
     sound = results_of op w.operator page t (passing w) h i (omega (arith, all, z.within_n)) (take k results) p z.reached
-
-    pub tried_size : length p ≡ length page
-    tried_size = sound.0.size
 
     module _ (l : i < n) {x : ℕ} (is : x ≡ member page t i) where
       here : i < size_of page t

@@ -1,6 +1,8 @@
 -- The errors of a check: the members that fail one after another, one law for each return, and that there is no error exactly where
 -- the check passes (`errors_passes`). Assumes nothing.
-use mathlib.Core.Path.{◌≡◌, refl, sym, ◌∙◌}
+use Rattle.std.specs.Prelude.{Option, Some, None}
+use Rattle.std.specs.Option.{option_or}
+use mathlib.Core.Path.{◌≡◌, refl, sym, ◌∙◌, ap}
 use mathlib.Core.Bool.{Bool, true, false, ◌&&◌, cond}
 use mathlib.Core.List.{List}
 use Prim.Native.Nat.{ℕ, zero, suc, ◌+◌, ◌<◌}
@@ -17,7 +19,8 @@ use Rattle.operators.specs.Operators.{taker_of}
 use Rattle.operators.specs.Outcome.{no_error, one_error, some_fail, plain_unary, count_of}
 use Rattle.operators.specs.declared.Reason.TheVariants.{NoMember}
 use Rattle.members.specs.Members.{size_of, member}
-use Rattle.members.specs.Trials.{fold_to, Failures, failures, failed_at, errors_of}
+use Rattle.members.specs.Trials.{fold_to, Failures, failures, failed_at, first_by, errors_of}
+use Rattle.members.proofs.Trials.{first_failed}
 use Rattle.unary.proofs.Passing.{member_passes, passes_plain, passes_union}
 use Rattle.unary.specs.Unary.{unary_passes, failing, unary_errors}
 
@@ -33,8 +36,12 @@ union_count f false e n = rw e (sym (and_false (ltb 0 n)))
 
 -- ---- failures of the first members
 
+-- the one member of a trial
+abbrev left : ℕ → ℕ → ℕ
+left x y = x
+
 module _ (page : List ℕ) (op t : ℕ) where
-  pub failing_none : failures 0 0 0 ≡ failing page op t 0
+  failing_none : failures 0 0 0 ≡ failing page op t 0
   unfolding failing fold_to
   failing_none = refl
 
@@ -43,20 +50,37 @@ module _ (page : List ℕ) (op t : ℕ) where
   unfolding failing fold_to
   failing_next i = refl
 
-  module _ (i count first : ℕ) (h : failures count first 0 ≡ failing page op t i) (x : ℕ) (is : x ≡ member page t i) where
-    pub passed_more : unary_passes page op x ≡ true → failures count first 0 ≡ failing page op t (i + 1)
-    passed_more p = h ∙ sym (rw (add-one i, failing_next i, ← is, p) refl)
+  -- so many of the first i members fail, and this is the first of them
+  abbrev pub Counted : ℕ → ℕ → Option ℕ → Type 0
+  Counted i count first = (count ≡ (failing page op t i).count) × (first ≡ first_by left (failing page op t i))
 
-    failed_more : unary_passes page op x ≡ false → failing page op t (i + 1) ≡ failed_at x 0 (failures count first 0)
-    failed_more p = rw (add-one i, failing_next i, ← is, p, h) refl
+  pub counted_none : Counted 0 0 None
+  unfolding failing fold_to
+  counted_none = (refl, refl)
 
-    pub first_failed : unary_passes page op x ≡ false → count ≡ 0 → failures (count + 1) x 0 ≡ failing page op t (i + 1)
-    unfolding failed_at
-    first_failed p z = sym (failed_more p ∙ rw z refl)
+  module _ (i count : ℕ) (first : Option ℕ) (h : Counted i count first) (x : ℕ) (is : x ≡ member page t i) where
+    pub passed_more : unary_passes page op x ≡ true → Counted (i + 1) count first
+    passed_more p = rw (add-one i, failing_next i, ← is, p) h
 
-    pub next_failed : unary_passes page op x ≡ false → (count ≡ 0 → ⊥) → failures (count + 1) first 0 ≡ failing page op t (i + 1)
-    unfolding failed_at
-    next_failed p z = sym (failed_more p ∙ rw (ne_eqb count 0 z) refl)
+    pub failed_more : unary_passes page op x ≡ false → Counted (i + 1) (count + 1) (option_or first (Some x))
+    failed_more p =
+        let e = first_failed left x 0 (failing page op t i) in
+        rw (add-one i, failing_next i, ← is, p)
+        (ap (λ (n : ℕ). n + 1) h.0 ∙ sym e.0, ap (λ (f : Option ℕ). option_or f (Some x)) h.1 ∙ sym e.1)
+
+  -- no member is tried beside another
+  failing_right : (n : ℕ) → (failing page op t n).right ≡ 0
+  unfolding failing fold_to failed_at
+  failing_right zero = refl
+  failing_right (suc n) = go (unary_passes page op (member page t n)) (failing page op t n) (failing_right n)
+    where
+      go : (b : Bool) (f : Failures) → f.right ≡ 0 → (cond b f (failed_at (member page t n) 0 f)).right ≡ 0
+      go true f h = h
+      go false f h = after (eqb f.count 0)
+        where
+          after : (c : Bool) → (cond c (failures 1 (member page t n) 0) (failures (f.count + 1) f.left f.right)).right ≡ 0
+          after true = refl
+          after false = h
 
   -- none fails exactly where all pass
   failing_count : (n : ℕ) → eqb (failing page op t n).count 0 ≡ all_to n (member_passes page op t)
@@ -83,14 +107,27 @@ module _ (page : List ℕ) (op t : ℕ) where
     unfolding errors_of
     errors_empty z = sym (errors_union ∙ rw (z, ← failing_none) refl)
 
-    module _ (count first : ℕ) (e : failures count first 0 ≡ failing page op t (size_of page t)) where
-      pub errors_none : (size_of page t ≡ 0 → ⊥) → count ≡ 0 → no_error ≡ unary_errors page op t
-      unfolding errors_of
-      errors_none z c = sym (errors_union ∙ rw (← e, c, lt-ltb 0 (size_of page t) (omega (arith, z))) refl)
+    module _ (count : ℕ) (first : Option ℕ) (e : Counted (size_of page t) count first) where
+      all : Failures
+      all = failing page op t (size_of page t)
 
-      pub errors_some : (count ≡ 0 → ⊥) → some_fail count first 0 ≡ unary_errors page op t
-      unfolding errors_of
-      errors_some c = sym (errors_union ∙ rw (← e, ne_eqb count 0 c) refl)
+      pub errors_none : (size_of page t ≡ 0 → ⊥) → first ≡ None → no_error ≡ unary_errors page op t
+      unfolding errors_of all
+      errors_none z c = go (eqb all.count 0) refl (sym c ∙ e.1)
+        where
+          go : (b : Bool) → eqb all.count 0 ≡ b → None ≡ cond b None (Some all.left) → no_error ≡ unary_errors page op t
+          go true d k = sym (errors_union ∙ rw (eqb-true all.count 0 d, lt-ltb 0 (size_of page t) (omega (arith, z))) refl)
+          go false d k = absurd (let n : ◌≡◌ {A = ℕ} 0 1 = cc in omega arith)
+
+      pub errors_some : (x : ℕ) → first ≡ Some x → some_fail count x 0 ≡ unary_errors page op t
+      unfolding errors_of all
+      errors_some x c = go (eqb all.count 0) refl (sym c ∙ e.1)
+        where
+          go : (b : Bool) → eqb all.count 0 ≡ b → Some x ≡ cond b None (Some all.left) → some_fail count x 0 ≡ unary_errors page op t
+          go true d k = absurd (let n : ◌≡◌ {A = ℕ} 0 1 = cc in omega arith)
+          go false d k =
+              let l : x ≡ all.left = cc in
+              rw (e.0, l) (sym (errors_union ∙ rw (d, failing_right (size_of page t)) refl))
 
   pub errors_plain : is_union (kind_of page t) ≡ false → (plain_unary op (kind_of page t)).errors ≡ unary_errors page op t
   unfolding unary_errors

@@ -7,26 +7,24 @@ use Prim.Native.Nat.{ℕ, zero, suc, ◌<◌}
 use native.Mathlib.Nat.{not-suc-le-zero}
 use native.Mathlib.Omega.{arith}
 use lib.Dec.{eqb, ltb}
-use lib.ListN.{length, get_or}
 use borrow.Author.Tests.{eqb-true, eq-eqb, ne_eqb, ltb-true, lt-ltb}
 use Rattle.pages.specs.Quant.{all_to}
 use Rattle.pages.proofs.Quant.{and_true, all_at, all_cong, all_each, all_failed}
 use Rattle.kinds.specs.Kinds.{null, is_union}
 use Rattle.types.specs.Store.{Formed}
-use Rattle.types.specs.Types.{types_in, kind_of, Held}
+use Rattle.types.specs.Types.{types_in, kind_of}
 use Rattle.types.specs.Recur.{below}
 use Rattle.types.specs.Making.{Grows}
 use Rattle.types.proofs.Recur.{below_lt, cov_eq}
-use Rattle.types.proofs.Types.{types_few}
 use Rattle.types.proofs.Grown.{kind_grown}
 use Rattle.matching.specs.declared.Checked.TheVariants.{Known, Unknown}
 use Rattle.operators.specs.Operators.{family_of, taker_of}
 use Rattle.operators.specs.Outcome.{no_error, one_error, outcome, passes, unary_reason, plain_unary}
 use Rattle.operators.specs.declared.Outcome.{Outcome}
 use Rattle.members.specs.Members.{size_of, member}
-use Rattle.members.specs.Leaves.{key_of, key_in, agreed, leaf_of, Leaves}
+use Rattle.members.specs.Leaves.{key_of, key_in, agreed, leaf_of}
 use Rattle.members.proofs.Members.{member_lower, members_grown}
-use Rattle.members.proofs.Leaves.{leaf_union, leaf_itself, leaf_used}
+use Rattle.members.proofs.Leaves.{leaf_union, leaf_itself}
 use Rattle.unary.specs.Unary.{pass_rule, unary_passes}
 
 -- does member i of t pass
@@ -132,21 +130,10 @@ module _ (page : List ℕ) (f : Formed page) (op : ℕ) (o : 0 < op) where
   unfolding Decided
   passes_leaf t u = leaf_below (suc t) t (omega arith) u
 
--- by the table of leaves
-module _ (page offsets leaves : List ℕ) (h : Held page offsets) (v : Leaves true page leaves (types_in page)) (t : ℕ)
-    (u : t < types_in page) where
-  pub leaf_there : t < length leaves
-  leaf_there = omega (arith, v.size, types_few page h.sound)
-
-  module _ (x : ℕ) (is : x ≡ get_or leaves t 0) where
-    leaf_is : x ≡ leaf_of true page t
-    leaf_is = is ∙ v.holds t u
-
-    pub leaf_asks : Held page offsets × (x < types_in page)
-    leaf_asks = (h, rw leaf_is (leaf_used true page h.sound t u))
-
-    pub passes_by : (op : ℕ) → 0 < op → (k : ℕ) (q : Outcome) → k ≡ kind_of page x → q ≡ plain_unary op k → passes q ≡ unary_passes page op t
-    passes_by op o k q e d = rw (d, e, leaf_is) (plain_passes op (kind_of page (leaf_of true page t)) ∙ sym (passes_leaf page h.sound op o t u))
+  -- by that leaf, x
+  pub passes_by : (t : ℕ) → t < types_in page → (x : ℕ) → x ≡ leaf_of true page t → (k : ℕ) → k ≡ kind_of page x
+      → (q : Outcome) → q ≡ plain_unary op k → passes q ≡ unary_passes page op t
+  passes_by t u x is k e q d = rw (d, e, is) (plain_passes op (kind_of page (leaf_of true page t)) ∙ sym (passes_leaf t u))
 
 -- ---- a type that passes
 

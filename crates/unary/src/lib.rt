@@ -11,57 +11,58 @@ ghost use Rattle.members.specs.Leaves.{Leaves};
 ghost use Rattle.unary.specs.Unary.{unary_passes, unary_errors, unary_result, Remembered, Working, check_unary};
 
 use matching::Checked;
-use members::{MEMBERS, conclusion_of, enter_union, flatten, leaf_at, member_at, merge};
+use members::{Leafed, MEMBERS, conclusion_of, enter_union, flatten, merge};
 use operators::{Errors, NO_FAMILY, Outcome, Reason};
 use refusals::Refusal;
-use types::{Store, TYPES, Tables};
+use types::{TYPES, Tables};
 
 // Whether the check of a type has no error: the operator's own rule is tried on the leaf that stands for it, and hands back its errors.
-fn does_pass(store: Store, leaves: &[u16], op: usize, t: usize) -> bool
-    requires leaves { Leaves true store.page.now leaves.now (types_in store.page.now) }
-    requires op_nonzero { (0 < op) × (t < types_in store.page.now) }
-    ensures { result ≡ unary_passes store.entry.page.now op t }
+// Code 0 is no operator's: that rule has it take Null, which stands for a union whose members differ.
+#[tactic(auto, using(crate::proofs::Passing::passes_by, types::proofs::Types::held_by))]
+fn does_pass(leafed: Leafed<'_, 1>, op: usize, t: usize) -> bool
+    requires { (0 < op) × (t < types_in leafed.store.page.now) }
+    ensures { result ≡ unary_passes leafed.entry.store.page.now op t }
 {
-    operators::does_pass(operators::plain_unary(op, store.kind_of(leaf_at(leaves, t))))
+    let leaf = leafed.leaf_of(t);
+    operators::plain_unary(op, leafed.store.kind_of(leaf))
+        .passed()
+        .is_some()
 }
 
 // The errors of the check of a union: how many members fail, and the first of them, or that there is none.
-fn any_errors(store: Store, leaves: &[u16], op: usize, t: usize) -> Errors
-    requires leaves { Leaves true store.page.now leaves.now (types_in store.page.now) }
-    requires op_nonzero { (0 < op) × (t < types_in store.page.now) × (is_union (kind_of store.page.now t) ≡ true) }
-    ensures { result ≡ unary_errors store.entry.page.now op t }
+fn any_errors(leafed: Leafed<'_, 1>, op: usize, t: usize) -> Errors
+    requires { (0 < op) × (t < types_in leafed.store.page.now) × (is_union (kind_of leafed.store.page.now t) ≡ true) }
+    ensures { result ≡ unary_errors leafed.entry.store.page.now op t }
 {
     let mut types = [0; MEMBERS];
-    let size = flatten(store, t, &mut types);
+    let size = flatten(leafed.store, t, &mut types);
     if size == 0 {
         return Errors::One(Reason::NoMember);
     }
     let mut count = 0;
-    let mut first = 0;
-    for i in 0..size {
-        let x = member_at(&types, i);
-        if !does_pass(store, leaves, op, x) {
-            if count == 0 {
-                first = x;
-            }
+    let mut first = None;
+    for x in &types[..size] {
+        let x = usize::from(*x);
+        if !does_pass(leafed, op, x) {
             count += 1;
+            first = first.or(Some(x));
         }
     }
-    if count == 0 {
-        return Errors::None;
+    match first {
+        Some(x) => operators::some_fail(count, x, 0),
+        None => Errors::None,
     }
-    operators::some_fail(count, first, 0)
 }
 
 // The errors of the check of a type.
-fn errors_of(store: Store, leaves: &[u16], op: usize, t: usize) -> Errors
-    requires leaves { Leaves true store.page.now leaves.now (types_in store.page.now) }
-    requires op_nonzero { (0 < op) × (t < types_in store.page.now) }
-    ensures { result ≡ unary_errors store.entry.page.now op t }
+#[tactic(auto, using(crate::proofs::Failing::errors_plain))]
+fn errors_of(leafed: Leafed<'_, 1>, op: usize, t: usize) -> Errors
+    requires { (0 < op) × (t < types_in leafed.store.page.now) }
+    ensures { result ≡ unary_errors leafed.entry.store.page.now op t }
 {
-    let kind = store.kind_of(t);
+    let kind = leafed.store.kind_of(t);
     if kinds::is_union(kind) {
-        return any_errors(store, leaves, op, t);
+        return any_errors(leafed, op, t);
     }
     let plain = operators::plain_unary(op, kind);
     plain.errors
@@ -110,8 +111,8 @@ fn check_unary_any(
     let mut results = [0; MEMBERS];
     let n = flatten(tables.store(page), t, &mut types);
     let mut k = 0;
-    for i in 0..n {
-        let x = member_at(&types, i);
+    for x in &types[..n] {
+        let x = usize::from(*x);
         let r = check_unary_operator(page, tables, done, op, x)?;
         k = merge(&mut results, k, r);
     }
@@ -119,6 +120,7 @@ fn check_unary_any(
 }
 
 // What an operator that may fail answers for a Known type.
+#[tactic(auto, using(crate::proofs::Checking::known_fails))]
 fn check_known(
     page: &mut [u8],
     tables: &mut Tables,
@@ -132,7 +134,7 @@ fn check_known(
     ensures page_after { concluded result page.new ≡ check_unary page.old op (Checked.Known t) }
     ensures measured_2 { Measured page.new tables.new.offsets tables.new.depths }
 {
-    let errors = errors_of(tables.store(page), leaves, op, t);
+    let errors = errors_of(Leafed::new(tables.store(page), leaves), op, t);
     if errors.count() != 0 {
         return Ok(operators::unknown(errors));
     }
@@ -141,6 +143,7 @@ fn check_known(
 }
 
 // The check on a checked type, for crates above (`answers::check_unary_operator` is the entry call, and restores the store on a refusal).
+#[tactic(auto, using(crate::proofs::Checking::unknown_checked, crate::proofs::Checking::function_checked, matching::proofs::Matching::known_in_use))]
 pub fn check_unary(
     page: &mut [u8],
     tables: &mut Tables,

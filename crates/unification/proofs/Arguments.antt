@@ -19,8 +19,8 @@ use Rattle.matching.specs.declared.Checked.TheVariants.{Known, Unknown, Function
 use Rattle.matching.proofs.Matching.{known_in_use}
 use Rattle.bindings.specs.declared.Bindings.{Bindings}
 use Rattle.unification.specs.declared.Unified.{Unified}
-use Rattle.unification.specs.Unification.{unified, said, all_pairs, unify, unify_arg, SettledAt}
-use Rattle.unification.proofs.Growth.{Given, Grown, grown_refl}
+use Rattle.unification.specs.Unification.{unified, said, all_pairs, unify, unify_arg, SettledAt, Given}
+use Rattle.unification.proofs.Growth.{Grown, grown_refl}
 use Rattle.unification.proofs.Unification.{Grows, said_grown, all_grown, unify_grown}
 
 pub function_in_use : (page : List ℕ) (f : ℕ) → in_use page (Function f) ≡ true → f < types_in page

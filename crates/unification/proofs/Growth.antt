@@ -2,12 +2,14 @@
 use mathlib.Core.Path.{◌≡◌, refl, sym, ◌∙◌, ap}
 use mathlib.Core.Bool.{Bool, true, false}
 use mathlib.Core.List.{List}
-use mathlib.Core.Logic.{⊎_elim}
+use mathlib.Core.Logic.{⊎_elim, ∥∥₁_elim}
+use Rattle.std.proofs.Math.Bridge.{le_prop}
+use Rattle.std.proofs.Props.{props}
 use Prim.Native.Nat.{ℕ, suc, ◌+◌, ◌*◌, ◌/◌, ◌%◌, ◌<◌}
 use native.Mathlib.Omega.{arith}
 use native.Mathlib.Nat.{eq-or-lt_of_le}
 use lib.Dec.{eqb}
-use lib.ListN.{length, get_or, set, length-set}
+use lib.ListN.{get_or, set, length-set}
 use lib.Seq.{get_or-set_same, get_or-set_other}
 use borrow.Author.Tests.{lt-ltb, eq-eqb, ltb-true, ltb-false}
 use Rattle.pages.specs.Quant.{first_to}
@@ -16,7 +18,7 @@ use Rattle.marks.specs.Marks.{is_marked, marking, Noted}
 use Rattle.marks.proofs.Marks.{noted_more, noted_as}
 use Rattle.bindings.specs.Bindings.{bindings_max, has_name, is_bound, bound_to, with_binding, Usable}
 use Rattle.bindings.specs.declared.Bindings.{Bindings}
-use Rattle.unification.specs.Unification.{Extends, Settled, seen_row, seen_column, SettledAt}
+use Rattle.unification.specs.Unification.{Extends, Settled, seen_row, seen_column, SettledAt, Given}
 
 pub extends_refl : (b : Bindings) → Extends b b
 extends_refl b = record { stays = λ x h. (h, refl) }
@@ -46,12 +48,6 @@ extends_with b name t = record { stays = stays }
         let e : first_to (suc b.count) q ≡ i =
         first_at q (suc b.count) i (omega arith) (sym (any_cong p q i (λ j k. same j (omega arith))) ∙ f.0) (sym (same i l) ∙ f.1) in
         (rw e (lt-ltb i (suc b.count) (omega arith)), rw e (get_or-set_other b.types b.count i t 0 (omega arith)))
-
--- bindings as a call has them: few, of types in use, and as many places as there may be
-pub record Given (b : Bindings) (t : ℕ) : Type 0 where
-  pub usable : Usable b t
-  pub names : length b.names ≡ bindings_max
-  pub types : length b.types ≡ bindings_max
 
 module _ (b : Bindings) (t : ℕ) (g : Given b t) (l : b.count < bindings_max) (name a : ℕ) where
   -- one binding more is as well usable
@@ -117,3 +113,14 @@ grown_refl b t g = record { given = g; extends = extends_refl b }
 
 pub grown_trans : (b c d : Bindings) (t : ℕ) → Grown b t c → Grown c t d → Grown b t d
 grown_trans b c d t p q = record { given = q.given; extends = extends_trans b c d p.extends q.extends }
+
+-- what is known of bindings is one fact at most, and so is that pairs are settled
+pub given_by : (b : Bindings) (t : ℕ) → ∥ Given b t ∥₁ → Given b t
+given_by b t h = record {
+  usable = record { few = ∥∥₁_elim h le_prop (λ g. g.usable.few); used = λ i l. ∥∥₁_elim h le_prop (λ g. g.usable.used i l) };
+  names = ∥∥₁_elim h (hlevel props) (λ g. g.names);
+  types = ∥∥₁_elim h (hlevel props) (λ g. g.types);
+}
+
+pub settled_by : (page : List ℕ) (b : Bindings) (seen : List ℕ) → ∥ Noted (SettledAt page b) seen ∥₁ → Noted (SettledAt page b) seen
+settled_by page b seen t = record { right = λ row column h d x. ∥∥₁_elim t (hlevel props) (λ n. n.right row column h d x) }

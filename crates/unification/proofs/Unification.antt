@@ -1,9 +1,8 @@
 -- `unify`: its equation, how its bindings grow, and that a pair answered yes is answered yes again. Assumes nothing.
 use Rattle.std.proofs.Common.{Result, Ok, Err, arith}
-use Rattle.std.specs.Result.{result_eq}
 use Rattle.refusals.specs.declared.Refusal.{Refusal}
 use mathlib.Core.Path.{◌≡◌, refl, sym, ◌∙◌, ap}
-use mathlib.Core.Bool.{Bool, beq, true, false, ◌&&◌, cond, false≢true}
+use mathlib.Core.Bool.{Bool, true, false, ◌&&◌, cond, false≢true}
 use mathlib.Core.List.{List}
 use mathlib.Core.Logic.{◌⊎◌, inl, inr, ⊎_elim}
 use Prim.Native.Nat.{ℕ, zero, suc, ◌<◌, ◌≤◌}
@@ -27,8 +26,8 @@ use Rattle.matching.proofs.Parts.{one_child, two_children}
 use Rattle.bindings.specs.Bindings.{bindings_max, is_bound, bound_to, with_binding}
 use Rattle.bindings.specs.declared.Bindings.{Bindings}
 use Rattle.unification.specs.declared.Unified.{Unified}
-use Rattle.unification.specs.Unification.{unified, said, and_then, pairs_to, all_pairs, generic_unify, is_adopted, is_alike, unify_rule, unify, Extends, Settled, SettledAt}
-use Rattle.unification.proofs.Growth.{Given, settled_on, extends_trans, extends_with, given_with, with_bound, Grown, grown_refl, grown_trans}
+use Rattle.unification.specs.Unification.{unified, said, and_then, pairs_to, all_pairs, generic_unify, is_adopted, is_alike, unify_rule, unify, Extends, Settled, SettledAt, Given}
+use Rattle.unification.proofs.Growth.{settled_on, extends_trans, extends_with, given_with, with_bound, Grown, grown_refl, grown_trans}
 
 -- an answer for every expected and actual type
 abbrev Rule : Type 0
@@ -213,7 +212,7 @@ module _ (page : List ℕ) (f : Formed page) where
 
 -- ---- a pair answered yes is answered yes again
 
-abbrev is_yes : Result Bool Refusal → Bool
+abbrev pub is_yes : Result Bool Refusal → Bool
 is_yes (Ok true) = true
 is_yes (Ok false) = false
 is_yes (Err r) = false
@@ -320,11 +319,6 @@ one_element page f e a u v h =
 
 -- ---- an expected generic name: one law for each return
 
--- where a name is bound, its type is the one looked up
-pub bound_is : (b : Bindings) (name a : ℕ) (x : Bool) (r : ℕ) → x ≡ is_bound b name → x ≡ true → r ≡ cond (is_bound b name) (bound_to b name) a
-    → r ≡ bound_to b name
-bound_is b name a x r p q e = e ∙ rw (sym p ∙ q) refl
-
 module _ (page : List ℕ) (name a : ℕ) (b : Bindings) where
   pub generic_bound : (bound : ℕ) (answer : Bool) → is_bound b name ≡ true → bound ≡ bound_to b name → answer ≡ known_matches page bound a
       → said answer b ≡ generic_unify page name a b
@@ -350,15 +344,3 @@ module _ (page : List ℕ) (f : Formed page) (e a : ℕ) (u : e < types_in page)
   -- after a yes the pair is
   pub unify_settled : r.answer ≡ Ok true → Settled page r.bindings e a
   unify_settled y d x = unify_again page f e a u v b d g (rw h at y) (rw h at x)
-
--- ---- a plain yes, as the library compares answers
-
-pub said_true : (e : Refusal → Refusal → Bool) (r : Result Bool Refusal) → result_eq beq e r (Ok true) ≡ true → r ≡ Ok true
-said_true e (Ok true) h = refl
-said_true e (Ok false) h = let z : ◌≡◌ {A = ℕ} 0 1 = cc in absurd (omega arith)
-said_true e (Err x) h = let z : ◌≡◌ {A = ℕ} 0 1 = cc in absurd (omega arith)
-
-pub said_no_true : (e : Refusal → Refusal → Bool) (r : Result Bool Refusal) → result_eq beq e r (Ok true) ≡ false → r ≡ Ok true → ⊥
-said_no_true e (Ok true) h k = let z : ◌≡◌ {A = ℕ} 0 1 = cc in omega arith
-said_no_true e (Ok false) h k = let z : ◌≡◌ {A = ℕ} 0 1 = cc in omega arith
-said_no_true e (Err x) h k = let z : ◌≡◌ {A = ℕ} 0 1 = cc in omega arith

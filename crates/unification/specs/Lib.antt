@@ -1,1 +1,2 @@
 pub mod Unification
+pub mod Same

@@ -1,7 +1,7 @@
 -- Fitting an actual type to an expected one that may bear generic names (document 01, "Types"; `unify` and `unify_arg` in the source's
 -- types.rs). The expected type comes first.
 use Rattle.refusals.specs.declared.Refusal.{Refusal}
-use Rattle.std.specs.Prelude.{◌≡◌, Bool, true, false, ◌&&◌, ◌||◌, cond, List, ℕ, zero, suc, ◌+◌, ◌*◌, ◌/◌, ◌%◌, ltb, eqb, Result, Ok, Err}
+use Rattle.std.specs.Prelude.{◌≡◌, Bool, true, false, ◌&&◌, ◌||◌, cond, List, ℕ, zero, suc, ◌+◌, ◌*◌, ◌/◌, ◌%◌, ltb, eqb, length, Result, Ok, Err}
 use Rattle.refusals.specs.declared.Refusal.TheVariants.{Full}
 use Rattle.kinds.specs.Kinds.{null, callback, generic, is_int, is_byte, is_array, is_set, is_result, is_map, is_tuple}
 use Rattle.types.specs.Types.{kind_of, arity, child_of, name_of}
@@ -9,7 +9,7 @@ use Rattle.types.specs.Recur.{cov}
 use Rattle.matching.specs.Matching.{both, is_kind, known_matches, function_matches}
 use Rattle.matching.specs.declared.Checked.{Checked}
 use Rattle.matching.specs.declared.Checked.TheVariants.{Known, Unknown, Function}
-use Rattle.bindings.specs.Bindings.{bindings_max, is_bound, bound_to, with_binding}
+use Rattle.bindings.specs.Bindings.{bindings_max, is_bound, bound_to, with_binding, Usable}
 use Rattle.bindings.specs.declared.Bindings.{Bindings}
 use Rattle.unification.specs.declared.Unified.{Unified}
 
@@ -74,6 +74,12 @@ unify_arg page e Unknown b = unified (Ok true) b
 unify_arg page e (Known a) b = unify page e a b
 unify_arg page e (Function f) b =
     cond (is_kind callback page e) (all_pairs (unify page) page e f b) (said (function_matches page f (Known e)) b)
+
+-- bindings as a call has them: few, of types in use, and as many places as there may be
+pub record Given (b : Bindings) (t : ℕ) : Type 0 where
+  pub usable : Usable b t
+  pub names : length b.names ≡ bindings_max
+  pub types : length b.types ≡ bindings_max
 
 -- ---- pairs met again
 

@@ -9,12 +9,11 @@ ghost use Rattle.types.specs.Types.{types_in, Held};
 ghost use Rattle.matching.specs.Matching.{both, in_use};
 ghost use Rattle.marks.specs.Marks.{is_marked, marking, Noted};
 ghost use Rattle.matching.specs.Memo.{Found};
-ghost use Rattle.bindings.specs.Bindings.{Usable};
-ghost use Rattle.unification.specs.Unification.{said, generic_unify, is_adopted, is_alike, all_pairs, unify, unify_arg, seen_row, seen_column, SettledAt};
+ghost use Rattle.unification.specs.Unification.{unified, generic_unify, is_adopted, is_alike, all_pairs, unify, unify_arg, seen_row, seen_column, SettledAt, Given};
 
 use bindings::{BINDINGS, Bindings};
 use kinds::{CALLBACK, GENERIC, Kind};
-use matching::{Checked, matches};
+use matching::{Checked, Matcher};
 use names::Symbol;
 use refusals::Refusal;
 use types::{NULL, Store};
@@ -26,6 +25,16 @@ pub struct Unified {
     pub bindings: Bindings,
 }
 
+// The store and what matching has found in it, the pairs of which it was found that they fit, and what generic names are bound to.
+#[derive(Drop)]
+pub struct Unifier<'a, 'b> {
+    pub matcher: Matcher<'a>,
+    pub seen: &'b mut [u8],
+    pub bindings: Bindings,
+    pub ghost given: { ∥ Given bindings (types_in matcher.store.page.now) ∥₁ },
+    pub ghost settled: { ∥ Noted (SettledAt matcher.store.page.now bindings) seen.now ∥₁ },
+}
+
 // The column of a pair; two expected types share a row.
 fn column_of(e: usize, a: usize) -> usize
     requires { a < types_max }
@@ -34,59 +43,12 @@ fn column_of(e: usize, a: usize) -> usize
     2 * a + e % 2
 }
 
-// Whether a pair was answered yes before.
-fn is_settled(seen: &[u8], e: usize, a: usize) -> bool
-    requires { (e < types_max) × (a < types_max) }
-    ensures { result ≡ is_marked seen.now (seen_row e) (seen_column e a) }
-{
-    marks::is_marked(seen, e / 2, column_of(e, a))
-}
-
 // Keeps in mind that a pair was answered yes.
 fn settle(seen: &mut [u8], e: usize, a: usize)
     requires { (e < types_max) × (a < types_max) }
     ensures { seen.new ≡ marking seen.old (seen_row e) (seen_column e a) }
 {
     marks::mark(seen, e / 2, column_of(e, a));
-}
-
-// A plain yes or no.
-#[tactic(auto, unfolding(crate::specs::Unification::said))]
-fn say(answer: bool, bindings: Bindings) -> Unified
-    ensures { result ≡ said answer bindings }
-{
-    Unified {
-        answer: Ok(answer),
-        bindings,
-    }
-}
-
-// An expected generic name: what it is bound to must match, and an unbound one is bound.
-fn unify_generic(
-    store: Store,
-    memo: &mut [u8],
-    bindings: Bindings,
-    name: Symbol,
-    a: usize,
-) -> Unified
-    requires a_bound { a < types_in store.page.now }
-    requires usable { Usable bindings (types_in store.page.now) }
-    requires noted { Noted (Found store.page.now) memo.old }
-    ensures value { result ≡ generic_unify store.entry.page.now name a bindings }
-    ensures noted_2 { Noted (Found store.entry.page.now) memo.new }
-{
-    if bindings::is_bound(bindings, name) {
-        let bound = bindings::bound_or(bindings, name, a);
-        let answer = matches(store, memo, Checked::Known(bound), Checked::Known(a));
-        return say(answer, bindings);
-    }
-    if bindings.count < BINDINGS {
-        return say(true, bindings::with_binding(bindings, name, a));
-    }
-    Unified {
-        answer: Err(Refusal::Full),
-        bindings,
-    }
 }
 
 // Whether two kinds are both arrays, sets, results, maps or tuples.
@@ -110,7 +72,7 @@ fn are_arrays(store: Store, e: usize, a: usize) -> bool
 }
 
 // Whether an array is taken as it is: one of no element, or of Int where Byte is expected.
-#[tactic(auto, unfolding(crate::specs::Unification::is_adopted))]
+#[tactic(auto, using(crate::proofs::Unification::one_element, types::proofs::Types::held_by), unfolding(crate::specs::Unification::is_adopted))]
 fn is_adopted(store: Store, e: usize, a: usize) -> bool
     requires { (e < types_in store.page.now) × (a < types_in store.page.now) }
     ensures { result ≡ (both is_array store.entry.page.now e a && is_adopted store.entry.page.now e a) }
@@ -124,106 +86,97 @@ fn is_adopted(store: Store, e: usize, a: usize) -> bool
             && kinds::is_int(store.kind_of(element))
 }
 
-// Whether an actual type fits an expected one, and what generic names it binds on the way.
-#[cycle(unify_unify_children)]
-pub fn unify(
-    store: Store,
-    memo: &mut [u8],
-    seen: &mut [u8],
-    bindings: Bindings,
-    e: usize,
-    a: usize,
-) -> Unified
-    requires e_bound { (e < types_in store.page.now) × (a < types_in store.page.now) }
-    requires usable { Usable bindings (types_in store.page.now) }
-    requires noted { Noted (Found store.page.now) memo.old }
-    requires noted_2 { Noted (SettledAt store.page.now bindings) seen.old }
-    ensures value { result ≡ unify store.entry.page.now e a bindings }
-    ensures noted_3 { Noted (Found store.entry.page.now) memo.new }
-    ensures noted_4 { Noted (SettledAt store.entry.page.now result.bindings) seen.new }
-{
-    let kind = store.kind_of(e);
-    if kind == GENERIC {
-        return unify_generic(store, memo, bindings, store.name_of(e), a);
-    }
-    if is_adopted(store, e, a) {
-        return say(true, bindings);
-    }
-    if !are_alike(kind, store.kind_of(a)) {
-        let answer = matches(store, memo, Checked::Known(e), Checked::Known(a));
-        return say(answer, bindings);
-    }
-    if is_settled(seen, e, a) {
-        return say(true, bindings);
-    }
-    let out = unify_children(store, memo, seen, bindings, e, a);
-    if out.answer == Ok(true) {
-        settle(seen, e, a);
-    }
-    out
-}
+impl Unifier<'_, '_> {
+    ghost use Rattle.unification.specs.Same.{Same};
 
-// Whether two types have as many children, and each fits, left to right.
-#[cycle(unify_unify_children)]
-fn unify_children(
-    store: Store,
-    memo: &mut [u8],
-    seen: &mut [u8],
-    bindings: Bindings,
-    e: usize,
-    a: usize,
-) -> Unified
-    requires e_bound { (e < types_in store.page.now) × (a < types_in store.page.now) }
-    requires usable { Usable bindings (types_in store.page.now) }
-    requires noted { Noted (Found store.page.now) memo.old }
-    requires noted_2 { Noted (SettledAt store.page.now bindings) seen.old }
-    ensures value { result ≡ all_pairs (unify store.entry.page.now) store.entry.page.now e a bindings }
-    ensures noted_3 { Noted (Found store.entry.page.now) memo.new }
-    ensures noted_4 { Noted (SettledAt store.entry.page.now result.bindings) seen.new }
-{
-    let n = store.arity(e);
-    if n != store.arity(a) {
-        return say(false, bindings);
+    // Whether a pair was answered yes before.
+    fn is_settled(&self, e: usize, a: usize) -> bool
+        requires { (e < types_max) × (a < types_max) }
+        ensures { result ≡ is_marked self.now.seen.now (seen_row e) (seen_column e a) }
+    {
+        marks::is_marked(self.seen, e / 2, column_of(e, a))
     }
-    let mut bound = bindings;
-    for i in 0..n {
-        let x = store.child_of(e, i);
-        let y = store.child_of(a, i);
-        let pair = unify(store, memo, seen, bound, x, y);
-        if pair.answer != Ok(true) {
-            return pair;
+
+    // An expected generic name: what it is bound to must match, and an unbound one is bound.
+    fn unify_generic(&mut self, name: Symbol, a: usize) -> Result<bool, Refusal>
+        requires { a < types_in self.old.matcher.store.page.now }
+        ensures value { unified result self.new.bindings ≡ generic_unify self.old.matcher.store.page.now name a self.old.bindings }
+        ensures same { Same self.new self.old }
+    {
+        if let Some(bound) = bindings::bound_to(self.bindings, name) {
+            let (wanted, given) = (Checked::Known(bound), Checked::Known(a));
+            return Ok(self.matcher.matches(wanted, given));
         }
-        bound = pair.bindings;
+        if self.bindings.count < BINDINGS {
+            self.bindings = bindings::with_binding(self.bindings, name, a);
+            return Ok(true);
+        }
+        Err(Refusal::Full)
     }
-    say(true, bound)
-}
 
-// Whether an argument fits a parameter: everything takes Unknown, and a Callback a Function by its parameters and return.
-pub fn unify_arg(
-    store: Store,
-    memo: &mut [u8],
-    seen: &mut [u8],
-    bindings: Bindings,
-    e: usize,
-    actual: Checked,
-) -> Unified
-    requires e_bound { (e < types_in store.page.now) × (in_use store.page.now actual ≡ true) }
-    requires usable { Usable bindings (types_in store.page.now) }
-    requires noted { Noted (Found store.page.now) memo.old }
-    requires noted_2 { Noted (SettledAt store.page.now bindings) seen.old }
-    ensures value { result ≡ unify_arg store.entry.page.now e actual bindings }
-    ensures noted_3 { Noted (Found store.entry.page.now) memo.new }
-    ensures noted_4 { Noted (SettledAt store.entry.page.now result.bindings) seen.new }
-{
-    if let Checked::Known(a) = actual {
-        return unify(store, memo, seen, bindings, e, a);
+    // Whether an actual type fits an expected one, and what generic names it binds on the way.
+    #[cycle(unify_unify_children)]
+    pub fn unify(&mut self, e: usize, a: usize) -> Result<bool, Refusal>
+        requires { (e < types_in self.old.matcher.store.page.now) × (a < types_in self.old.matcher.store.page.now) }
+        ensures value { unified result self.new.bindings ≡ unify self.old.matcher.store.page.now e a self.old.bindings }
+        ensures same { Same self.new self.old }
+    {
+        let store = self.matcher.store;
+        let kind = store.kind_of(e);
+        if kind == GENERIC {
+            return self.unify_generic(store.name_of(e), a);
+        }
+        if is_adopted(store, e, a) {
+            return Ok(true);
+        }
+        if !are_alike(kind, store.kind_of(a)) {
+            return Ok(self.matcher.matches(Checked::Known(e), Checked::Known(a)));
+        }
+        if self.is_settled(e, a) {
+            return Ok(true);
+        }
+        let fits = self.unify_children(e, a)?;
+        if fits {
+            settle(self.seen, e, a);
+        }
+        Ok(fits)
     }
-    let Checked::Function(f) = actual else {
-        return say(true, bindings);
-    };
-    if store.kind_of(e) == CALLBACK {
-        return unify_children(store, memo, seen, bindings, e, f);
+
+    // Whether two types have as many children, and each fits, left to right.
+    #[cycle(unify_unify_children)]
+    fn unify_children(&mut self, e: usize, a: usize) -> Result<bool, Refusal>
+        requires { (e < types_in self.old.matcher.store.page.now) × (a < types_in self.old.matcher.store.page.now) }
+        ensures value { unified result self.new.bindings ≡ all_pairs (unify self.old.matcher.store.page.now) self.old.matcher.store.page.now e a self.old.bindings }
+        ensures same { Same self.new self.old }
+    {
+        let store = self.matcher.store;
+        let n = store.arity(e);
+        if n != store.arity(a) {
+            return Ok(false);
+        }
+        for i in 0..n {
+            if !self.unify(store.child_of(e, i), store.child_of(a, i))? {
+                return Ok(false);
+            }
+        }
+        Ok(true)
     }
-    let answer = matches(store, memo, actual, Checked::Known(e));
-    say(answer, bindings)
+
+    // Whether an argument fits a parameter: everything takes Unknown, and a Callback a Function by its parameters and return.
+    pub fn unify_arg(&mut self, e: usize, actual: Checked) -> Result<bool, Refusal>
+        requires { (e < types_in self.old.matcher.store.page.now) × (in_use self.old.matcher.store.page.now actual ≡ true) }
+        ensures value { unified result self.new.bindings ≡ unify_arg self.old.matcher.store.page.now e actual self.old.bindings }
+        ensures same { Same self.new self.old }
+    {
+        if let Checked::Known(a) = actual {
+            return self.unify(e, a);
+        }
+        let Checked::Function(f) = actual else {
+            return Ok(true);
+        };
+        if self.matcher.store.kind_of(e) == CALLBACK {
+            return self.unify_children(e, f);
+        }
+        Ok(self.matcher.matches(actual, Checked::Known(e)))
+    }
 }

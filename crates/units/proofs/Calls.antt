@@ -2,19 +2,21 @@
 use Rattle.std.proofs.Common.{Some, None, Ok, Err, IfOk, ◌==◌}
 use Rattle.refusals.specs.Lowest.{answer_of}
 use mathlib.Core.Path.{◌≡◌, refl, sym, ap, subst, ◌∙◌}
-use mathlib.Core.Bool.{Bool, true, false, not}
+use mathlib.Core.Bool.{Bool, true, false, not, true≢false}
 use mathlib.Core.List.{List, [], ◌∷◌}
-use Prim.Native.Nat.{ℕ, suc, ◌+◌, ◌≤◌, ◌<◌}
+use Prim.Native.Nat.{ℕ, zero, suc, ◌+◌, ◌≤◌, ◌<◌}
 use native.Mathlib.Omega.{arith}
-use lib.Dec.{ltb}
+use lib.Dec.{ltb, eqb}
 use lib.ListN.{length}
 use lib.IntN.{ℤ, pos, ◌+ℤ◌, +ℤ_idl}
-use borrow.Author.Tests.{lt-ltb, le-ltb, ltb-false}
+use borrow.Author.Tests.{lt-ltb, le-ltb, ltb-false, eq-eqb}
 use Rattle.refusals.specs.Lowest.{◌when◌}
 use Rattle.refusals.specs.declared.Refusal.{Refusal}
 use Rattle.refusals.specs.declared.Refusal.TheVariants.{BadUnit, Exponent, Symbols}
 use Rattle.refusals.specs.Numbers.{Verdict}
 use Rattle.refusals.proofs.Lowest.{first_holds, passed_parts}
+use Rattle.pages.specs.Quant.{any_to}
+use Rattle.pages.proofs.Quant.{or_false}
 use Rattle.names.specs.Table.{names_max}
 use Rattle.units.specs.Unit.{places_max, Term, term, formed, exponent}
 use Rattle.units.specs.Product.{any_outside, product_of, product_verdict}
@@ -163,6 +165,15 @@ module _ (n : ℕ) (u : Places) (s i : ℕ) (k : Seeking n u s i) where
       asc = tail_of here;
       whole = sym (ap (exponent s) (from_step u i h) ∙ ap (λ z. z +ℤ exponent s (terms_from u (i + 1))) (part_other s (term (sym_at u i) (exp_at u i)) (λ e. other (sym e))) ∙ +ℤ_idl (exponent s (terms_from u (i + 1)))) ∙ k.whole;
     }
+
+-- the search may stand at place i, where the places before it do not have s
+pub seeking_to : (n : ℕ) (u : Places) (s i : ℕ) → Seeking n u s 0 → i ≤ u.count → any_to i (λ j. eqb (sym_at u j) s) ≡ false → Seeking n u s i
+unfolding any_to
+seeking_to n u s zero k h e = k
+seeking_to n u s (suc i) k h e =
+    let z = or_false (any_to i (λ j. eqb (sym_at u j) s)) (eqb (sym_at u i) s) e in
+    let e : suc i ≡ i + 1 = omega arith in
+    subst (Seeking n u s) (sym e) (seeking_next n u s i (seeking_to n u s i k (omega (arith, h)) z.0) h (λ is. true≢false (sym (eq-eqb (sym_at u i) s is) ∙ z.1)))
 
 pub none_unitless : Ok true ≡ unitless_answer None
 unfolding unitless_answer maybe_verdict unitless

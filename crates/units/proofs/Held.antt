@@ -23,7 +23,7 @@ abbrev pub places_of : Unit → Places
 places_of u = record { count = u.count; symbols = u.symbols; exponents = u.exponents }
 
 abbrev pub kind : Kind Sum
-kind = record { Held = λ w l. w ≡ sum_of l; count = λ w. w.count; counts = λ w l e. ap (λ (v : Sum). v.count) e }
+kind = record { Held = λ w l. w ≡ sum_of l; count = λ w. w.unit.count; counts = λ w l e. ap (λ (v : Sum). v.unit.count) e }
 
 syms_more : (l : List Term) (x : Term) → syms (l ++ (x ∷ [])) ≡ syms l ++ (x.symbol ∷ [])
 syms_more [] x = refl
@@ -76,23 +76,6 @@ module _ (n : ℕ) (l : List Term) (x : Term) where
   exponents_full : n ≤ length l → pad n (pos 0) (exps l) ≡ pad n (pos 0) (exps (l ++ (x ∷ [])))
   exponents_full h = pad_full n (pos 0) (exps l) (x.exp ∷ []) (rw (length_exps l) h) ∙ ap (pad n (pos 0)) (sym (exps_more l x))
 
-module _ (l : List Term) (s : ℕ) (e : ℤ) where
-  pub sum_room : length l < places_max → ◌≡◌ {A = Sum} (record { count = length l + 1; wide = any_outside l || outside e; symbols = set (pad places_max 0 (syms l)) (length l) s; exponents = set (pad places_max (pos 0) (exps l)) (length l) e }) (sum_of (l ++ (term s e ∷ [])))
-  sum_room h = λ i. record {
-    count = count_more l (term s e) i;
-    wide = wide_more l (term s e) i;
-    symbols = symbols_room places_max l (term s e) h i;
-    exponents = exponents_room places_max l (term s e) h i;
-  }
-
-  pub sum_full : places_max ≤ length l → ◌≡◌ {A = Sum} (record { count = length l + 1; wide = any_outside l || outside e; symbols = pad places_max 0 (syms l); exponents = pad places_max (pos 0) (exps l) }) (sum_of (l ++ (term s e ∷ [])))
-  sum_full h = λ i. record {
-    count = count_more l (term s e) i;
-    wide = wide_more l (term s e) i;
-    symbols = symbols_full places_max l (term s e) h i;
-    exponents = exponents_full places_max l (term s e) h i;
-  }
-
 -- ---- a unit in its struct
 
 -- a unit that holds a list holds one term more, as far as there are places
@@ -114,6 +97,29 @@ grown u s e l h =
   where
     past : {A : Type 0} (n : ℕ) (d : A) (xs : List A) → n ≤ length l → length (pad n d xs) ≤ length l
     past n d xs g = rw (length_pad n d xs) g
+
+-- past the places a term is only counted
+counted : (l : List Term) (x : Term) → places_max ≤ length l
+    → ◌≡◌ {A = Unit} (record { count = length l + 1; symbols = pad places_max 0 (syms l); exponents = pad places_max (pos 0) (exps l) }) (unit_of (l ++ (x ∷ [])))
+counted l x h = λ i. record { count = count_more l x i; symbols = symbols_full places_max l x h i; exponents = exponents_full places_max l x h i }
+
+-- a sum that holds a list, with one term more
+module _ (w : Sum) (s : ℕ) (e : ℤ) (l : List Term) (h : w ≡ sum_of l) where
+  wide_next : w.wide || outside e ≡ any_outside (l ++ (term s e ∷ []))
+  wide_next = ap (λ (v : Sum). v.wide || outside e) h ∙ wide_more l (term s e)
+
+  pub sum_room : ◌≡◌ {A = Sum} (record { unit = with_term w.unit s e; wide = w.wide || outside e }) (sum_of (l ++ (term s e ∷ [])))
+  sum_room = λ i. record { unit = grown w.unit s e l (ap (λ (v : Sum). v.unit) h) i; wide = wide_next i }
+
+  pub sum_full : places_max ≤ w.unit.count
+      → ◌≡◌ {A = Sum} (record { unit = record { count = w.unit.count + 1; symbols = w.unit.symbols; exponents = w.unit.exponents }; wide = w.wide || outside e }) (sum_of (l ++ (term s e ∷ [])))
+  sum_full k = λ i. record {
+    unit = (
+        ap (λ (v : Sum). record { count = v.unit.count + 1; symbols = v.unit.symbols; exponents = v.unit.exponents }) h
+        ∙ counted l (term s e) (rw h at k)
+        ) i;
+    wide = wide_next i;
+  }
 
 terms_at_lem : (l : List Term) (i : ℕ) (ss : List ℕ) (es : List ℤ)
     → ((k : ℕ) → k < length l → get_or ss (i + k) 0 ≡ get_or (syms l) k 0) → ((k : ℕ) → k < length l → get_or es (i + k) (pos 0) ≡ get_or (exps l) k (pos 0))

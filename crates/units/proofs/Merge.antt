@@ -1,7 +1,7 @@
 -- The merge of two units, turn by turn, for every number of places. Assumes nothing.
-use mathlib.Core.Path.{◌≡◌, refl, sym, ap, subst, ◌∙◌}
+use mathlib.Core.Path.{◌≡◌, refl, sym, ap, ◌∙◌}
 use mathlib.Core.Bool.{Bool, true, false, cond}
-use mathlib.Core.List.{List, [], ◌∷◌, ◌++◌, append_assoc, append-nil}
+use mathlib.Core.List.{List, [], ◌∷◌, ◌++◌, append_assoc}
 use Prim.Native.Nat.{ℕ, ◌+◌, ◌≤◌, ◌<◌}
 use native.Mathlib.Omega.{arith}
 use lib.ListN.{length, length-append}
@@ -146,9 +146,3 @@ module _ {W : Type 0} (K : Kind W) (n : ℕ) (d : Bool) (a b : Places) where
             b_in = st.b_in;
             short = omega arith;
           }
-
-    pub stand_end : a.count ≤ i → b.count ≤ j → K.Held w (whole_of d a b)
-    stand_end h k = subst (K.Held w) (sym (append-nil st.out) ∙ ap (λ t. st.out ++ t) (sym none_left) ∙ st.whole) st.held
-      where
-        none_left : left d a b i j ≡ []
-        none_left = rw (from_end a i h, from_end b j k)

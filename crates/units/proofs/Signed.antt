@@ -20,6 +20,11 @@ back z h = to_z-of_z {w = w16} {z = z} (record { sfits = h })
 pub small : (z : ℤ) → outside z ≡ false → nat_abs z ≤ exponent_max
 small z h = ltb-false exponent_max (nat_abs z) h
 
+-- so is one within the limits
+pub inside_back : (z : ℤ) → outside z ≡ false → to_z w16 (of_z w16 z) ≡ z
+inside_back (pos n) h = back (pos n) (let k = small (pos n) h in omega arith)
+inside_back (negsuc n) h = back (negsuc n) (let k = small (negsuc n) h in omega arith)
+
 mag_sub : (a b k : ℕ) → a ≤ k → b ≤ k → mag (sub_ℕ a b) ≤ k
 mag_sub a b k ha hb = go (ltb a b)
   where

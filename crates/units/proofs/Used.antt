@@ -1,18 +1,22 @@
 -- Whether a unit's symbols are in use, place by place. Assumes nothing.
-use mathlib.Core.Path.{◌≡◌, refl, sym, ap, ◌∙◌}
-use mathlib.Core.Bool.{true, false}
+use mathlib.Core.Path.{◌≡◌, refl, sym, ap, ap₂, ◌∙◌}
+use mathlib.Core.Bool.{true, ◌&&◌}
 use mathlib.Core.List.{List, [], ◌∷◌}
-use Prim.Native.Nat.{ℕ, suc, ◌+◌, ◌≤◌, ◌<◌}
+use Prim.Native.Nat.{ℕ, zero, suc, ◌+◌, ◌≤◌}
 use native.Mathlib.Omega.{arith}
 use borrow.Author.Tests.{le-leb}
-use Rattle.pages.proofs.Quant.{and_true}
+use lib.ListN.{length, get_or, take}
+use lib.IntN.{ℤ}
+use Rattle.std.specs.List.{list_all}
+use Rattle.pages.specs.Quant.{all_to}
+use Rattle.pages.proofs.Quant.{and_true, all_front, all_cong, all_taken}
 use Rattle.names.specs.Table.{names_max}
 use Rattle.names.specs.Calls.{is_used}
 use Rattle.names.proofs.Used.{used_is}
 use Rattle.units.specs.Unit.{places_max, Term, ordered, in_use}
-use Rattle.units.specs.Calls.{terms_of, filled, present}
+use Rattle.units.specs.Calls.{terms, terms_of, filled, present}
 use Rattle.units.specs.declared.Unit.{Unit}
-use Rattle.units.proofs.Form.{Places, terms_from, ordered_parts, sym_at, from_start, from_step, from_end}
+use Rattle.units.proofs.Form.{Places, ordered_parts}
 
 pub in_use_head : (n : ℕ) (x : Term) (xs : List Term) → in_use n (x ∷ xs) ≡ true → is_used n x.symbol ≡ true
 unfolding in_use
@@ -39,30 +43,22 @@ filled_few u h = (rw (le-leb u.count places_max h), h)
 pub present_all : (u : Unit) → u.count ≤ places_max → present u ≡ terms_of u
 present_all u h = rw (← (filled_few u h).0)
 
--- Where the test stands: the symbols that are left come to what the whole comes to.
-pub record Looking (n : ℕ) (u : Unit) (i : ℕ) : Type 0 where
-  pub i_in : i ≤ filled u
-  pub whole : in_use n (terms_from (seen_of u) i) ≡ in_use n (present u)
+-- the symbols of the terms at places, number by number
+in_use_terms : (n k i : ℕ) (ss : List ℕ) (es : List ℤ) → in_use n (terms k i ss es) ≡ all_to k (λ j. is_used n (get_or ss (i + j) 0))
+unfolding in_use all_to
+in_use_terms n zero i ss es = refl
+in_use_terms n (suc k) i ss es =
+    let on : all_to k (λ j. is_used n (get_or ss (suc i + j) 0)) ≡ all_to k (λ j. is_used n (get_or ss (i + suc j) 0)) =
+    all_cong _ _ k (λ j h. let e : suc i + j ≡ i + suc j = omega arith in ap (λ (m : ℕ). is_used n (get_or ss m 0)) e) in
+    let e : i ≡ i + 0 = omega arith in
+    ap₂ (λ (m : ℕ) b. is_used n (get_or ss m 0) && b) e (in_use_terms n k (suc i) ss es ∙ on) ∙ sym (all_front k (λ j. is_used n (get_or ss (i + j) 0)))
 
-pub looking_start : (n : ℕ) (u : Unit) → Looking n u 0
-looking_start n u = record { i_in = omega arith; whole = ap (in_use n) (from_start (seen_of u)) }
-
-module _ (n : ℕ) (u : Unit) (i : ℕ) (l : Looking n u i) where
-  pub looked_all : filled u ≤ i → true ≡ in_use n (present u)
-  unfolding in_use
-  looked_all h = sym (ap (in_use n) (from_end (seen_of u) i h)) ∙ l.whole
-
-  module _ (h : i < filled u) where
-    pub looked_unused : is_used n (sym_at (seen_of u) i) ≡ false → false ≡ in_use n (present u)
-    unfolding in_use
-    looked_unused s = sym (ap (in_use n) (from_step (seen_of u) i h) ∙ rw s) ∙ l.whole
-
-    pub looking_next : is_used n (sym_at (seen_of u) i) ≡ true → Looking n u (i + 1)
-    unfolding in_use
-    looking_next s = record {
-      i_in = omega arith;
-      whole = sym (ap (in_use n) (from_step (seen_of u) i h) ∙ rw s) ∙ l.whole;
-    }
+-- the symbols in the first places, one by one
+pub used_taken : (n k : ℕ) (ss : List ℕ) (es : List ℤ) → k ≤ length ss → list_all (is_used n) (take k ss) ≡ in_use n (terms k 0 ss es)
+used_taken n k ss es h =
+    let on : all_to k (λ j. is_used n (get_or ss j 0)) ≡ all_to k (λ j. is_used n (get_or ss (0 + j) 0)) =
+    all_cong _ _ k (λ j l. let e : j ≡ 0 + j = omega arith in ap (λ (m : ℕ). is_used n (get_or ss m 0)) e) in
+    all_taken (is_used n) 0 k ss h ∙ on ∙ sym (in_use_terms n k 0 ss es)
 
 -- the symbols of terms in form are in use, where all names are
 pub ordered_used : (lo : ℕ) (xs : List Term) → ordered names_max lo xs ≡ true → in_use names_max xs ≡ true

@@ -54,7 +54,7 @@ with_term u s e = record { count = u.count + 1; symbols = set u.symbols u.count 
 
 -- the terms gathered so far, as `Sum` holds them: also more than there are places
 abbrev pub sum_of : List Term → Sum
-sum_of l = record { count = length l; wide = any_outside l; symbols = pad places_max 0 (syms l); exponents = pad places_max (pos 0) (exps l) }
+sum_of l = record { unit = unit_of l; wide = any_outside l }
 
 -- ---- is it a unit
 

@@ -26,15 +26,11 @@ pub const UNIT_BYTES: usize = 1 + PLACES * TERM_BYTES;
 pub type UnitBytes = [u8; UNIT_BYTES];
 
 // Two bytes as a signed number.
+#[tactic(auto, using(crate::proofs::Sixteen::signed_is))]
 fn signed(high: u8, low: u8) -> i16
     ensures { result ≡ signed_of (high * 256 + low) }
 {
-    let raw = index(high) * 256 + index(low);
-    if raw < 32768 {
-        return raw as i16;
-    }
-    let below = (65535 - raw) as i16;
-    -1 - below
+    i16::from_be_bytes([high, low])
 }
 
 // The unit with n terms, from index 1 on.
@@ -108,13 +104,11 @@ pub fn are_used(bytes: &[u8], n: usize) -> bool
 }
 
 // A signed number as sixteen bits.
+#[tactic(auto, using(crate::proofs::Sixteen::raw_is))]
 pub fn raw(e: i16) -> usize
     ensures { (result ≡ raw_of e) × (result < 65536) }
 {
-    if e < 0 {
-        return 65535 - (-1 - e) as usize;
-    }
-    e as usize
+    usize::from(e.cast_unsigned())
 }
 
 // Writes the terms of a unit, from index 1 on.

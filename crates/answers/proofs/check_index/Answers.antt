@@ -1,3 +1,4 @@
+use Rattle.std.specs.Prelude.{option_copied}
 use Rattle.std.proofs.Common.{None}
 use Rattle.std.proofs.lemmas.Result.{err_from_is_err_and}
 use mathlib.Core.Bool.{not}
@@ -12,14 +13,14 @@ returns-then-not-opened c =
     let opened = c.opened in
     let if1 = c.if-not-opened in
     let k =
-    index_broken c.args.page.now c.args.names.now c.args.lent c.args.target c.args.key
+    index_broken c.args.page.now (option_copied c.args.names) c.args.target c.args.key
     (opened.ensures.0 ∙ ap not if1.true) in
     (k.0, k.1)
 
 pub in_use-n-requires : goal.in_use-n-requires
 in_use-n-requires c =
     let opened = c.opened in
-    (unbroken_both c.args.page.now c.args.names.now c.args.lent (opened.ensures.0 ∙ ap not c.if-not-opened.false)).0
+    (unbroken_both c.args.page.now (option_copied c.args.names) (opened.ensures.0 ∙ ap not c.if-not-opened.false)).0
 
 pub returns-in_err-operands_verdict : goal.returns-in_err-operands_verdict
 returns-in_err-operands_verdict c =
@@ -29,7 +30,7 @@ returns-in_err-operands_verdict c =
     let in_use = c.in_use-n in
     let operands-verdict = c.operands_verdict in
     let k =
-    index_unfit c.args.page.now c.args.names.now c.args.lent c.args.target c.args.key
+    index_unfit c.args.page.now (option_copied c.args.names) c.args.target c.args.key
     (opened.ensures.0 ∙ ap not if1.false) _
     (sym c.in_err-operands_verdict.was ∙ rw in_use.ensures.0 at (rw c.store.ensures.0 at operands-verdict.ensures)) in
     rw (p.1, p.2) (k.0, k.1)
@@ -44,7 +45,7 @@ index_in-requires c =
 pub returns : goal.returns
 returns c =
     let index_in = c.index_in in
-    index_passed c.args.page.now c.args.names.now c.args.lent c.args.target c.args.key
+    index_passed c.args.page.now (option_copied c.args.names) c.args.target c.args.key
     (c.opened.ensures.0 ∙ ap not c.if-not-opened.false)
     (sym c.in_ok-operands_verdict.was ∙ rw c.in_use-n.ensures.0 at (rw c.store.ensures.0 at c.operands_verdict.ensures))
     index_in.ensures.value index_in.ensures.page_after

@@ -1,3 +1,4 @@
+use Rattle.std.specs.Prelude.{option_copied}
 use Rattle.std.proofs.lemmas.Result.{err_from_is_err_and}
 use mathlib.Core.Bool.{not}
 use mathlib.Core.Path.{ap}
@@ -13,7 +14,7 @@ returns-then-not-is_operator c =
     let is-operator = c.is_operator in
     let if1 = c.if-not-is_operator in
     let k =
-    unary_undefined c.args.page.now c.args.names.now c.args.lent c.args.op c.args.x
+    unary_undefined c.args.page.now (option_copied c.args.names) c.args.op c.args.x
     (sym is-operator.ensures ∙ if1.true) in
     (k.0, k.1)
 
@@ -24,14 +25,14 @@ returns-then-not-opened c =
     let opened = c.opened in
     let if2 = c.if-not-opened in
     let k =
-    unary_broken c.args.page.now c.args.names.now c.args.lent c.args.op c.args.x
+    unary_broken c.args.page.now (option_copied c.args.names) c.args.op c.args.x
     (sym is-operator.ensures ∙ if1.false) (opened.ensures.0 ∙ ap not if2.true) in
     (k.0, k.1)
 
 pub in_use-n-requires : goal.in_use-n-requires
 in_use-n-requires c =
     let opened = c.opened in
-    (unbroken_both c.args.page.now c.args.names.now c.args.lent (opened.ensures.0 ∙ ap not c.if-not-opened.false)).0
+    (unbroken_both c.args.page.now (option_copied c.args.names) (opened.ensures.0 ∙ ap not c.if-not-opened.false)).0
 
 pub returns-in_err-operands_verdict : goal.returns-in_err-operands_verdict
 returns-in_err-operands_verdict c =
@@ -43,7 +44,7 @@ returns-in_err-operands_verdict c =
     let in_use = c.in_use-n in
     let operands-verdict = c.operands_verdict in
     let k =
-    unary_unfit c.args.page.now c.args.names.now c.args.lent c.args.op c.args.x
+    unary_unfit c.args.page.now (option_copied c.args.names) c.args.op c.args.x
     (sym is-operator.ensures ∙ if1.false) (opened.ensures.0 ∙ ap not if2.false) _
     (sym c.in_err-operands_verdict.was ∙ rw in_use.ensures.0 at (rw c.store-store.ensures.0 at operands-verdict.ensures)) in
     rw (p.1, p.2) (k.0, k.1)
@@ -68,7 +69,7 @@ pub returns : goal.returns
 returns c =
     let is-operator = c.is_operator in
     let unary-checked = c.unary_checked in
-    unary_passed c.args.page.now c.args.names.now c.args.lent c.args.op c.args.x
+    unary_passed c.args.page.now (option_copied c.args.names) c.args.op c.args.x
     (sym is-operator.ensures ∙ c.if-not-is_operator.false) (c.opened.ensures.0 ∙ ap not c.if-not-opened.false)
     (sym c.in_ok-operands_verdict.was ∙ rw c.in_use-n.ensures.0 at (rw c.store-store.ensures.0 at c.operands_verdict.ensures)) unary-checked.ensures.value
     unary-checked.ensures.page_after

@@ -11,10 +11,10 @@ decreases-check_binary_any l = 2 * (l.l + l.r)
 abbrev pub decreases-check_binary_operator : goal.decreases-check_binary_operator
 decreases-check_binary_operator l = 2 * (l.l + l.r) + 1
 
-abbrev pub invariant-check_binary_any-loop-j : goal.invariant-check_binary_any-loop-j
-invariant-check_binary_any-loop-j l =
-    Taken l.store.page.now l.l l.i l.x l.p × (l.tally ≡ tally_of (row l.store.page.now l.op l.clash l.l l.r l.i l.j)) × (l.tally.failing ≤ members_max * l.i + l.j)
+abbrev pub invariant-check_binary_any-loop-y : goal.invariant-check_binary_any-loop-y
+invariant-check_binary_any-loop-y l =
+    Taken l.leafed.store.page.now l.l l.x-index l.x l.p × (l.tally ≡ tally_of (row l.leafed.store.page.now l.op l.clash l.l l.r l.x-index l.y-index)) × (l.tally.failing ≤ members_max * l.x-index + l.y-index)
 
-abbrev pub invariant-check_binary_any-loop-i : goal.invariant-check_binary_any-loop-i
-invariant-check_binary_any-loop-i l =
-    (l.tally ≡ tally_of (rows l.store.page.now l.op l.clash l.l l.r l.i)) × (l.tally.failing ≤ members_max * l.i)
+abbrev pub invariant-check_binary_any-loop-x : goal.invariant-check_binary_any-loop-x
+invariant-check_binary_any-loop-x l =
+    (l.tally ≡ tally_of (rows l.leafed.store.page.now l.op l.clash l.l l.r l.x-index)) × (l.tally.failing ≤ members_max * l.x-index)

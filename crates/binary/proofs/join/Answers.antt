@@ -1,18 +1,17 @@
-use Rattle.std.proofs.Common.{rules, sym, ◌∙◌}
-use Rattle.binary.proofs.Tallies.{fails_first, fails_again, passes_on}
+use Rattle.std.proofs.Common.{rules, sym}
+use Rattle.std.proofs.lemmas.Option.{cond_some}
+use Rattle.pages.proofs.Options.{none_cond}
+use Rattle.operators.specs.Outcome.{number_of}
+use Rattle.binary.proofs.Tallies.{fails_on, passes_on}
 use Rattle.binary.proofs.join.Goals as goal
 
-pub returns-then-tally-eq0 : goal.returns-then-tally-eq0
-returns-then-tally-eq0 c =
+pub returns-in-Some : goal.returns-in-Some
+returns-in-Some c =
     let a = c.args in
-    ((λ q e. fails_first a.x a.y a.o a.tally q e (sym c.does_pass.ensures ∙ c.if-not-does_pass.true) c.if-tally-eq0.true), search rules)
+    let t = cond_some _ (number_of a.o.checked) c.in-Some.t (sym c.in-Some.ensures) in
+    ((λ q e. rw (c.or.ensures, ← t.1) (passes_on a.x a.y a.o a.tally q e t.0)), search rules)
 
-pub returns-then-not-does_pass : goal.returns-then-not-does_pass
-returns-then-not-does_pass c =
+pub returns-in-None : goal.returns-in-None
+returns-in-None c =
     let a = c.args in
-    ((λ q e. fails_again a.x a.y a.o a.tally q e (sym c.does_pass.ensures ∙ c.if-not-does_pass.true) c.if-tally-eq0.false), search rules)
-
-pub returns : goal.returns
-returns c =
-    let a = c.args in
-    ((λ q e. rw (c.or.ensures, c.number_of.ensures) (passes_on a.x a.y a.o a.tally q e (sym c.does_pass.ensures ∙ c.if-not-does_pass.false))), search rules)
+    ((λ q e. rw c.or-in-None.ensures (fails_on a.x a.y a.o a.tally q e (none_cond _ (number_of a.o.checked) c.in-None.ensures))), search rules)

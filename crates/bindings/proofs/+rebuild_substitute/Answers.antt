@@ -1,3 +1,5 @@
+use Rattle.bindings.specs.Bindings.{is_bound, bound_to}
+use Rattle.pages.proofs.Options.{cond_or}
 use Rattle.std.proofs.lemmas.Result.{err_from_is_err_and}
 use mathlib.Core.Path.{sym, ◌∙◌}
 use native.Mathlib.Omega.{arith}
@@ -74,7 +76,7 @@ pub substitute-returns-then-kind-eq-GENERIC-clause-value : goal.substitute-retur
 substitute-returns-then-kind-eq-GENERIC-clause-value t c =
     let a = c.args in
     (done_generic a.bindings a.page.now _ _ _ a.t c.requires c.kind_of-kind.result (rw c.store-store.ensures.0 at c.kind_of-kind.ensures) c.name_of.result
-    c.bound_or.result c.if-kind-eq-GENERIC.true (rw c.store-store.ensures.0 at c.name_of.ensures) c.bound_or.ensures).0
+    c.unwrap_or.result c.if-kind-eq-GENERIC.true (rw c.store-store.ensures.0 at c.name_of.ensures) (c.unwrap_or.ensures ∙ rw c.bound_to.ensures (cond_or (is_bound a.bindings c.name_of.result) (bound_to a.bindings c.name_of.result) a.t))).0
 
 pub substitute-returns-then-not-is_entered-clause-value : goal.substitute-returns-then-not-is_entered-clause-value
 substitute-returns-then-not-is_entered-clause-value t c =

@@ -1,3 +1,4 @@
+use Rattle.std.specs.Prelude.{option_copied}
 use mathlib.Core.Path.{◌≡◌, sym, ap, ◌∙◌}
 use mathlib.Core.List.{[], ◌∷◌}
 use Rattle.values.specs.Value.{none_count}
@@ -10,23 +11,26 @@ use Rattle.calls.proofs.riddlepoppy_check_index.Goals as goal
 pub written_down-requires : goal.written_down-requires
 written_down-requires c =
     let a = c.args in
+    let names = option_copied c.lent_names-names.result in
     let e = rw c.checked_of.ensures at c.check_index-answer.ensures in
-    rw e.0 (index_few a.page.now a.names.now a.lent c.operand_of-x.result (checked_of a.key))
+    rw e.0 (index_few a.page.now names c.operand_of-x.result (checked_of a.key))
 
 pub returns-clause-value : goal.returns-clause-value
 returns-clause-value c =
     let a = c.args in
+    let names = option_copied c.lent_names-names.result in
     let u = units_read a.unit.now (none_count ∷ []) _ (sym c.units_in.ensures ∙ c.in-Some.is) in
     let x : c.operand_of-x.result ≡ operand_of a.target a.unit.now = c.operand_of-x.ensures ∙ ap (λ p. record { checked = checked_of a.target; unit = p.0 }) u.1 in
     let e = rw (x, c.checked_of.ensures) at c.check_index-answer.ensures in
-    let f = e.0 ∙ (index_alike a.page.now a.names.now a.lent a.target a.unit.now a.key u.0).0 in
+    let f = e.0 ∙ (index_alike a.page.now names a.target a.unit.now a.key u.0).0 in
     let w = c.written_down.ensures in
-    (w.0 ∙ ap answered_code f, w.1 ∙ ap (λ y. out_after_answer y a.out.now) f)
+    rw (← c.lent_names-names.ensures) ((w.0 ∙ ap answered_code f, w.1 ∙ ap (λ y. out_after_answer y a.out.now) f))
 
 pub returns-clause-page_after : goal.returns-clause-page_after
 returns-clause-page_after c =
     let a = c.args in
+    let names = option_copied c.lent_names-names.result in
     let u = units_read a.unit.now (none_count ∷ []) _ (sym c.units_in.ensures ∙ c.in-Some.is) in
     let x : c.operand_of-x.result ≡ operand_of a.target a.unit.now = c.operand_of-x.ensures ∙ ap (λ p. record { checked = checked_of a.target; unit = p.0 }) u.1 in
     let e = rw (x, c.checked_of.ensures) at c.check_index-answer.ensures in
-    e.1 ∙ (index_alike a.page.now a.names.now a.lent a.target a.unit.now a.key u.0).1
+    rw (← c.lent_names-names.ensures) (e.1 ∙ (index_alike a.page.now names a.target a.unit.now a.key u.0).1)

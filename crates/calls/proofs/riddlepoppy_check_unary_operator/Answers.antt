@@ -1,3 +1,4 @@
+use Rattle.std.specs.Prelude.{option_copied}
 use mathlib.Core.Path.{◌≡◌, sym, ap, ◌∙◌}
 use Rattle.calls.specs.Types.{checked_of}
 use Rattle.calls.specs.Answers.{operand_of, answered_code, out_after_answer}
@@ -8,22 +9,25 @@ use Rattle.calls.proofs.riddlepoppy_check_unary_operator.Goals as goal
 pub written_down-requires : goal.written_down-requires
 written_down-requires c =
     let a = c.args in
-    rw c.check_unary_operator-answer.ensures.0 (unary_few a.page.now a.names.now a.lent a.op c.operand_of-x.result)
+    let names = option_copied c.lent_names-names.result in
+    rw c.check_unary_operator-answer.ensures.0 (unary_few a.page.now names a.op c.operand_of-x.result)
 
 pub returns-clause-value : goal.returns-clause-value
 returns-clause-value c =
     let a = c.args in
+    let names = option_copied c.lent_names-names.result in
     let u = units_read a.unit.now a.unit.now _ (sym c.units_in.ensures ∙ c.in-Some.is) in
     let x : c.operand_of-x.result ≡ operand_of a.operand a.unit.now = c.operand_of-x.ensures ∙ ap (λ p. record { checked = checked_of a.operand; unit = p.0 }) u.1 in
     let e = rw x at c.check_unary_operator-answer.ensures in
-    let f = e.0 ∙ (unary_alike a.page.now a.names.now a.lent a.op a.operand a.unit.now u.0).0 in
+    let f = e.0 ∙ (unary_alike a.page.now names a.op a.operand a.unit.now u.0).0 in
     let w = c.written_down.ensures in
-    (w.0 ∙ ap answered_code f, w.1 ∙ ap (λ y. out_after_answer y a.out.now) f)
+    rw (← c.lent_names-names.ensures) ((w.0 ∙ ap answered_code f, w.1 ∙ ap (λ y. out_after_answer y a.out.now) f))
 
 pub returns-clause-page_after : goal.returns-clause-page_after
 returns-clause-page_after c =
     let a = c.args in
+    let names = option_copied c.lent_names-names.result in
     let u = units_read a.unit.now a.unit.now _ (sym c.units_in.ensures ∙ c.in-Some.is) in
     let x : c.operand_of-x.result ≡ operand_of a.operand a.unit.now = c.operand_of-x.ensures ∙ ap (λ p. record { checked = checked_of a.operand; unit = p.0 }) u.1 in
     let e = rw x at c.check_unary_operator-answer.ensures in
-    e.1 ∙ (unary_alike a.page.now a.names.now a.lent a.op a.operand a.unit.now u.0).1
+    rw (← c.lent_names-names.ensures) (e.1 ∙ (unary_alike a.page.now names a.op a.operand a.unit.now u.0).1)

@@ -1,3 +1,4 @@
+use Rattle.std.specs.Prelude.{option_copied}
 use mathlib.Core.Path.{◌≡◌, ap, ◌∙◌}
 use Rattle.unification.specs.declared.Unified.{Unified}
 use Rattle.calls.specs.Codes.{answer_code}
@@ -11,9 +12,10 @@ written_back-requires c =
     let checked-of = c.checked_of-c in
     let unify-arg = c.unify_arg-result in
     let a = c.args in
+    let names = option_copied c.lent_names-names.result in
     let b = bindings-in.ensures in
     let u = unify-arg.result in
-    unify_arg_few a.page.now a.names.now a.lent bindings-in.result b.1 b.2 b.3 a.expected u checked-of.result unify-arg.ensures
+    unify_arg_few a.page.now names bindings-in.result b.1 b.2 b.3 a.expected u checked-of.result unify-arg.ensures
 
 pub returns : goal.returns
 returns c =
@@ -21,8 +23,9 @@ returns c =
     let checked-of = c.checked_of-c in
     let unify-arg = c.unify_arg-result in
     let a = c.args in
-    let u : unify-arg.result ≡ unify_arg_in a.page.now a.names.now a.lent a.bindings.now a.expected a.actual =
-    rw (bindings-in.ensures.0, checked-of.ensures) at unify-arg.ensures in (
+    let names = option_copied c.lent_names-names.result in
+    let u : unify-arg.result ≡ unify_arg_in a.page.now names a.bindings.now a.expected a.actual =
+    rw (bindings-in.ensures.0, checked-of.ensures) at unify-arg.ensures in rw (← c.lent_names-names.ensures) (
       c.written_back.ensures.0 ∙ ap (λ (r : Unified). answer_code r.answer) u,
       c.written_back.ensures.1 ∙ ap (λ (r : Unified). bindings_after r.answer r.bindings a.bindings.now) u,
     )

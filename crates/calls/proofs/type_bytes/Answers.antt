@@ -1,7 +1,9 @@
+use Rattle.std.specs.Prelude.{unwrap_or}
 use mathlib.Core.Path.{◌≡◌, sym, ap, ◌∙◌}
 use native.Mathlib.Omega.{arith}
 use lib.ListN.{length, take}
 use lib.Seq.{length-take-le}
+use Rattle.pages.specs.declared.Padded.{Padded}
 use Rattle.pages.proofs.Pad.{length_pad}
 use Rattle.kinds.specs.Kinds.{children_max}
 use Rattle.types.specs.Making.{entry_of, entry_max}
@@ -32,7 +34,7 @@ put_bytes-requires-2 c =
     let made = c.entry_of-entry in
     let put-bytes = c.put_bytes in
     let s = c.args.shape in
-    let n = ap length made.ensures.0 ∙ length_pad entry_max 0 (entry_of s.kind (take s.count s.children) s.name) in
+    let n = ap (λ (v : Padded entry_max). length v.bytes) made.ensures.0 ∙ length_pad entry_max 0 (entry_of s.kind (take s.count s.children) c.unwrap_or.result) in
     omega (arith, n, put-bytes.auto.page)
 
 pub returns : goal.returns
@@ -43,4 +45,4 @@ returns c =
     let put-bytes2 = c.put_bytes-2 in
     let s = c.args.shape in
     put-bytes2.ensures ∙ rw put-bytes.ensures
-    (type_made s.depth (entry_of s.kind (take s.count s.children) s.name) made.result.bytes made.ensures.0)
+    (type_made s.depth (entry_of s.kind (take s.count s.children) (unwrap_or s.name 0)) made.result.bytes (rw c.unwrap_or.ensures at (ap (λ (v : Padded entry_max). v.bytes) made.ensures.0)))

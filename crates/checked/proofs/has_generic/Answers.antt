@@ -1,3 +1,4 @@
+use Rattle.std.specs.Prelude.{option_copied}
 use mathlib.Core.Path.{◌∙◌, ap}
 use mathlib.Core.Bool.{not}
 use Rattle.checked.proofs.Calls.{generic_broken, generic_unused, generic_says}
@@ -7,7 +8,7 @@ pub returns-then-not-opened : goal.returns-then-not-opened
 returns-then-not-opened c =
     let opened = c.opened in
     let a = c.args in
-    generic_broken a.page.now a.names.now a.lent a.t
+    generic_broken a.page.now (option_copied a.names) a.t
     (opened.ensures.0 ∙ ap not c.if-not-opened.true)
 
 pub returns-then-count-t : goal.returns-then-count-t
@@ -17,7 +18,7 @@ returns-then-count-t c =
     let count = c.count in
     let a = c.args in
     let b = opened.ensures.0 ∙ ap not if1.false in
-    generic_unused a.page.now a.names.now a.lent a.t b (rw (rw c.store-store.ensures.0 at count.ensures) at c.if-count-t.true)
+    generic_unused a.page.now (option_copied a.names) a.t b (rw (rw c.store-store.ensures.0 at count.ensures) at c.if-count-t.true)
 
 pub returns : goal.returns
 returns c =
@@ -28,5 +29,5 @@ returns c =
     let has-generic = c.has_generic in
     let a = c.args in
     let b = opened.ensures.0 ∙ ap not if1.false in
-    generic_says a.page.now a.names.now a.lent a.t b (rw (rw c.store-store.ensures.0 at count.ensures) at if2.false)
+    generic_says a.page.now (option_copied a.names) a.t b (rw (rw c.store-store.ensures.0 at count.ensures) at if2.false)
     has-generic.result (rw c.store-store.ensures.0 at has-generic.ensures)

@@ -1,3 +1,4 @@
+use Rattle.std.specs.Prelude.{option_copied}
 use mathlib.Core.Path.{sym, ◌∙◌, ap}
 use mathlib.Core.Bool.{not}
 use Rattle.checked.proofs.Calls.{const_broken, const_unused, const_unknown, const_function, const_known, known_used}
@@ -9,7 +10,7 @@ returns-then-not-opened c =
     let if1 = c.if-not-opened in
     let a = c.args in
     let z =
-    const_broken a.page.now a.names.now a.lent a.c
+    const_broken a.page.now (option_copied a.names) a.c
     (opened.ensures.0 ∙ ap not if1.true) in
     z
 
@@ -22,7 +23,7 @@ returns-then-not-is_used c =
     let a = c.args in
     let b = opened.ensures.0 ∙ ap not if1.false in
     let z =
-    const_unused a.page.now a.names.now a.lent a.c b
+    const_unused a.page.now (option_copied a.names) a.c b
     (sym (rw c.store.ensures.0 at is-used.ensures) ∙ if2.true) in
     z
 
@@ -47,7 +48,7 @@ returns-in-Unknown c =
     let a = c.args in
     let b = opened.ensures.0 ∙ ap not if1.false in
     let u = sym (rw c.store.ensures.0 at is-used.ensures) ∙ if2.false in
-    let z = const_unknown a.page.now a.names.now a.lent a.c b u c.in-Unknown.is in
+    let z = const_unknown a.page.now (option_copied a.names) a.c b u c.in-Unknown.is in
     z
 
 pub returns-in-Function : goal.returns-in-Function
@@ -59,7 +60,7 @@ returns-in-Function c =
     let a = c.args in
     let b = opened.ensures.0 ∙ ap not if1.false in
     let u = sym (rw c.store.ensures.0 at is-used.ensures) ∙ if2.false in
-    let z = const_function a.page.now a.names.now a.lent a.c b u _ c.in-Function.is in
+    let z = const_function a.page.now (option_copied a.names) a.c b u _ c.in-Function.is in
     z
 
 pub returns-in-Known : goal.returns-in-Known
@@ -73,6 +74,6 @@ returns-in-Known c =
     let b = opened.ensures.0 ∙ ap not if1.false in
     let u = sym (rw c.store.ensures.0 at is-used.ensures) ∙ if2.false in
     let z =
-    const_known a.page.now a.names.now a.lent a.c b u _ c.in-Known.is const-form.result _
+    const_known a.page.now (option_copied a.names) a.c b u _ c.in-Known.is const-form.result _
     const-form.ensures.0 const-form.ensures.1 in
     (c.of_made.ensures ∙ z.0, z.1)

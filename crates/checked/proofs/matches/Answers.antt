@@ -1,3 +1,4 @@
+use Rattle.std.specs.Prelude.{option_copied}
 use mathlib.Core.Path.{sym, ◌∙◌, ap}
 use mathlib.Core.Bool.{not}
 use Rattle.checked.proofs.Calls.{matches_broken, matches_left, matches_right, matches_says}
@@ -7,7 +8,7 @@ pub returns-then-not-opened : goal.returns-then-not-opened
 returns-then-not-opened c =
     let opened = c.opened in
     let a = c.args in
-    matches_broken a.page.now a.names.now a.lent a.actual a.expected
+    matches_broken a.page.now (option_copied a.names) a.actual a.expected
     (opened.ensures.0 ∙ ap not c.if-not-opened.true)
 
 pub returns-then-not-is_used : goal.returns-then-not-is_used
@@ -17,7 +18,7 @@ returns-then-not-is_used c =
     let is-used = c.is_used in
     let a = c.args in
     let b = opened.ensures.0 ∙ ap not if1.false in
-    matches_left a.page.now a.names.now a.lent a.actual a.expected b
+    matches_left a.page.now (option_copied a.names) a.actual a.expected b
     (sym (rw c.store-store.ensures.0 at is-used.ensures) ∙ c.if-not-is_used.true)
 
 pub returns-then-not-is_used-2 : goal.returns-then-not-is_used-2
@@ -27,7 +28,7 @@ returns-then-not-is_used-2 c =
     let is-used2 = c.is_used-2 in
     let a = c.args in
     let b = opened.ensures.0 ∙ ap not if1.false in
-    matches_right a.page.now a.names.now a.lent a.actual a.expected b
+    matches_right a.page.now (option_copied a.names) a.actual a.expected b
     (sym (rw c.store-store.ensures.0 at is-used2.ensures) ∙ c.if-not-is_used-2.true)
 
 pub matches_in-requires : goal.matches_in-requires
@@ -55,5 +56,5 @@ returns c =
     let b = opened.ensures.0 ∙ ap not if1.false in
     let u = sym (rw c.store-store.ensures.0 at is-used.ensures) ∙ if2.false in
     let v = sym (rw c.store-store.ensures.0 at is-used2.ensures) ∙ if3.false in
-    matches_says a.page.now a.names.now a.lent a.actual a.expected b u v matches-in.result
+    matches_says a.page.now (option_copied a.names) a.actual a.expected b u v matches-in.result
     (rw c.store-store.ensures.0 at matches-in.ensures)

@@ -1,3 +1,4 @@
+use Rattle.std.specs.Prelude.{option_copied}
 use mathlib.Core.Path.{◌≡◌, sym, ◌∙◌, ap}
 use mathlib.Core.Bool.{true, not}
 use Rattle.names.specs.Calls.{used_of}
@@ -13,7 +14,7 @@ returns-then-not-opened c =
     let opened = c.opened in
     let if1 = c.if-not-opened in
     let a = c.args in
-    c.refuse.ensures ∙ unify_broken a.page.now a.names.now a.lent a.bound a.e a.actual
+    c.refuse.ensures ∙ unify_broken a.page.now (option_copied a.names) a.bound a.e a.actual
     (opened.ensures.0 ∙ ap not if1.true)
 
 pub in_use-requires : goal.in_use-requires
@@ -22,9 +23,9 @@ in_use-requires c =
     let if1 = c.if-not-opened in
     let a = c.args in
     let page = a.page.now in
-    let names = a.names.now in
+    let names = option_copied a.names in
     let b = opened.ensures.0 ∙ ap not if1.false in
-    (unbroken_both page names a.lent b).0
+    (unbroken_both page names b).0
 
 pub returns-then-not-is_formed : goal.returns-then-not-is_formed
 returns-then-not-is_formed c =
@@ -36,9 +37,9 @@ returns-then-not-is_formed c =
     let if2 = c.if-not-is_formed in
     let a = c.args in
     let page = a.page.now in
-    let names = a.names.now in
+    let names = option_copied a.names in
     let b = opened.ensures.0 ∙ ap not if1.false in
-    c.refuse-then-not-is_formed.ensures ∙ unify_unformed page names a.lent a.bound a.e a.actual b
+    c.refuse-then-not-is_formed.ensures ∙ unify_unformed page names a.bound a.e a.actual b
     (rw (← in_use.ensures.0, ← (rw c.store-store.ensures.0 at count.ensures)) (sym is-formed.ensures ∙ if2.true))
 
 pub returns-then-n-e : goal.returns-then-n-e
@@ -52,11 +53,11 @@ returns-then-n-e c =
     let if3 = c.if-n-e in
     let a = c.args in
     let page = a.page.now in
-    let names = a.names.now in
+    let names = option_copied a.names in
     let b = opened.ensures.0 ∙ ap not if1.false in
-    let k : formed (used_of names a.lent) (types_in page) a.bound ≡ true =
+    let k : formed (used_of names) (types_in page) a.bound ≡ true =
     rw (← in_use.ensures.0, ← (rw c.store-store.ensures.0 at count.ensures)) (sym is-formed.ensures ∙ if2.false) in
-    c.refuse-then-n-e.ensures ∙ unify_unused page names a.lent a.bound a.e a.actual b k (rw (rw c.store-store.ensures.0 at count.ensures) at if3.true)
+    c.refuse-then-n-e.ensures ∙ unify_unused page names a.bound a.e a.actual b k (rw (rw c.store-store.ensures.0 at count.ensures) at if3.true)
 
 pub returns-then-not-is_used : goal.returns-then-not-is_used
 returns-then-not-is_used c =
@@ -70,11 +71,11 @@ returns-then-not-is_used c =
     let if4 = c.if-not-is_used in
     let a = c.args in
     let page = a.page.now in
-    let names = a.names.now in
+    let names = option_copied a.names in
     let b = opened.ensures.0 ∙ ap not if1.false in
-    let k : formed (used_of names a.lent) (types_in page) a.bound ≡ true =
+    let k : formed (used_of names) (types_in page) a.bound ≡ true =
     rw (← in_use.ensures.0, ← (rw c.store-store.ensures.0 at count.ensures)) (sym is-formed.ensures ∙ if2.false) in
-    c.refuse-then-not-is_used.ensures ∙ unify_unused_actual page names a.lent a.bound a.e a.actual b k
+    c.refuse-then-not-is_used.ensures ∙ unify_unused_actual page names a.bound a.e a.actual b k
     (sym (rw c.store-store.ensures.0 at is-used.ensures) ∙ if4.true)
 
 pub unify_in-out-requires : goal.unify_in-out-requires
@@ -90,12 +91,12 @@ unify_in-out-requires c =
     let if4 = c.if-not-is_used in
     let a = c.args in
     let page = a.page.now in
-    let names = a.names.now in
+    let names = option_copied a.names in
     let b = opened.ensures.0 ∙ ap not if1.false in
-    let k : formed (used_of names a.lent) (types_in page) a.bound ≡ true =
+    let k : formed (used_of names) (types_in page) a.bound ≡ true =
     rw (← in_use.ensures.0, ← (rw c.store-store.ensures.0 at count.ensures)) (sym is-formed.ensures ∙ if2.false) in
     let l = rw (rw c.store-store.ensures.0 at count.ensures) at if3.false in
-    let u = sym (rw c.store-store.ensures.0 at is-used.ensures) ∙ if4.false in record { e_bound = rw c.store-store.ensures.0 (l, u); usable = rw c.store-store.ensures.0 (usable (used_of names a.lent) (types_in page) a.bound k) }
+    let u = sym (rw c.store-store.ensures.0 at is-used.ensures) ∙ if4.false in record { e_bound = rw c.store-store.ensures.0 (l, u); usable = rw c.store-store.ensures.0 (usable (used_of names) (types_in page) a.bound k) }
 
 pub returns : goal.returns
 returns c =
@@ -111,11 +112,11 @@ returns c =
     let unify-in = c.unify_in-out in
     let a = c.args in
     let page = a.page.now in
-    let names = a.names.now in
+    let names = option_copied a.names in
     let b = opened.ensures.0 ∙ ap not if1.false in
-    let k : formed (used_of names a.lent) (types_in page) a.bound ≡ true =
+    let k : formed (used_of names) (types_in page) a.bound ≡ true =
     rw (← in_use.ensures.0, ← (rw c.store-store.ensures.0 at count.ensures)) (sym is-formed.ensures ∙ if2.false) in
     let l = rw (rw c.store-store.ensures.0 at count.ensures) at if3.false in
     let u = sym (rw c.store-store.ensures.0 at is-used.ensures) ∙ if4.false in
-    c.kept_by.ensures ∙ unify_says page names a.lent a.bound a.e a.actual b k l u unify-in.result
+    c.kept_by.ensures ∙ unify_says page names a.bound a.e a.actual b k l u unify-in.result
     (rw c.store-store.ensures.0 at unify-in.ensures)

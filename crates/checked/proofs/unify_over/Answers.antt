@@ -1,15 +1,13 @@
-use Rattle.std.proofs.Common.{arith}
+use borrow.Author.Rules.{rules}
+use Rattle.types.specs.Types.{types_in}
 use Rattle.marks.proofs.Marks.{noted_none}
+use Rattle.unification.specs.Unification.{Given}
 use Rattle.checked.proofs.unify_over.Goals as goal
 
-pub whole_as_slice-unify_arg : goal.whole_as_slice-unify_arg
-whole_as_slice-unify_arg g c = omega (arith, c.requires.m_bound.0)
+pub invariant_of-unifier : goal.invariant_of-unifier
+invariant_of-unifier g c = record { noted = ∣ noted_none _ g.row.M ∣₁ }
 
-pub whole_as_slice-unify_arg-2 : goal.whole_as_slice-unify_arg-2
-whole_as_slice-unify_arg-2 g c = omega (arith, c.requires.m_bound.1)
-
-pub unify_arg-requires-clause-noted : goal.unify_arg-requires-clause-noted
-unify_arg-requires-clause-noted g c = noted_none _ g.row.M
-
-pub unify_arg-requires-clause-noted_2 : goal.unify_arg-requires-clause-noted_2
-unify_arg-requires-clause-noted_2 g c = noted_none _ g.row.N
+pub invariant_of-unifier-2 : goal.invariant_of-unifier-2
+invariant_of-unifier-2 g c =
+    let given : Given c.args.bound (types_in c.args.store.page.now) = record { usable = c.requires.usable; names = search rules; types = search rules } in
+    record { given = ∣ given ∣₁; settled = ∣ noted_none _ g.row.N ∣₁ }

@@ -1,4 +1,7 @@
-use mathlib.Core.Path.{sym, ◌∙◌}
+use mathlib.Core.Path.{ap, sym, ◌∙◌}
+use borrow.Author.Rules.{rules}
+use Rattle.types.specs.declared.Store.{Store}
+use Rattle.indexing.proofs.Trying.{noted_end}
 use Rattle.matching.proofs.Matching.{known_in_use}
 use Rattle.indexing.proofs.Indexing.{index_unknown, index_function, index_union, index_other}
 use Rattle.indexing.proofs.check_index.Goals as goal
@@ -30,7 +33,7 @@ check_index_target-requires c =
     let a = c.args in
     let pre = c.requires in
     let t = c.in-Known.is in
-    rw c.store-in-Known.ensures.0 record { t_bound = (known_in_use a.page.now _ (rw t at pre.target_value.0), pre.target_value.1); noted = pre.noted }
+    rw c.store-in-Known.ensures.0 (known_in_use a.page.now _ (rw t at pre.target_value.0), pre.target_value.1)
 
 pub returns-in-Unknown : goal.returns-in-Unknown
 returns-in-Unknown c =
@@ -51,5 +54,6 @@ returns-else-is_union c =
     let t = c.in-Known.is in
     let u = rw (c.kind_of.ensures, c.store.ensures.0) at (sym c.is_union.ensures ∙ c.if-is_union.false) in
     let index = c.check_index_target in
-    let e = rw c.store-in-Known.ensures.0 at index.ensures in
-    record { page_after = rw (t, e.value.0) (index_other a.page.now a.key _ u); measured_2 = pre.measured; noted_2 = e.noted_2 }
+    let e = rw c.store-in-Known.ensures.0 at index.ensures.value.0 in
+    let noted = noted_end index.new.matcher a.page.now (ap (λ (s : Store). s.page.now) index.ensures.same.0 ∙ c.store-in-Known.ensures.0) _ (search rules) in
+    record { page_after = rw (t, e) (index_other a.page.now a.key _ u); measured_2 = pre.measured; noted_2 = noted }

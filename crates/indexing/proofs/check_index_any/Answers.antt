@@ -1,44 +1,61 @@
+use mathlib.Core.Path.{ap, ◌∙◌}
 use native.Mathlib.Omega.{arith}
-use Rattle.indexing.proofs.Trying.{some_failed, no_results, some_results, results_used, union_noted}
+use borrow.Author.Rules.{rules}
+use Rattle.types.specs.declared.Store.{Store}
+use Rattle.indexing.proofs.Trying.{some_failed, none_failed, no_results, some_results, results_used, noted_end, union_noted}
 use Rattle.indexing.proofs.check_index_any.Goals as goal
 
-pub returns-then-trials-ne0 : goal.returns-then-trials-ne0
-returns-then-trials-ne0 c =
+pub returns-in-Some-clause-page_after : goal.returns-in-Some-clause-page_after
+returns-in-Some-clause-page_after c =
     let tried = c.try_members-trials in
     let a = c.args in
-    let pre = c.requires in
-    let some = some_failed a.page.now a.key a.t _ tried.result (rw c.store.ensures.0 at tried.ensures.result_after) c.if-trials-ne0.true in
-    record { page_after = rw (c.unknown.ensures, c.some_fail.ensures) some; measured_2 = pre.measured; noted_2 = (rw c.store.ensures.0 at tried.ensures.results_len.2) }
+    let some = some_failed a.page.now a.key a.t _ tried.result (rw c.store.ensures.0 at tried.ensures.result_after) c.in-Some.first c.in-Some.is tried.ensures.first in
+    rw (c.unknown.ensures, c.some_fail.ensures) some
 
-pub returns-then-trials-eq0 : goal.returns-then-trials-eq0
-returns-then-trials-eq0 c =
+pub returns-in-Some-clause-noted_2 : goal.returns-in-Some-clause-noted_2
+returns-in-Some-clause-noted_2 c =
+    let tried = c.try_members-trials in
+    noted_end tried.new.matcher c.args.page.now (ap (λ (s : Store). s.page.now) tried.ensures.same.0 ∙ c.store.ensures.0) _ (search rules)
+
+pub returns-then-trials-eq0-clause-page_after : goal.returns-then-trials-eq0-clause-page_after
+returns-then-trials-eq0-clause-page_after c =
     let tried = c.try_members-trials in
     let a = c.args in
-    let pre = c.requires in
-    let none =
-    no_results a.page.now a.key a.t _ tried.result (rw c.store.ensures.0 at tried.ensures.result_after) c.if-trials-ne0.false (omega (arith, tried.ensures.results_len.0, tried.ensures.results_len.1))
-    c.if-trials-eq0.true in
-    record { page_after = rw c.unknown-then-trials-eq0.ensures none; measured_2 = pre.measured; noted_2 = (rw c.store.ensures.0 at tried.ensures.results_len.2) }
+    let e = rw c.store.ensures.0 at tried.ensures.result_after in
+    let z = none_failed a.page.now a.key a.t _ tried.result e c.in_default.not-Some tried.ensures.first in
+    let none = no_results a.page.now a.key a.t _ tried.result e z (omega (arith, tried.ensures.results_len.0, tried.ensures.results_len.1)) c.if-trials-eq0.true in
+    rw c.unknown-then-trials-eq0.ensures none
 
-pub enter_union-requires : goal.enter_union-requires
-enter_union-requires c =
+pub returns-then-trials-eq0-clause-noted_2 : goal.returns-then-trials-eq0-clause-noted_2
+returns-then-trials-eq0-clause-noted_2 c =
+    let tried = c.try_members-trials in
+    noted_end tried.new.matcher c.args.page.now (ap (λ (s : Store). s.page.now) tried.ensures.same.0 ∙ c.store.ensures.0) _ (search rules)
+
+pub enter_union-requires-clause-n_nonzero : goal.enter_union-requires-clause-n_nonzero
+enter_union-requires-clause-n_nonzero c =
     let tried = c.try_members-trials in
     let a = c.args in
     let pre = c.requires in
     let used = results_used a.page.now a.key a.t _ tried.result (rw c.store.ensures.0 at tried.ensures.result_after) pre.measured.held.sound pre.t_bound.0 in
-    record { measured = pre.measured; n_nonzero = (omega (arith, c.if-trials-eq0.false), omega (arith, tried.ensures.results_len.0, tried.ensures.results_len.1), used) }
+    (omega (arith, c.if-trials-eq0.false), omega (arith, tried.ensures.results_len.0, tried.ensures.results_len.1), used)
 
-pub returns : goal.returns
-returns c =
+pub returns-clause-page_after : goal.returns-clause-page_after
+returns-clause-page_after c =
     let tried = c.try_members-trials in
     let a = c.args in
     let union = c.enter_union in
-    let some =
-    some_results a.page.now a.key a.t _ tried.result (rw c.store.ensures.0 at tried.ensures.result_after) c.if-trials-ne0.false (omega (arith, tried.ensures.results_len.0, tried.ensures.results_len.1))
+    let e = rw c.store.ensures.0 at tried.ensures.result_after in
+    let z = none_failed a.page.now a.key a.t _ tried.result e c.in_default.not-Some tried.ensures.first in
+    let some = some_results a.page.now a.key a.t _ tried.result e z (omega (arith, tried.ensures.results_len.0, tried.ensures.results_len.1))
     c.if-trials-eq0.false union.result _ union.ensures.page_after in
-    let pre = c.requires in
-    let form = pre.measured.held.sound in
-    let used = results_used a.page.now a.key a.t _ tried.result (rw c.store.ensures.0 at tried.ensures.result_after) form pre.t_bound.0 in
-    let noted =
-    union_noted a.page.now form _ used union.result _ union.ensures.page_after union.ensures.measured_2.held.sound _ (rw c.store.ensures.0 at tried.ensures.results_len.2) in
-    record { page_after = rw c.conclusion_of.ensures some; measured_2 = union.ensures.measured_2; noted_2 = noted }
+    rw c.conclusion_of.ensures some
+
+pub returns-clause-noted_2 : goal.returns-clause-noted_2
+returns-clause-noted_2 c =
+    let tried = c.try_members-trials in
+    let a = c.args in
+    let union = c.enter_union in
+    let form = c.requires.measured.held.sound in
+    let used = results_used a.page.now a.key a.t _ tried.result (rw c.store.ensures.0 at tried.ensures.result_after) form c.requires.t_bound.0 in
+    let noted = noted_end tried.new.matcher a.page.now (ap (λ (s : Store). s.page.now) tried.ensures.same.0 ∙ c.store.ensures.0) _ (search rules) in
+    union_noted a.page.now form _ used union.result _ union.ensures.page_after union.ensures.measured_2.held.sound _ noted

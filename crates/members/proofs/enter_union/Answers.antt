@@ -27,23 +27,20 @@ returns-then-n-gt-CHILDREN c =
 
 pub enter_type-requires : goal.enter_type-requires
 enter_type-requires c =
-    let if2 = c.if-n-gt-CHILDREN in
     let a = c.args in
     let pre = c.requires in
     let ts = take a.n a.types.now in
-    let few : length ts ≤ children_max = omega (arith, length-take-le a.n a.types.now pre.n_nonzero.1, if2.false) in
+    let few : length ts ≤ children_max = omega (arith, length-take-le a.n a.types.now pre.n_nonzero.1, c.if-n-gt-CHILDREN.false) in
     record { children_len_bound = few; ready = union_ready a.page.now a.tables.now.offsets a.tables.now.depths ts pre.measured pre.n_nonzero.2 few }
 
 pub returns : goal.returns
 returns c =
-    let if1 = c.if-n-eq1 in
-    let if2 = c.if-n-gt-CHILDREN in
     let a = c.args in
     let pre = c.requires in
     let n = length-take-le a.n a.types.now pre.n_nonzero.1 in
     let ts = take a.n a.types.now in
     let e = c.enter_type.ensures in record {
       page_after = ap₂ (λ (r : Result ℕ Refusal) (page : List _). entered r page) e.0 e.1
-          ∙ union_several a.page.now ts (omega (arith, n, pre.n_nonzero.0, if1.false)) (omega (arith, n, if2.false));
+          ∙ union_several a.page.now ts (omega (arith, n, pre.n_nonzero.0, c.if-n-eq1.false)) (omega (arith, n, c.if-n-gt-CHILDREN.false));
       measured_2 = e.2;
     }

@@ -37,9 +37,10 @@ returns-then-same c =
     let loop = c.loop-i in
     let loop-test = c.loop-i-test in
     let index = c.index in
-    let p = c.args.page.now in let l = loop in
-    sym
-    (first_at _ _ l.i loop-test.true l.invariant.3 (found_at p l.i l.at _ c.args.name.now l.invariant.1 index.ensures.0 _ (sym c.same.ensures ∙ c.if-same.true)))
+    let p = c.args.page.now in let l = loop in (
+      loop-test.true,
+      sym (first_at _ _ l.i loop-test.true l.invariant.3 (found_at p l.i l.at _ c.args.name.now l.invariant.1 index.ensures.0 _ (sym c.same.ensures ∙ c.if-same.true))),
+    )
 
 pub loop-i-preserved : goal.loop-i-preserved
 loop-i-preserved c =
@@ -53,4 +54,4 @@ loop-i-preserved c =
 pub returns : goal.returns
 returns c =
     let loop = c.loop-i in
-    let e : loop.i ≡ c.args.n = omega arith in sym (first_none _ _ (rw e at loop.invariant.3))
+    let e : loop.i ≡ c.args.n = omega arith in first_none _ _ (rw e at loop.invariant.3)

@@ -1,10 +1,8 @@
-use mathlib.Core.Path.{◌≡◌, sym, ap, ◌∙◌}
-use Prim.Native.Nat.{◌≤◌}
+use mathlib.Core.Path.{◌≡◌, refl, sym, ap, ◌∙◌}
+use Prim.Native.Nat.{ℕ, ◌≤◌}
 use native.Mathlib.Nat.{le_of_eq}
 use native.Mathlib.Omega.{arith}
 use lib.ListN.{length}
-use Rattle.pages.proofs.Quant.{first_le}
-use Rattle.names.specs.Table.{named}
 use Rattle.names.proofs.Calls.{form, fits_to, name_small, add_malformed, add_known, add_many, add_short, add_new}
 use Rattle.names.proofs.insert_name.Goals as goal
 
@@ -12,35 +10,30 @@ pub count-n-requires : goal.count-n-requires
 count-n-requires c =
     (form c.args.page.now c.requires.0).two
 
-pub find-k-requires : goal.find-k-requires
-find-k-requires c =
+pub find-requires : goal.find-requires
+find-requires c =
     let count = c.count-n in
     fits_to c.args.page.now (form c.args.page.now c.requires.0) count.result (le_of_eq count.ensures.0)
 
-pub returns-then-k-n : goal.returns-then-k-n
-returns-then-k-n c =
-    let is_name = c.is_name in
-    let if1 = c.if-is_name in
-    let count = c.count-n in
-    let page = c.args.page.now in
-    let name = c.args.name.now in
-    let w = sym is_name.ensures ∙ if1.true in
-    let n = count in
-    let k = c.find-k in
-    add_known c.args.limit page name c.requires.0 w n.result k.result n.ensures.0 k.ensures c.if-k-n.true
+pub returns-in-Some : goal.returns-in-Some
+returns-in-Some c =
+    add_known c.args.limit c.args.page.now c.args.name.now c.requires.0 (sym c.is_name.ensures ∙ c.if-is_name.true) c.count-n.result c.in-Some.k
+    c.count-n.ensures.0 c.in-Some.ensures.1 c.in-Some.ensures.0
+
+-- where no name is found
+absent : {a b : ℕ} → a ≡ b → b ≤ a
+absent e = omega arith
 
 pub returns-then-n-limit : goal.returns-then-n-limit
 returns-then-n-limit c =
     let is_name = c.is_name in
     let if1 = c.if-is_name in
     let count = c.count-n in
-    let find = c.find-k in
     let page = c.args.page.now in
     let name = c.args.name.now in
     let w = sym is_name.ensures ∙ if1.true in
     let n = count in
-    let k = find in
-    add_many c.args.limit page name c.requires.0 w n.result k.result n.ensures.0 k.ensures c.if-k-n.false c.if-n-limit.true
+    add_many c.args.limit page name c.requires.0 w n.result _ n.ensures.0 refl (absent c.in_default.ensures) c.if-n-limit.true
 
 pub offset_of-end-requires : goal.offset_of-end-requires
 offset_of-end-requires c =
@@ -72,16 +65,13 @@ returns-then-page-end c =
     let is_name = c.is_name in
     let if1 = c.if-is_name in
     let count = c.count-n in
-    let find = c.find-k in
-    let if2 = c.if-k-n in
     let if3 = c.if-n-limit in
     let offset-of = c.offset_of-end in
     let page = c.args.page.now in
     let name = c.args.name.now in
     let w = sym is_name.ensures ∙ if1.true in
     let n = count in
-    let k = find in
-    add_short c.args.limit page name c.requires.0 w n.result k.result n.ensures.0 k.ensures if2.false if3.false offset-of.result
+    add_short c.args.limit page name c.requires.0 w n.result _ n.ensures.0 refl (absent c.in_default.ensures) if3.false offset-of.result
     offset-of.ensures c.if-page-end.true
 
 pub overflow_cast-size : goal.overflow_cast-size
@@ -104,8 +94,6 @@ returns-else-page-end c =
     let is_name = c.is_name in
     let if1 = c.if-is_name in
     let count = c.count-n in
-    let find = c.find-k in
-    let if2 = c.if-k-n in
     let if3 = c.if-n-limit in
     let offset-of = c.offset_of-end in
     let if4 = c.if-page-end in
@@ -117,10 +105,7 @@ returns-else-page-end c =
     let name = c.args.name.now in
     let w = sym is_name.ensures ∙ if1.true in
     let n = count in
-    let k = find in
-    let m = first_le (named page name) n.result in
-    let e : k.result ≡ n.result = omega (arith, k.ensures, m, if2.false) in
-    let d = add_new c.args.limit page name c.requires.0 w n.result k.result n.ensures.0 k.ensures if2.false if3.false offset-of.result offset-of.ensures e if4.false in
+    let d = add_new c.args.limit page name c.requires.0 w n.result _ n.ensures.0 refl (absent c.in_default.ensures) if3.false offset-of.result offset-of.ensures c.in_default.ensures if4.false in
     (d.0, put-bytes3.ensures ∙ rw (put-bytes2.ensures, put-bytes.ensures, count-bytes.ensures) d.1)
 
 pub returns-else-is_name : goal.returns-else-is_name

@@ -12,24 +12,23 @@ use Rattle.order.proofs.by_name.Goals as goal
 
 pub loop-i-init : goal.loop-i-init
 loop-i-init c =
-    sorting_start c.args.page.now (count_of c.args.page.now) c.args.u c.dimensionless-w.result c.dimensionless-w.ensures c.requires.2
+    sorting_start c.args.names.page.now (count_of c.args.names.page.now) c.args.u c.dimensionless-w.result c.dimensionless-w.ensures c.requires.1
 
 pub placed-w-requires : goal.placed-w-requires
 placed-w-requires c =
     let u = c.args.u in
     let l = c.loop-i in
-    let n = count_of c.args.page.now in
-    let z = sorting_count c.args.page.now n u l.w l.i l.invariant in (
-      c.requires.0,
+    let n = count_of c.args.names.page.now in
+    let z = sorting_count c.args.names.page.now n u l.w l.i l.invariant in (
       omega (arith, z),
-      sorting_used c.args.page.now n u l.w l.i l.invariant c.loop-i-test.true,
+      sorting_used c.args.names.page.now n u l.w l.i l.invariant c.loop-i-test.true,
       rw (l.invariant.held, terms_unit l.invariant.done (omega (arith, l.invariant.size))) l.invariant.used,
     )
 
 pub loop-i-preserved : goal.loop-i-preserved
 loop-i-preserved c =
     let u = c.args.u in
-    let page = c.args.page.now in
+    let page = c.args.names.page.now in
     let l = c.loop-i in
     let d = l.invariant.done in
     sorting_next page (count_of page) u l.w l.i l.invariant c.loop-i-test.true c.placed-w.result
@@ -38,4 +37,4 @@ loop-i-preserved c =
     ∙ ap (λ t. unit_of (place page (term_at u l.i) t)) (ap terms_of l.invariant.held ∙ terms_unit d (omega (arith, l.invariant.size))))
 
 pub returns : goal.returns
-returns c = sorting_end c.args.page.now (count_of c.args.page.now) c.args.u c.loop-i.w c.loop-i.i c.loop-i.invariant c.loop-i-test.false
+returns c = sorting_end c.args.names.page.now (count_of c.args.names.page.now) c.args.u c.loop-i.w c.loop-i.i c.loop-i.invariant c.loop-i-test.false

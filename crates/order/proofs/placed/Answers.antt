@@ -18,16 +18,16 @@ use Rattle.order.proofs.placed.Goals as goal
 
 pub name_of-name-requires : goal.name_of-name-requires
 name_of-name-requires c =
-    (c.requires.0, rw c.symbol_index.ensures.0 (used_below (count_of c.args.page.now) c.args.s c.requires.2).0)
+    rw c.symbol_index.ensures.0 (used_below (count_of c.args.names.page.now) c.args.s c.requires.1).0
 
 pub name_of-requires : goal.name_of-requires
 name_of-requires c =
-    (c.requires.0, rw c.symbol_index-in-loop-j.ensures.0 (in_use_at (count_of c.args.page.now) c.args.w c.requires.3 c.loop-j.j c.loop-j-test.true))
+    rw c.symbol_index-in-loop-j.ensures.0 (in_use_at (count_of c.args.names.page.now) c.args.w c.requires.2 c.loop-j.j c.loop-j-test.true)
 
 pub returns-then-is_lt : goal.returns-then-is_lt
 returns-then-is_lt c =
     let g = c.args in
-    let page = g.page.now in
+    let page = g.names.page.now in
     let l = c.loop-j in
     let x = term g.s (to_z w16 (of_z w16 g.e)) in
     let names = rw (c.name_of-name.ensures.0, c.name_of.ensures.0, c.symbol_index.ensures.0, c.symbol_index-in-loop-j.ensures.0) at c.cmp.ensures in
@@ -41,13 +41,13 @@ loop-j-preserved c =
     let l = c.loop-j in
     let e = exp_at (places_of g.w) l.j in
     let names = rw (c.name_of-name.ensures.0, c.name_of.ensures.0, c.symbol_index.ensures.0, c.symbol_index-in-loop-j.ensures.0) at c.cmp.ensures in
-    placing_next g.page.now g.w (term g.s (to_z w16 (of_z w16 g.e))) l.v l.j l.invariant c.loop-j-test.true (sym (comes_is _ _ c.cmp.result names) ∙ sym c.is_lt.ensures ∙ c.if-is_lt.false) c.with_term-v.result
+    placing_next g.names.page.now g.w (term g.s (to_z w16 (of_z w16 g.e))) l.v l.j l.invariant c.loop-j-test.true (sym (comes_is _ _ c.cmp.result names) ∙ sym c.is_lt.ensures ∙ c.if-is_lt.false) c.with_term-v.result
     (λ k q. c.with_term-v.ensures ∙ grown _ _ _ k q ∙ ap (λ z. unit_of (k ++ (term (sym_at (places_of g.w) l.j) z ∷ []))) (back e (omega arith)))
 
 pub returns : goal.returns
 returns c =
     let g = c.args in
     let l = c.loop-j in
-    placing_end g.page.now g.w (term g.s (to_z w16 (of_z w16 g.e))) l.v l.j l.invariant c.loop-j-test.false c.with_term-2.result
+    placing_end g.names.page.now g.w (term g.s (to_z w16 (of_z w16 g.e))) l.v l.j l.invariant c.loop-j-test.false c.with_term-2.result
     (λ k q. c.with_term-2.ensures ∙ grown _ _ _ k q)
-    ∙ ap (λ z. unit_of (place g.page.now (term g.s z) (terms_of g.w))) (to_z-of_z c.ranges.e)
+    ∙ ap (λ z. unit_of (place g.names.page.now (term g.s z) (terms_of g.w))) (to_z-of_z c.ranges.e)

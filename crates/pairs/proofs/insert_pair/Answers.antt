@@ -1,3 +1,4 @@
+use Rattle.std.specs.Prelude.{option_copied}
 use Rattle.std.proofs.lemmas.Result.{err_from_is_err_and}
 use mathlib.Core.Path.{sym, ◌∙◌}
 use native.Mathlib.Omega.{arith}
@@ -9,7 +10,7 @@ use Rattle.pairs.proofs.insert_pair.Goals as goal
 pub returns-then-is_broken : goal.returns-then-is_broken
 returns-then-is_broken c =
     let a = c.args in
-    pair_unnamed a.page.now a.names.now a.lent a.symbol a.factor a.base (sym c.is_broken.ensures ∙ c.if-is_broken.true)
+    pair_unnamed a.page.now (option_copied a.names) a.symbol a.factor a.base (sym c.is_broken.ensures ∙ c.if-is_broken.true)
 
 pub returns-then-not-holds_table : goal.returns-then-not-holds_table
 returns-then-not-holds_table c =
@@ -18,7 +19,7 @@ returns-then-not-holds_table c =
     let a = c.args in
     let l = sym is-broken.ensures ∙ c.if-is_broken.false in
     let h = sym holds-table.ensures ∙ c.if-not-holds_table.true in
-    pair_unheld a.page.now a.names.now a.lent a.symbol a.factor a.base l h
+    pair_unheld a.page.now (option_copied a.names) a.symbol a.factor a.base l h
 
 pub in_use-n-requires : goal.in_use-n-requires
 in_use-n-requires c =
@@ -39,7 +40,7 @@ returns-in_err-insert c =
     let p = err_from_is_err_and c.from_residual.result c.from_residual.ensures.1 in
     let i = rw (c.table_in-t.ensures, c.in_use-n.ensures.0) at c.insert.ensures in
     let o = inserted_err _ _ _ _ _ _ (sym c.in_err-insert.was ∙ i.verdict) in
-    rw (p.1, p.2) (pair_refused a.page.now a.names.now a.lent a.symbol a.factor a.base l h _ o)
+    rw (p.1, p.2) (pair_refused a.page.now (option_copied a.names) a.symbol a.factor a.base l h _ o)
 
 pub size_of-requires : goal.size_of-requires
 size_of-requires c =
@@ -48,8 +49,8 @@ size_of-requires c =
     let h = sym c.holds_table.ensures ∙ c.if-not-holds_table.false in
     let i = rw (c.table_in-t.ensures, c.in_use-n.ensures.0) at c.insert.ensures in
     let o = inserted_ok _ _ _ _ _ _ (sym c.in_ok-insert.was ∙ i.verdict) i.table_after in
-    let few = pair_few a.page.now a.names.now a.lent a.symbol a.factor a.base l h _ o in
-    let grown = count_grown a.page.now a.names.now a.lent a.symbol a.factor a.base l h _ o in
+    let few = pair_few a.page.now (option_copied a.names) a.symbol a.factor a.base l h _ o in
+    let grown = count_grown a.page.now (option_copied a.names) a.symbol a.factor a.base l h _ o in
     omega (arith, few, grown)
 
 pub returns-then-page-size_of : goal.returns-then-page-size_of
@@ -59,7 +60,7 @@ returns-then-page-size_of c =
     let h = sym c.holds_table.ensures ∙ c.if-not-holds_table.false in
     let i = rw (c.table_in-t.ensures, c.in_use-n.ensures.0) at c.insert.ensures in
     let o = inserted_ok _ _ _ _ _ _ (sym c.in_ok-insert.was ∙ i.verdict) i.table_after in
-    pair_cramped a.page.now a.names.now a.lent a.symbol a.factor a.base l h _ o (rw c.size_of.ensures at c.if-page-size_of.true)
+    pair_cramped a.page.now (option_copied a.names) a.symbol a.factor a.base l h _ o (rw c.size_of.ensures at c.if-page-size_of.true)
 
 pub write_table-requires : goal.write_table-requires
 write_table-requires c =
@@ -68,9 +69,9 @@ write_table-requires c =
     let h = sym c.holds_table.ensures ∙ c.if-not-holds_table.false in
     let i = rw (c.table_in-t.ensures, c.in_use-n.ensures.0) at c.insert.ensures in
     let o = inserted_ok _ _ _ _ _ _ (sym c.in_ok-insert.was ∙ i.verdict) i.table_after in
-    let few = pair_few a.page.now a.names.now a.lent a.symbol a.factor a.base l h _ o in
-    let grown = count_grown a.page.now a.names.now a.lent a.symbol a.factor a.base l h _ o in
-    (omega (arith, few, grown), rw c.size_of.ensures at c.if-page-size_of.false, grown_below a.page.now a.names.now a.lent a.symbol a.factor a.base l h _ o)
+    let few = pair_few a.page.now (option_copied a.names) a.symbol a.factor a.base l h _ o in
+    let grown = count_grown a.page.now (option_copied a.names) a.symbol a.factor a.base l h _ o in
+    (omega (arith, few, grown), rw c.size_of.ensures at c.if-page-size_of.false, grown_below a.page.now (option_copied a.names) a.symbol a.factor a.base l h _ o)
 
 pub returns : goal.returns
 returns c =
@@ -79,5 +80,5 @@ returns c =
     let h = sym c.holds_table.ensures ∙ c.if-not-holds_table.false in
     let i = rw (c.table_in-t.ensures, c.in_use-n.ensures.0) at c.insert.ensures in
     let o = inserted_ok _ _ _ _ _ _ (sym c.in_ok-insert.was ∙ i.verdict) i.table_after in
-    let d = pair_done a.page.now a.names.now a.lent a.symbol a.factor a.base l h _ o (rw c.size_of.ensures at c.if-page-size_of.false) in
+    let d = pair_done a.page.now (option_copied a.names) a.symbol a.factor a.base l h _ o (rw c.size_of.ensures at c.if-page-size_of.false) in
     (d.0, c.write_table.ensures ∙ d.1)

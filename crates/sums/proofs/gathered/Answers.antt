@@ -1,46 +1,45 @@
-use mathlib.Core.Path.{sym, ap, ◌∙◌}
-use mathlib.Core.List.{◌++◌}
+use Rattle.std.proofs.Common.{rules}
+use Prim.Native.Nat.{◌<◌, ◌^◌}
+use mathlib.Core.Path.{◌≡◌, sym, ap, ◌∙◌}
 use native.Mathlib.Omega.{arith}
+use lib.Dec.{eqb}
+use lib.IntN.{ℤ}
+use lib.Signed.{mag}
+use mir.Syntax.{w16}
+use mir.Val.{of_z}
+use borrow.Author.Tests.{eq-eqb, ne_eqb}
 use Rattle.units.specs.Unit.{is_zero}
-use Rattle.units.specs.Product.{power}
-use Rattle.units.proofs.Signed.{back}
-use Rattle.sums.specs.Sums.{sums_of}
-use Rattle.sums.proofs.Gather.{gathering_start, gathering_less, gathering_room, gathering_next, gathering_end}
+use Rattle.units.proofs.Signed.{back, bits_zero}
+use Rattle.sums.proofs.Gather.{gathering_in, gathering_room, gathering_none, gathering_next, gathering_end}
 use Rattle.sums.proofs.gathered.Goals as goal
+use Rattle.sums.proofs.gathered.Goals.{then-e-ne0, else-e-ne0}
 
-pub loop-u-init : goal.loop-u-init
-loop-u-init c =
-    gathering_start c.args.u c.no_sums-w.result c.no_sums-w.ensures
+-- a sum as it is tested, and as it is held
+tested : (r e : ℤ) → mag r < 2 ^ 15 → r ≡ e → eqb (of_z w16 r) 0 ≡ is_zero e
+tested r e h q = bits_zero r (record { sfits = h }) ∙ ap is_zero q
 
-pub returns-then-g-ge-NAMES : goal.returns-then-g-ge-NAMES
-returns-then-g-ge-NAMES c =
-    let start = c in
-    let loop = c.loop-u in
-    let next-symbol = c.next_symbol-g in
-    gathering_end start.args.u loop.w loop.lo loop.invariant next-symbol.result next-symbol.ensures c.if-g-ge-NAMES.true
+pub with_term-w-requires : goal.with_term-w-requires
+with_term-w-requires c =
+    gathering_room c.args.u (search rules) c.requires.0 c.loop-s.w c.loop-s.lo c.loop-s.invariant c.in-Some.s (sym c.in-Some.ensures)
+    (sym (tested c.sum_of-e.result _ c.sum_of-e.type_inv c.sum_of-e.ensures) ∙ ne_eqb _ 0 c.if-e-ne0.true)
 
-pub with_sum-w-requires : goal.with_sum-w-requires
-with_sum-w-requires c =
-    let start = c in
-    let loop = c.loop-u in
-    let next-symbol = c.next_symbol-g in
-    λ z. gathering_room start.args.u loop.w loop.lo loop.invariant next-symbol.result next-symbol.ensures start.requires.0
-    (ap is_zero (sym (back c.sum_of.result c.sum_of.type_inv ∙ c.sum_of.ensures)) ∙ z)
+pub loop-s-smaller : goal.loop-s-smaller
+loop-s-smaller c =
+    let g = gathering_in c.args.u (search rules) c.requires.0 c.loop-s.w c.loop-s.lo c.loop-s.invariant c.in-Some.s (sym c.in-Some.ensures) in
+    omega (arith, g.0, g.1, c.symbol_index-lo.ensures.0)
 
-pub loop-u-smaller : goal.loop-u-smaller
-loop-u-smaller c =
-    let start = c in
-    let loop = c.loop-u in
-    let next-symbol = c.next_symbol-g in
-    let if1 = c.if-g-ge-NAMES in
-    omega (arith, gathering_less start.args.u loop.w loop.lo loop.invariant next-symbol.result next-symbol.ensures, if1.false)
+pub loop-s-preserved : goal.loop-s-preserved
+loop-s-preserved c =
+    let t = tested c.sum_of-e.result _ c.sum_of-e.type_inv c.sum_of-e.ensures in
+    rw c.symbol_index-lo.ensures.0
+    (elim c.if-e-ne0.branch [
+      | then-e-ne0 w ↦
+          rw (w.w-is, w.with_term-w.ensures, back c.sum_of-e.result c.sum_of-e.type_inv, c.sum_of-e.ensures)
+          (gathering_next c.args.u (search rules) c.requires.0 c.loop-s.w c.loop-s.lo c.loop-s.invariant c.in-Some.s (sym c.in-Some.ensures) (sym t ∙ ne_eqb _ 0 w.if-e-ne0.true))
+      | else-e-ne0 w ↦
+          rw w.w-is
+          (gathering_none c.args.u (search rules) c.requires.0 c.loop-s.w c.loop-s.lo c.loop-s.invariant c.in-Some.s (sym c.in-Some.ensures) (sym t ∙ eq-eqb _ 0 w.if-e-ne0.false))
+    ])
 
-pub loop-u-preserved : goal.loop-u-preserved
-loop-u-preserved c =
-    let start = c in
-    let loop = c.loop-u in
-    let next-symbol = c.next_symbol-g in
-    let if1 = c.if-g-ge-NAMES in
-    let sum_of = c.sum_of in
-    gathering_next start.args.u loop.w loop.lo loop.invariant next-symbol.result next-symbol.ensures if1.false c.with_sum-w.result
-    (λ m h. c.with_sum-w.ensures m h ∙ ap (λ z. sums_of (m ++ power next-symbol.result z)) (back sum_of.result sum_of.type_inv ∙ sum_of.ensures))
+pub returns : goal.returns
+returns c = rw (gathering_end c.args.u (search rules) c.requires.0 c.loop-s.w c.loop-s.lo c.loop-s.invariant (sym c.in_default.ensures))

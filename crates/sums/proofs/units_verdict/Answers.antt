@@ -1,3 +1,4 @@
+use Rattle.std.specs.Prelude.{option_copied}
 use mathlib.Core.Path.{sym, ◌∙◌}
 use Rattle.pairs.proofs.Calls.{unbroken}
 use Rattle.sums.proofs.Calls.{units_broken, left_unused, right_unused, left_bad, right_bad, units_passed}
@@ -6,12 +7,12 @@ use Rattle.sums.proofs.units_verdict.Goals as goal
 pub returns-then-is_broken : goal.returns-then-is_broken
 returns-then-is_broken c =
     let g = c.args in
-    units_broken g.page.now g.names.now g.lent g.a g.b (sym c.is_broken.ensures ∙ c.if-is_broken.true)
+    units_broken g.page.now (option_copied g.names) g.a g.b (sym c.is_broken.ensures ∙ c.if-is_broken.true)
 
 pub in_use-n-requires : goal.in_use-n-requires
 in_use-n-requires c =
     let g = c.args in
-    (unbroken g.page.now g.names.now g.lent (sym c.is_broken.ensures ∙ c.if-is_broken.false)).0
+    (unbroken g.page.now (option_copied g.names) (sym c.is_broken.ensures ∙ c.if-is_broken.false)).0
 
 pub returns-then-not-is_used : goal.returns-then-not-is_used
 returns-then-not-is_used c =
@@ -20,7 +21,7 @@ returns-then-not-is_used c =
     let g = c.args in
     let t = sym is-broken.ensures ∙ c.if-is_broken.false in
     let u = sym is-used.ensures ∙ c.if-not-is_used.true in
-    left_unused g.page.now g.names.now g.lent g.a g.b t (rw c.in_use-n.ensures.0 at u)
+    left_unused g.page.now (option_copied g.names) g.a g.b t (rw c.in_use-n.ensures.0 at u)
 
 pub returns-then-not-is_used-2 : goal.returns-then-not-is_used-2
 returns-then-not-is_used-2 c =
@@ -33,7 +34,7 @@ returns-then-not-is_used-2 c =
     let t = sym is-broken.ensures ∙ if1.false in
     let u = sym is-used.ensures ∙ c.if-not-is_used.false in
     let w = sym is-used2.ensures ∙ c.if-not-is_used-2.true in
-    right_unused g.page.now g.names.now g.lent g.a g.b t (rw in_use.ensures.0 at u)
+    right_unused g.page.now (option_copied g.names) g.a g.b t (rw in_use.ensures.0 at u)
     (rw in_use.ensures.0 at w)
 
 pub returns-then-not-is_formed : goal.returns-then-not-is_formed
@@ -50,7 +51,7 @@ returns-then-not-is_formed c =
     let u = sym is-used.ensures ∙ if2.false in
     let w = sym is-used2.ensures ∙ c.if-not-is_used-2.false in
     let x = sym is-formed.ensures ∙ c.if-not-is_formed.true in
-    left_bad g.page.now g.names.now g.lent g.a g.b t (rw in_use.ensures.0 at u)
+    left_bad g.page.now (option_copied g.names) g.a g.b t (rw in_use.ensures.0 at u)
     (rw in_use.ensures.0 at w) x
 
 pub returns-then-not-is_formed-2 : goal.returns-then-not-is_formed-2
@@ -70,7 +71,7 @@ returns-then-not-is_formed-2 c =
     let w = sym is-used2.ensures ∙ if3.false in
     let x = sym is-formed.ensures ∙ c.if-not-is_formed.false in
     let y = sym is-formed2.ensures ∙ c.if-not-is_formed-2.true in
-    right_bad g.page.now g.names.now g.lent g.a g.b t
+    right_bad g.page.now (option_copied g.names) g.a g.b t
     (rw in_use.ensures.0 at u)
     (rw in_use.ensures.0 at w) x y
 
@@ -91,6 +92,6 @@ returns c =
     let w = sym is-used2.ensures ∙ if3.false in
     let x = sym is-formed.ensures ∙ c.if-not-is_formed.false in
     let y = sym is-formed2.ensures ∙ c.if-not-is_formed-2.false in
-    units_passed g.page.now g.names.now g.lent g.a g.b t
+    units_passed g.page.now (option_copied g.names) g.a g.b t
     (rw in_use.ensures.0 at u)
     (rw in_use.ensures.0 at w) x y

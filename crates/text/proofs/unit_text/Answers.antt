@@ -1,74 +1,48 @@
 use Rattle.std.proofs.Common.{Ok}
+use Rattle.std.proofs.lemmas.Option.{cond_some}
 use mathlib.Core.Path.{sym, ap, ◌∙◌}
-use Rattle.names.proofs.Calls.{form}
+use Rattle.pages.specs.Bytes.{count_of}
+use Rattle.pages.proofs.Options.{none_cond}
 use Rattle.text.proofs.Calls.{text_broken, text_unused, text_bad_unit, formed_few, formed_used, sorted_writable, text_given}
 use Rattle.text.proofs.unit_text.Goals as goal
 
-pub returns-then-not-is_formed : goal.returns-then-not-is_formed
-returns-then-not-is_formed c =
-    let is-formed = c.is_formed in
-    text_broken c.args.page.now c.args.u (sym is-formed.ensures ∙ c.if-not-is_formed.true)
-
-pub count-requires : goal.count-requires
-count-requires c =
-    let is-formed = c.is_formed in
-    (form c.args.page.now (sym is-formed.ensures ∙ c.if-not-is_formed.false)).two
+pub returns-in_default : goal.returns-in_default
+returns-in_default c = text_broken c.args.page.now c.args.u (none_cond _ c.args.page.now c.in_default.ensures)
 
 pub returns-then-not-is_used : goal.returns-then-not-is_used
 returns-then-not-is_used c =
-    let is-formed = c.is_formed in
-    let if1 = c.if-not-is_formed in
-    let count = c.count in
-    let is-used = c.is_used in
-    text_unused c.args.page.now c.args.u
-    (sym is-formed.ensures ∙ if1.false) count.result count.ensures.0
-    (sym is-used.ensures ∙ c.if-not-is_used.true)
+    let t = cond_some _ c.args.page.now c.in-Some.names.page.now (sym c.in-Some.ensures) in
+    text_unused c.args.page.now c.args.u t.0 c.count.result (c.count.ensures.0 ∙ ap count_of (sym t.1)) (sym c.is_used.ensures ∙ c.if-not-is_used.true)
 
-pub returns-then-not-is_formed-2 : goal.returns-then-not-is_formed-2
-returns-then-not-is_formed-2 c =
-    let is-formed = c.is_formed in
-    let if1 = c.if-not-is_formed in
-    let count = c.count in
-    let is-used = c.is_used in
-    let if2 = c.if-not-is_used in
-    let is-formed2 = c.is_formed-2 in
-    text_bad_unit c.args.page.now c.args.u
-    (sym is-formed.ensures ∙ if1.false) count.result count.ensures.0
-    (sym is-used.ensures ∙ if2.false)
-    (sym is-formed2.ensures ∙ c.if-not-is_formed-2.true)
+pub returns-then-not-is_formed : goal.returns-then-not-is_formed
+returns-then-not-is_formed c =
+    let t = cond_some _ c.args.page.now c.in-Some.names.page.now (sym c.in-Some.ensures) in
+    text_bad_unit c.args.page.now c.args.u t.0 c.count.result (c.count.ensures.0 ∙ ap count_of (sym t.1))
+    (sym c.is_used.ensures ∙ c.if-not-is_used.false) (sym c.is_formed.ensures ∙ c.if-not-is_formed.true)
 
 pub by_name-requires : goal.by_name-requires
 by_name-requires c =
-    let is-formed = c.is_formed in
-    let if1 = c.if-not-is_formed in
-    let count = c.count in
-    let is-used = c.is_used in
-    let if2 = c.if-not-is_used in
-    let is-formed2 = c.is_formed-2 in
-    ((sym is-formed.ensures ∙ if1.false), formed_few c.args.page.now c.args.u (sym is-formed.ensures ∙ if1.false) count.result count.ensures.0 (sym is-used.ensures ∙ if2.false) (sym is-formed2.ensures ∙ c.if-not-is_formed-2.false), formed_used c.args.page.now c.args.u (sym is-formed.ensures ∙ if1.false) count.result count.ensures.0 (sym is-used.ensures ∙ if2.false) (sym is-formed2.ensures ∙ c.if-not-is_formed-2.false))
+    let t = cond_some _ c.args.page.now c.in-Some.names.page.now (sym c.in-Some.ensures) in
+    let used = sym c.is_used.ensures ∙ c.if-not-is_used.false in
+    let formed = sym c.is_formed.ensures ∙ c.if-not-is_formed.false in
+    let is = c.count.ensures.0 ∙ ap count_of (sym t.1) in
+    rw (sym t.1) (
+      formed_few c.args.page.now c.args.u t.0 c.count.result is used formed,
+      formed_used c.args.page.now c.args.u t.0 c.count.result is used formed,
+    )
 
 pub written-requires : goal.written-requires
 written-requires c =
-    let is-formed = c.is_formed in
-    let if1 = c.if-not-is_formed in
-    let count = c.count in
-    let is-used = c.is_used in
-    let if2 = c.if-not-is_used in
-    let is-formed2 = c.is_formed-2 in
-    sorted_writable c.args.page.now c.args.u (sym is-formed.ensures ∙ if1.false) count.result
-    count.ensures.0 (sym is-used.ensures ∙ if2.false)
-    (sym is-formed2.ensures ∙ c.if-not-is_formed-2.false) c.by_name.result c.by_name.ensures
+    let t = cond_some _ c.args.page.now c.in-Some.names.page.now (sym c.in-Some.ensures) in
+    let used = sym c.is_used.ensures ∙ c.if-not-is_used.false in
+    let formed = sym c.is_formed.ensures ∙ c.if-not-is_formed.false in
+    rw (sym t.1)
+    (sorted_writable c.args.page.now c.args.u t.0 c.count.result (c.count.ensures.0 ∙ ap count_of (sym t.1)) used formed c.by_name.result (rw (sym t.1) at c.by_name.ensures))
 
 pub returns : goal.returns
 returns c =
-    let is-formed = c.is_formed in
-    let if1 = c.if-not-is_formed in
-    let count = c.count in
-    let is-used = c.is_used in
-    let if2 = c.if-not-is_used in
-    let is-formed2 = c.is_formed-2 in
-    let if3 = c.if-not-is_formed-2 in
-    let by_name = c.by_name in
-    ap Ok c.written.ensures ∙ text_given c.args.page.now c.args.u (sym is-formed.ensures ∙ if1.false)
-    count.result count.ensures.0 (sym is-used.ensures ∙ if2.false)
-    (sym is-formed2.ensures ∙ if3.false) by_name.result by_name.ensures
+    let t = cond_some _ c.args.page.now c.in-Some.names.page.now (sym c.in-Some.ensures) in
+    let used = sym c.is_used.ensures ∙ c.if-not-is_used.false in
+    let formed = sym c.is_formed.ensures ∙ c.if-not-is_formed.false in
+    ap Ok (rw (sym t.1) at c.written.ensures)
+    ∙ text_given c.args.page.now c.args.u t.0 c.count.result (c.count.ensures.0 ∙ ap count_of (sym t.1)) used formed c.by_name.result (rw (sym t.1) at c.by_name.ensures)

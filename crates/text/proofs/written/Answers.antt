@@ -9,4 +9,4 @@ pub returns : goal.returns
 returns c =
     let write-line = c.write_line-size in
     rw
-    (write-line.ensures.0, write-line.ensures.1, put_pad text_max (line_of c.args.page.now (terms_of c.args.v)) (line_short c.args.page.now c.args.v c.requires))
+    (write-line.ensures.0, write-line.ensures.1, put_pad text_max (line_of c.args.names.page.now (terms_of c.args.v)) (line_short c.args.names.page.now c.args.v c.args.names.formed c.requires))

@@ -11,12 +11,12 @@ returns-then-t-lt-FIXED c =
 pub enter-requires : goal.enter-requires
 enter-requires c =
     let a = c.args in
-    let e = entry_front (const_entry a.page.now a.t) _ _ (rw c.store.ensures.0 at c.const_entry-entry.ensures) in
+    let e = entry_front (const_entry a.page.now a.t) _ (rw c.store.ensures.0 at c.const_entry-entry.ensures) in
     rw e (const_ready a.page.now _ _ c.requires.measured a.t c.if-t-lt-FIXED.false c.requires.t_bound)
 
 pub returns : goal.returns
 returns c =
     let a = c.args in
-    let e = entry_front (const_entry a.page.now a.t) _ _ (rw c.store.ensures.0 at c.const_entry-entry.ensures) in
+    let e = entry_front (const_entry a.page.now a.t) _ (rw c.store.ensures.0 at c.const_entry-entry.ensures) in
     let z = const_entered a.page.now _ _ c.requires.measured a.t c.if-t-lt-FIXED.false in
     ((rw e at c.enter.ensures.0) ∙ z.0, (rw e at c.enter.ensures.1) ∙ z.1, c.enter.ensures.2)

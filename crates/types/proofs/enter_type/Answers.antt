@@ -5,9 +5,9 @@ use Rattle.types.proofs.enter_type.Goals as goal
 pub enter-requires : goal.enter-requires
 enter-requires c =
     let a = c.args in
-    rw (entry_front (entry_of a.kind a.children.now a.name) _ _ c.entry_of-entry.ensures) c.requires.ready
+    rw (entry_front (entry_of a.kind a.children.now a.name) _ c.entry_of-entry.ensures) c.requires.ready
 
 pub returns : goal.returns
 returns c =
     let a = c.args in
-    rw (entry_front (entry_of a.kind a.children.now a.name) _ _ c.entry_of-entry.ensures) at c.enter.ensures
+    rw (entry_front (entry_of a.kind a.children.now a.name) _ c.entry_of-entry.ensures) at c.enter.ensures

@@ -34,7 +34,7 @@ returns-then-same c =
     let l = c.loop-i in
     let left = entry_part page l.at _ (ap (λ (x : ℕ). l.at + x) c.entry_size.ensures.0) in
     let hit : is_entry page entry l.i ≡ true = rw (← l.invariant.0) (sym (ap (λ (x : List ℕ). eqs x entry) left) ∙ sym c.same.ensures ∙ c.if-same.true) in
-    (sym (first_at (is_entry page entry) c.args.j l.i c.loop-i-test.true l.invariant.1 hit), omega arith)
+    (c.loop-i-test.true, sym (first_at (is_entry page entry) c.args.j l.i c.loop-i-test.true l.invariant.1 hit))
 
 pub loop-i-preserved : goal.loop-i-preserved
 loop-i-preserved c =
@@ -48,4 +48,4 @@ loop-i-preserved c =
 pub returns : goal.returns
 returns c =
     let e : c.loop-i.i ≡ c.args.j = omega arith in
-    (sym (first_none (is_entry c.args.page.now c.args.entry.now) c.args.j (rw e at c.loop-i.invariant.1)), omega arith)
+    first_none (is_entry c.args.page.now c.args.entry.now) c.args.j (rw e at c.loop-i.invariant.1)

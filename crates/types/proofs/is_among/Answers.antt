@@ -1,79 +1,29 @@
-use mathlib.Core.Path.{sym, ◌∙◌}
-use native.Mathlib.Omega.{arith}
-use borrow.Author.Rules.{rules}
-use Rattle.types.proofs.Prints.{among_start, among_end, among_found, among_on, part_ordered, part_in}
+use Rattle.std.proofs.Common.{rules, arith, ℕ, ◌+◌, ◌<◌, ◌≤◌, length, get_or}
+use Rattle.std.proofs.iter.Serving.{serving}
+use Rattle.std.proofs.lemmas.List.{length-take-le}
+use Rattle.chains.specs.Prints.{print_of}
+use Rattle.chains.proofs.Walk.{descends, any_walked}
+use Rattle.types.specs.Store.{is_entry}
+use Rattle.types.specs.Survey.{print_at}
+use Rattle.types.proofs.Prints.{part_ordered, part_in, compared, same_print}
 use Rattle.types.proofs.is_among.Goals as goal
 
-pub loop-next-init : goal.loop-next-init
-loop-next-init c =
-    among_start c.args.page.now c.args.entry.now c.args.j c.args.head c.requires.3
+pub any_linked-requires-clause-linked : goal.any_linked-requires-clause-linked
+any_linked-requires-clause-linked c =
+    descends (print_at c.args.page.now) c.args.links.now c.args.j c.requires.2 c.requires.1 (print_of c.args.entry.now) c.args.head c.requires.3
 
-pub offset_bounds-offsets-k : goal.offset_bounds-offsets-k
-offset_bounds-offsets-k c =
-    let loop = c.loop-next in
-    omega (arith, loop.invariant.0, c.requires.0.room)
-
-pub bounds-offsets-k : goal.bounds-offsets-k
-bounds-offsets-k c =
-    let loop = c.loop-next in
-    omega (arith, loop.invariant.0, c.requires.0.room)
-
-pub offset_bounds-offsets-next : goal.offset_bounds-offsets-next
-offset_bounds-offsets-next c =
-    let loop = c.loop-next in
-    omega (arith, loop.invariant.0, c.requires.0.room)
-
-pub bounds-offsets-next : goal.bounds-offsets-next
-bounds-offsets-next c =
-    let loop = c.loop-next in
-    omega (arith, loop.invariant.0, c.requires.0.room)
-
-pub slice_bounds-same-count : goal.slice_bounds-same-count
-slice_bounds-same-count c =
-    let loop = c.loop-next in
-    search (rules, part_ordered c.args.page.now c.args.offsets.now c.args.entry.now c.args.j loop.next c.requires.0 loop.invariant (omega arith))
-
-pub slice_bounds-same-start : goal.slice_bounds-same-start
-slice_bounds-same-start c =
-    let loop = c.loop-next in
-    search (rules, part_ordered c.args.page.now c.args.offsets.now c.args.entry.now c.args.j loop.next c.requires.0 loop.invariant (omega arith))
-
-pub slice_bounds-same-end : goal.slice_bounds-same-end
-slice_bounds-same-end c =
-    let loop = c.loop-next in
-    search (rules, part_in c.args.page.now c.args.offsets.now c.args.entry.now c.args.j loop.next c.requires.0 loop.invariant (omega arith))
-
-pub returns-then-same : goal.returns-then-same
-returns-then-same c =
-    let loop = c.loop-next in
-    let same = c.same in
-    among_found c.args.page.now c.args.offsets.now c.args.entry.now c.args.j loop.next c.requires.0 loop.invariant (omega arith) (sym same.ensures ∙ c.if-same.true)
-
-pub offset_bounds-links-k : goal.offset_bounds-links-k
-offset_bounds-links-k c =
-    let loop = c.loop-next in
-    omega (arith, loop.invariant.0, c.requires.1)
-
-pub bounds-links-k : goal.bounds-links-k
-bounds-links-k c =
-    let loop = c.loop-next in
-    omega (arith, loop.invariant.0, c.requires.1)
-
-pub loop-next-smaller : goal.loop-next-smaller
-loop-next-smaller c =
-    let loop = c.loop-next in
-    let same = c.same in
-    let if1 = c.if-same in
-    (among_on c.args.page.now c.args.offsets.now c.args.entry.now c.args.j loop.next c.requires.0 loop.invariant (omega arith) (sym same.ensures ∙ if1.false) c.args.links.now c.requires.2 c.word_index-next.result c.word_index-next.ensures.0).0
-
-pub loop-next-preserved : goal.loop-next-preserved
-loop-next-preserved c =
-    let loop = c.loop-next in
-    let same = c.same in
-    let if1 = c.if-same in
-    (among_on c.args.page.now c.args.offsets.now c.args.entry.now c.args.j loop.next c.requires.0 loop.invariant (omega arith) (sym same.ensures ∙ if1.false) c.args.links.now c.requires.2 c.word_index-next.result c.word_index-next.ensures.0).1
+pub any_linked-requires-clause-callable : goal.any_linked-requires-clause-callable
+any_linked-requires-clause-callable c = λ k h.
+    let page = c.args.page.now in
+    let offsets = c.args.offsets.now in
+    let i : k < c.args.j = omega (arith, h, length-take-le {A = ℕ} c.args.j c.args.links.now c.requires.1) in
+    let room : k + 1 < length offsets = omega (arith, c.requires.0.room) in
+    let ordered : get_or offsets k 0 ≤ get_or offsets (k + 1) 0 = part_ordered page offsets c.args.j k c.requires.0 i in
+    let inside : get_or offsets (k + 1) 0 ≤ length page = part_in page offsets c.args.j k c.requires.0 i in
+    search (rules, serving)
 
 pub returns : goal.returns
 returns c =
-    let loop = c.loop-next in
-    among_end c.args.page.now c.args.entry.now c.args.j loop.next loop.invariant (omega arith)
+    any_walked (print_at c.args.page.now) c.args.links.now c.args.j c.requires.2 c.requires.1 (print_of c.args.entry.now) c.args.head c.requires.3 _ c.any_linked.result c.any_linked.ensures
+    (is_entry c.args.page.now c.args.entry.now) (same_print c.args.page.now c.args.entry.now)
+    (λ k r l s. search (rules, s, compared c.args.page.now c.args.offsets.now c.args.j k c.requires.0 l c.args.entry.now))

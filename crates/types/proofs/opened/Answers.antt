@@ -1,3 +1,4 @@
+use Rattle.std.specs.Prelude.{option_copied}
 use mathlib.Core.Path.{sym, ◌∙◌, subst}
 use lib.Dec.{T}
 use Rattle.types.proofs.Calls.{broken_names, broken_or_not}
@@ -9,8 +10,8 @@ returns-then-is_broken c =
     let a = c.args in
     let is-broken = c.is_broken in
     let l = sym is-broken.ensures ∙ c.if-is_broken.true in
-    let u = unopened a.page.now a.names.now a.lent a.tables.now.offsets a.tables.now.depths l in
-    (broken_names a.page.now a.names.now a.lent l, λ h. absurd (subst T (sym h) tt), u.0, u.1)
+    let u = unopened a.page.now (option_copied a.names) a.tables.now.offsets a.tables.now.depths l in
+    (broken_names a.page.now (option_copied a.names) l, λ h. absurd (subst T (sym h) tt), u.0, u.1)
 
 pub in_use-n-requires : goal.in_use-n-requires
 in_use-n-requires c = sym c.is_broken.ensures ∙ c.if-is_broken.false
@@ -23,8 +24,8 @@ returns c =
     let in_use = c.in_use-n in
     let survey = c.survey in
     let l = sym is-broken.ensures ∙ if1.false in
-    let u = opened_is a.page.now a.names.now a.lent a.tables.now.offsets a.tables.now.depths l in_use.result in_use.ensures.0 in (
-      broken_or_not a.page.now a.names.now a.lent l in_use.result in_use.ensures.0 survey.result survey.ensures.0,
+    let u = opened_is a.page.now (option_copied a.names) a.tables.now.offsets a.tables.now.depths l in_use.result in_use.ensures.0 in (
+      broken_or_not a.page.now (option_copied a.names) l in_use.result in_use.ensures.0 survey.result survey.ensures.0,
       survey.ensures.1,
       survey.ensures.2 ∙ u.0,
       survey.ensures.3 ∙ u.1,

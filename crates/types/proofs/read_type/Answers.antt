@@ -1,3 +1,4 @@
+use Rattle.std.specs.Prelude.{option_copied}
 use mathlib.Core.Path.{sym, ◌∙◌}
 use Rattle.types.proofs.Types.{whole}
 use Rattle.types.proofs.Reading.{read_unnamed, read_unformed, read_unused, read_given}
@@ -7,7 +8,7 @@ pub returns-then-is_broken : goal.returns-then-is_broken
 returns-then-is_broken c =
     let is-broken = c.is_broken in
     let a = c.args in
-    read_unnamed a.page.now a.names.now a.lent a.t (sym is-broken.ensures ∙ c.if-is_broken.true)
+    read_unnamed a.page.now (option_copied a.names) a.t (sym is-broken.ensures ∙ c.if-is_broken.true)
 
 pub in_use-n-requires : goal.in_use-n-requires
 in_use-n-requires c = sym c.is_broken.ensures ∙ c.if-is_broken.false
@@ -21,7 +22,7 @@ returns-then-not-survey c =
     let a = c.args in
     let l = sym is-broken.ensures ∙ if1.false in
     let f = sym survey.ensures.0 ∙ c.if-not-survey.true in
-    read_unformed a.page.now a.names.now a.lent a.t l in_use.result in_use.ensures.0 f
+    read_unformed a.page.now (option_copied a.names) a.t l in_use.result in_use.ensures.0 f
 
 pub count-requires : goal.count-requires
 count-requires c =
@@ -41,7 +42,7 @@ returns-then-count-t c =
     let l = sym is-broken.ensures ∙ if1.false in
     let f = sym survey.ensures.0 ∙ if2.false in
     let h = rw count.ensures at c.if-count-t.true in
-    read_unused a.page.now a.names.now a.lent a.t l in_use.result in_use.ensures.0 f h
+    read_unused a.page.now (option_copied a.names) a.t l in_use.result in_use.ensures.0 f h
 
 pub shape_of-requires : goal.shape_of-requires
 shape_of-requires c =
@@ -64,4 +65,4 @@ returns c =
     let l = sym is-broken.ensures ∙ if1.false in
     let f = sym survey.ensures.0 ∙ if2.false in
     let h = rw count.ensures at if3.false in
-    read_given a.page.now a.names.now a.lent a.t l in_use.result in_use.ensures.0 f h c.shape_of.result c.shape_of.ensures
+    read_given a.page.now (option_copied a.names) a.t l in_use.result in_use.ensures.0 f h c.shape_of.result c.shape_of.ensures

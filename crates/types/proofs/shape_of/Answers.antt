@@ -15,4 +15,4 @@ returns c =
     let arity = c.arity in
     let a = c.args in
     let d = depth-in.ensures.0 ∙ depth_read a.page.now a.tables.now.offsets a.tables.now.depths c.requires.measured a.t c.requires.t_bound in
-    rw (kind-of.ensures, d, arity.ensures.0, c.children_of.ensures, c.name_or_zero.ensures, c.store-store.ensures.0) refl
+    rw (kind-of.ensures, d, arity.ensures.0, c.children_of.ensures, c.name_if_any.ensures, c.store-store.ensures.0) refl

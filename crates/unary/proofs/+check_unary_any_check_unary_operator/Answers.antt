@@ -2,15 +2,15 @@ use Rattle.std.proofs.lemmas.Result.{err_from_is_err_and}
 use mathlib.Core.Path.{sym, ◌∙◌, ap, refl}
 use borrow.Author.Rules.{rules}
 use native.Mathlib.Omega.{arith}
-use Rattle.members.proofs.Flattening.{member_is}
+use Rattle.members.proofs.Flattening.{as_many, place_read, member_is}
 use Rattle.unary.proofs.Checking.{low, done_plain, done_low, done_noted}
 use Rattle.unary.proofs.Checking.{tried_none, member_low, member_works, member_room, tried_next, tried_stop}
 use Rattle.unary.proofs.Checking.{union_asks, union_done}
 use Rattle.kinds.specs.Kinds.{is_union}
 use Rattle.unary.proofs.+check_unary_any_check_unary_operator.Goals as goal
 
-pub check_unary_any-loop-i-init : goal.check_unary_any-loop-i-init
-check_unary_any-loop-i-init t c =
+pub check_unary_any-loop-x-init : goal.check_unary_any-loop-x-init
+check_unary_any-loop-x-init t c =
     tried_none c.requires.working c.requires.t_value (rw c.store.ensures.0 at c.flatten-n.ensures.0) _ refl
 
 pub check_unary_any-check_unary_operator-requires : goal.check_unary_any-check_unary_operator-requires
@@ -18,82 +18,86 @@ check_unary_any-check_unary_operator-requires t c =
     let a = c.args in
     let w = c.requires.working in
     let h = c.requires.t_value in
-    let l = c.loop-i in
+    let l = c.loop-x in
     let flat = c.flatten-n in
-    let is = member_is a.page.now a.t flat.result _ (rw c.store.ensures.0 at flat.ensures) l.i c.member_at-x.result c.loop-i-test.true c.member_at-x.ensures in
-    let m-low = member_low w h (rw c.store.ensures.0 at flat.ensures.0) l.invariant c.loop-i-test.true is in
-    (omega (arith, m-low, c.decreases), member_works w h (rw c.store.ensures.0 at flat.ensures.0) l.invariant c.loop-i-test.true is)
+    let read = place_read a.page.now a.t flat.result _ (rw c.store.ensures.0 at flat.ensures) l.x-index c.from-x.result c.loop-x-test.true c.from-x.ensures in
+    let is = member_is a.page.now a.t flat.result _ (rw c.store.ensures.0 at flat.ensures) l.x-index c.from-x.result read.0 read.1 in
+    let m-low = member_low w h (rw c.store.ensures.0 at flat.ensures.0) l.invariant read.0 is in
+    (omega (arith, m-low, c.decreases), member_works w h (rw c.store.ensures.0 at flat.ensures.0) l.invariant read.0 is)
 
 pub check_unary_any-returns-in_err-r-clause-page_after : goal.check_unary_any-returns-in_err-r-clause-page_after
 check_unary_any-returns-in_err-r-clause-page_after t c =
     let a = c.args in
     let w = c.requires.working in
     let h = c.requires.t_value in
-    let l = c.loop-i in
+    let l = c.loop-x in
     let flat = c.flatten-n in
-    let is = member_is a.page.now a.t flat.result _ (rw c.store.ensures.0 at flat.ensures) l.i c.member_at-x.result c.loop-i-test.true c.member_at-x.ensures in
+    let read = place_read a.page.now a.t flat.result _ (rw c.store.ensures.0 at flat.ensures) l.x-index c.from-x.result c.loop-x-test.true c.from-x.ensures in
+    let is = member_is a.page.now a.t flat.result _ (rw c.store.ensures.0 at flat.ensures) l.x-index c.from-x.result read.0 read.1 in
     let p = err_from_is_err_and c.from_residual.result c.from_residual.ensures.1 in
-    rw (p.1, p.2) (rw c.in_err-r.was at (tried_stop w h (rw c.store.ensures.0 at flat.ensures.0) l.invariant c.loop-i-test.true is (c.check_unary_operator.ensures.page_after, c.check_unary_operator.ensures.measured) c.in_err-r.was).0)
+    rw (p.1, p.2) (rw c.in_err-r.was at (tried_stop w h (rw c.store.ensures.0 at flat.ensures.0) l.invariant read.0 is (c.check_unary_operator.ensures.page_after, c.check_unary_operator.ensures.measured) c.in_err-r.was).0)
 
 pub check_unary_any-merge-k-requires : goal.check_unary_any-merge-k-requires
 check_unary_any-merge-k-requires t c =
     let a = c.args in
     let w = c.requires.working in
     let h = c.requires.t_value in
-    let l = c.loop-i in
+    let l = c.loop-x in
     let flat = c.flatten-n in
-    let is = member_is a.page.now a.t flat.result _ (rw c.store.ensures.0 at flat.ensures) l.i c.member_at-x.result c.loop-i-test.true c.member_at-x.ensures in
-    let works = member_works w h (rw c.store.ensures.0 at flat.ensures.0) l.invariant c.loop-i-test.true is in
+    let read = place_read a.page.now a.t flat.result _ (rw c.store.ensures.0 at flat.ensures) l.x-index c.from-x.result c.loop-x-test.true c.from-x.ensures in
+    let is = member_is a.page.now a.t flat.result _ (rw c.store.ensures.0 at flat.ensures) l.x-index c.from-x.result read.0 read.1 in
+    let works = member_works w h (rw c.store.ensures.0 at flat.ensures.0) l.invariant read.0 is in
     let r-low = done_low works (c.check_unary_operator.ensures.page_after, c.check_unary_operator.ensures.measured) c.in_ok-r.was in
-    (l.invariant.places, member_room w h (rw c.store.ensures.0 at flat.ensures.0) l.invariant c.loop-i-test.true is, r-low)
+    (l.invariant.places, member_room w h (rw c.store.ensures.0 at flat.ensures.0) l.invariant read.0 is, r-low)
 
-pub check_unary_any-loop-i-preserved : goal.check_unary_any-loop-i-preserved
-check_unary_any-loop-i-preserved t c =
+pub check_unary_any-loop-x-preserved : goal.check_unary_any-loop-x-preserved
+check_unary_any-loop-x-preserved t c =
     let a = c.args in
     let w = c.requires.working in
     let h = c.requires.t_value in
-    let l = c.loop-i in
+    let l = c.loop-x in
     let flat = c.flatten-n in
-    let is = member_is a.page.now a.t flat.result _ (rw c.store.ensures.0 at flat.ensures) l.i c.member_at-x.result c.loop-i-test.true c.member_at-x.ensures in
-    tried_next w h (rw c.store.ensures.0 at flat.ensures.0) l.invariant c.loop-i-test.true is (c.check_unary_operator.ensures.page_after, c.check_unary_operator.ensures.measured) c.in_ok-r.was c.merge-k.ensures
+    let read = place_read a.page.now a.t flat.result _ (rw c.store.ensures.0 at flat.ensures) l.x-index c.from-x.result c.loop-x-test.true c.from-x.ensures in
+    let is = member_is a.page.now a.t flat.result _ (rw c.store.ensures.0 at flat.ensures) l.x-index c.from-x.result read.0 read.1 in
+    tried_next w h (rw c.store.ensures.0 at flat.ensures.0) l.invariant read.0 is (c.check_unary_operator.ensures.page_after, c.check_unary_operator.ensures.measured) c.in_ok-r.was c.merge-k.ensures
 
 pub check_unary_any-enter_union-requires-clause-measured : goal.check_unary_any-enter_union-requires-clause-measured
 check_unary_any-enter_union-requires-clause-measured t c =
-    let a = c.args in
     let w = c.requires.working in
     let h = c.requires.t_value in
-    let l = c.loop-i in
+    let l = c.loop-x in
     let flat = c.flatten-n in
-    (union_asks w h (rw c.store.ensures.0 at flat.ensures.0) l.invariant c.loop-i-test.false).0
+    let end = rw (as_many c.args.page.now c.args.t flat.result _ (rw c.store.ensures.0 at flat.ensures)) at c.loop-x-test.false in
+    (union_asks w h (rw c.store.ensures.0 at flat.ensures.0) l.invariant end).0
 
 pub check_unary_any-enter_union-requires-clause-n_nonzero : goal.check_unary_any-enter_union-requires-clause-n_nonzero
 check_unary_any-enter_union-requires-clause-n_nonzero t c =
-    let a = c.args in
     let w = c.requires.working in
     let h = c.requires.t_value in
-    let l = c.loop-i in
+    let l = c.loop-x in
     let flat = c.flatten-n in
-    (union_asks w h (rw c.store.ensures.0 at flat.ensures.0) l.invariant c.loop-i-test.false).1
+    let end = rw (as_many c.args.page.now c.args.t flat.result _ (rw c.store.ensures.0 at flat.ensures)) at c.loop-x-test.false in
+    (union_asks w h (rw c.store.ensures.0 at flat.ensures.0) l.invariant end).1
 
 pub check_unary_any-returns-clause-page_after : goal.check_unary_any-returns-clause-page_after
 check_unary_any-returns-clause-page_after t c =
-    let a = c.args in
     let w = c.requires.working in
     let h = c.requires.t_value in
-    let l = c.loop-i in
+    let l = c.loop-x in
     let flat = c.flatten-n in
+    let end = rw (as_many c.args.page.now c.args.t flat.result _ (rw c.store.ensures.0 at flat.ensures)) at c.loop-x-test.false in
     let e = c.enter_union.ensures in
-    (union_done w h (rw c.store.ensures.0 at flat.ensures.0) l.invariant c.loop-i-test.false e.page_after e.measured_2).0
+    (union_done w h (rw c.store.ensures.0 at flat.ensures.0) l.invariant end e.page_after e.measured_2).0
 
 pub check_unary_any-returns-clause-measured : goal.check_unary_any-returns-clause-measured
 check_unary_any-returns-clause-measured t c =
-    let a = c.args in
     let w = c.requires.working in
     let h = c.requires.t_value in
-    let l = c.loop-i in
+    let l = c.loop-x in
     let flat = c.flatten-n in
+    let end = rw (as_many c.args.page.now c.args.t flat.result _ (rw c.store.ensures.0 at flat.ensures)) at c.loop-x-test.false in
     let e = c.enter_union.ensures in
-    (union_done w h (rw c.store.ensures.0 at flat.ensures.0) l.invariant c.loop-i-test.false e.page_after e.measured_2).1
+    (union_done w h (rw c.store.ensures.0 at flat.ensures.0) l.invariant end e.page_after e.measured_2).1
 
 pub check_unary_operator-returns-then-not-is_union-clause-page_after : goal.check_unary_operator-returns-then-not-is_union-clause-page_after
 check_unary_operator-returns-then-not-is_union-clause-page_after t c =

@@ -8,5 +8,5 @@ decreases-check_unary_any l = 2 * l.t
 abbrev pub decreases-check_unary_operator : goal.decreases-check_unary_operator
 decreases-check_unary_operator l = 2 * l.t + 1
 
-abbrev pub invariant-check_unary_any-loop-i : goal.invariant-check_unary_any-loop-i
-invariant-check_unary_any-loop-i l = Trying l.initial.page l.t l.n l.i l.k l.results l.page l.tables.offsets l.tables.depths l.done
+abbrev pub invariant-check_unary_any-loop-x : goal.invariant-check_unary_any-loop-x
+invariant-check_unary_any-loop-x l = Trying l.initial.page l.t l.n l.x-index l.k l.results l.page l.tables.offsets l.tables.depths l.done

@@ -1,8 +1,6 @@
-use mathlib.Core.Path.{◌≡◌}
 use Prim.Native.Nat.{◌≤◌}
-use Rattle.members.specs.Trials.{failures}
-use Rattle.unary.specs.Unary.{failing}
+use Rattle.unary.proofs.Failing.{Counted}
 use Rattle.unary.proofs.any_errors.Given as goal
 
-abbrev pub invariant-loop-i : goal.invariant-loop-i
-invariant-loop-i l = (l.count ≤ l.i) × (failures l.count l.first 0 ≡ failing l.store.page.now l.op l.t l.i)
+abbrev pub invariant-loop-x : goal.invariant-loop-x
+invariant-loop-x l = (l.count ≤ l.x-index) × Counted l.leafed.store.page.now l.op l.t l.x-index l.count l.first

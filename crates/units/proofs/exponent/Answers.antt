@@ -1,44 +1,52 @@
-use mathlib.Core.Path.{sym, ◌∙◌}
+use mathlib.Core.Path.{◌≡◌, sym, ◌∙◌}
+use Rattle.std.proofs.Common.{rules, tests, arith, true, Bool, eqb, ℕ, ◌<◌, MatchOption}
+use lib.ListN.{take}
+use borrow.Author.Tests.{eqb-true}
+use Rattle.std.proofs.lemmas.Iterator.{YieldsList-from_slice}
+use Rattle.std.proofs.lemmas.Iterator.Search.{position_from_yields_List}
 use Rattle.names.specs.Table.{names_max}
-use Rattle.units.specs.Unit.{places_max}
-use Rattle.units.proofs.Signed.{back}
-use Rattle.units.proofs.Form.{exp_at}
+use Rattle.pages.specs.Quant.{first_to}
+use Rattle.pages.proofs.Quant.{found_taken, first_found, first_missed}
+use Rattle.units.specs.Unit.{places_max, formed}
+use Rattle.units.specs.Calls.{terms_of}
+use Rattle.units.proofs.Signed.{inside_back}
+use Rattle.units.proofs.Form.{Places, sym_at, exp_at, formed_count, formed_inside}
 use Rattle.units.proofs.Held.{places_of}
-use Rattle.units.proofs.Calls.{exponent_refused, exponent_given, seeking_start, sought_absent, sought_found, seeking_next}
+use Rattle.units.proofs.Calls.{exponent_refused, exponent_given, seeking_start, sought_absent, sought_found, seeking_to}
 use Rattle.units.proofs.exponent.Goals as goal
 
+abbrev has : Places → ℕ → ℕ → Bool
+has u s j = eqb (sym_at u j) s
+
 pub returns-then-not-is_formed : goal.returns-then-not-is_formed
-returns-then-not-is_formed c =
-    let is-formed = c.is_formed in
-    exponent_refused c.args.u c.args.symbol (sym is-formed.ensures ∙ c.if-not-is_formed.true)
+returns-then-not-is_formed c = exponent_refused c.args.u c.args.symbol (sym c.is_formed.ensures ∙ c.if-not-is_formed.true)
 
-pub loop-i-init : goal.loop-i-init
-loop-i-init c =
-    let is-formed = c.is_formed in
-    seeking_start places_max names_max (places_of c.args.u) c.args.symbol (sym is-formed.ensures ∙ c.if-not-is_formed.false)
+pub shared_ref_as_front-iter : goal.shared_ref_as_front-iter
+shared_ref_as_front-iter c = formed_count places_max names_max (places_of c.args.u) (sym c.is_formed.ensures ∙ c.if-not-is_formed.false)
 
-pub returns-then-u-i : goal.returns-then-u-i
-returns-then-u-i c =
-    let is-formed = c.is_formed in
-    let if1 = c.if-not-is_formed in
-    let loop = c.loop-i in
-    let loop-test = c.loop-i-test in
+pub returns-in-Some : goal.returns-in-Some
+returns-in-Some c =
     let u = places_of c.args.u in
-    let l = loop in
-    exponent_given c.args.u c.args.symbol _ (sym is-formed.ensures ∙ if1.false)
-    (back (exp_at u l.i) c.result-1.given ∙ sought_found places_max u c.args.symbol l.i l.invariant loop-test.true c.if-u-i.true)
+    let s = c.args.symbol in
+    let form : formed places_max names_max (terms_of c.args.u) ≡ true = sym c.is_formed.ensures ∙ c.if-not-is_formed.false in
+    let few = formed_count places_max names_max u form in
+    let place = position_from_yields_List (λ x. eqb x s) _ _ _ c.position.ensures.ran (YieldsList-from_slice (take u.count u.symbols) cc) (λ x b q h. search (rules, tests)) in
+    let told : MatchOption c.position.result (first_to u.count (has u s) ≡ u.count) (λ (i : ℕ). (i < u.count) × (i ≡ first_to u.count (has u s))) = found_taken (λ x. eqb x s) 0 u.count u.symbols c.position.result (search rules) place in
+    let found = rw c.in-Some.is at told in
+    let first = first_found (has u s) u.count (rw found.1 at found.0) in
+    let at = rw (← found.1) at first in
+    let seeking = seeking_to places_max u s c.in-Some.i (seeking_start places_max names_max u s form) (omega (arith, found.0)) at.0 in
+    exponent_given c.args.u s _ form (inside_back (exp_at u c.in-Some.i) (formed_inside places_max names_max u form c.in-Some.i found.0) ∙ sought_found places_max u s c.in-Some.i seeking found.0 (eqb-true _ _ at.1))
 
-pub loop-i-preserved : goal.loop-i-preserved
-loop-i-preserved c =
-    let loop = c.loop-i in
-    let loop-test = c.loop-i-test in
-    let l = loop in
-    seeking_next places_max (places_of c.args.u) c.args.symbol l.i l.invariant loop-test.true c.if-u-i.false
-
-pub returns : goal.returns
-returns c =
-    let is-formed = c.is_formed in
-    let if1 = c.if-not-is_formed in
-    let l = c.loop-i in
-    exponent_given c.args.u c.args.symbol _ (sym is-formed.ensures ∙ if1.false)
-    (sought_absent places_max (places_of c.args.u) c.args.symbol l.i l.invariant c.loop-i-test.false)
+pub returns-in-None : goal.returns-in-None
+returns-in-None c =
+    let u = places_of c.args.u in
+    let s = c.args.symbol in
+    let form : formed places_max names_max (terms_of c.args.u) ≡ true = sym c.is_formed.ensures ∙ c.if-not-is_formed.false in
+    let few = formed_count places_max names_max u form in
+    let place = position_from_yields_List (λ x. eqb x s) _ _ _ c.position.ensures.ran (YieldsList-from_slice (take u.count u.symbols) cc) (λ x b q h. search (rules, tests)) in
+    let told : MatchOption c.position.result (first_to u.count (has u s) ≡ u.count) (λ (i : ℕ). (i < u.count) × (i ≡ first_to u.count (has u s))) = found_taken (λ x. eqb x s) 0 u.count u.symbols c.position.result (search rules) place in
+    let missed = rw c.in-None.is at told in
+    let none = first_missed (has u s) u.count (omega (arith, missed)) in
+    let seeking = seeking_to places_max u s u.count (seeking_start places_max names_max u s form) (omega arith) none in
+    exponent_given c.args.u s _ form (sought_absent places_max u s u.count seeking (omega arith))

@@ -4,8 +4,8 @@ use Rattle.units.proofs.Merge.{Stand}
 use Rattle.units.proofs.Held.{places_of, kind}
 use Rattle.units.proofs.merged.Given as goal
 
-abbrev pub invariant-loop-i : goal.invariant-loop-i
-invariant-loop-i l = Stand kind places_max l.quotient (places_of l.a) (places_of l.b) l.w l.i l.j
+abbrev pub invariant-loop-s : goal.invariant-loop-s
+invariant-loop-s l = Stand kind places_max l.quotient (places_of l.a) (places_of l.b) l.w l.i l.j
 
-abbrev pub decreases-loop-i : goal.decreases-loop-i
-decreases-loop-i l = (l.n - l.i) + (l.m - l.j)
+abbrev pub decreases-loop-s : goal.decreases-loop-s
+decreases-loop-s l = (l.a.count - l.i) + (l.b.count - l.j)
