@@ -1,7 +1,7 @@
 -- A bucket's chain, walked from its last thing back: a test that only things of the bucket pass is passed by one of the first n things
 -- exactly if one of the chain passes. Assumes nothing.
 use mathlib.Core.Path.{◌≡◌, refl, sym, ◌∙◌, ap}
-use mathlib.Core.Bool.{Bool, true, false, cond}
+use mathlib.Core.Bool.{Bool, true, false, ◌||◌, cond}
 use mathlib.Core.List.{List}
 use Prim.Native.Nat.{ℕ, zero, suc, ◌<◌, ◌≤◌}
 use native.Mathlib.Omega.{arith}
@@ -11,7 +11,7 @@ use lib.Dec.{eqb}
 use borrow.Author.Tests.{eq-eqb, eqb-true, eqb-false}
 use Rattle.pages.specs.Quant.{any_to}
 use Rattle.pages.proofs.Quant.{any_none, any_found}
-use Rattle.chains.specs.Last.{last_below, Links, Descends, AnyLinked}
+use Rattle.chains.specs.Last.{last_below, Links, Descends, any_of, any_linked}
 
 alone : (a : Bool) → cond a true false ≡ a
 alone true = refl
@@ -84,36 +84,56 @@ module _ (bucket : ℕ → ℕ) (b : ℕ) where
           let any : any_to n p ≡ any_to k p = w.2 ∙ rw (e, h) (alone (any_to k p)) in
           rw g (omega arith, (omega arith, last_last k, any ∙ any_last k))
 
--- ---- a walk along links that asks a test, for each bucket and test that it may be about
+-- ---- a walk along links, by a test
+
+module _ (links : List ℕ) (p : ℕ → Bool) where
+  -- as many steps as where a walk stands are enough
+  enough : ((j : ℕ) → j < length links → get_or links j 0 ≤ j) → (n m next : ℕ) → next ≤ n → next ≤ m → next ≤ length links → any_of n links p next ≡ any_of m links p next
+  unfolding any_of
+  enough d zero zero next h i l = refl
+  enough d zero (suc m) zero h i l = refl
+  enough d zero (suc m) (suc k) h i l = absurd (omega arith)
+  enough d (suc n) zero zero h i l = refl
+  enough d (suc n) zero (suc k) h i l = absurd (omega arith)
+  enough d (suc n) (suc m) zero h i l = refl
+  enough d (suc n) (suc m) (suc k) h i l =
+      let b = d k (omega arith) in
+      ap (λ (x : Bool). p k || x) (enough d n m (get_or links k 0) (omega (arith, b)) (omega (arith, b)) (omega (arith, b)))
 
 module _ (says : ℕ → Bool → Type 0) (links : List ℕ) (head : ℕ) where
+  abbrev pub Answers : Bool → Type 0
+  Answers found = (p : ℕ → Bool) → ((k : ℕ) (r : Bool) → k < length links → says k r → r ≡ p k) → found ≡ any_linked links p head
+
   abbrev pub Walking : ℕ → Type 0
   Walking next =
       (next ≤ length links)
-      × ((bucket : ℕ → ℕ) (b : ℕ) (p : ℕ → Bool) → Links bucket links (length links) → head ≡ last_below bucket (length links) b
-      → (same : (j : ℕ) → p j ≡ true → bucket j ≡ b) → ((k : ℕ) (r : Bool) → k < length links → says k r → r ≡ p k) → Walk bucket b p same (length links) next)
+      × ((p : ℕ → Bool) → ((k : ℕ) (r : Bool) → k < length links → says k r → r ≡ p k) → any_linked links p next ≡ any_linked links p head)
 
   pub walking_start : Descends links head → Walking head
-  walking_start d = (d.head_in, λ bucket b p l e same t. walk_start bucket b p same (length links) head e)
+  walking_start d = (d.head_in, λ p t. refl)
 
-  pub walking_end : (next : ℕ) → next ≡ 0 → Walking next → AnyLinked says links head false
-  walking_end next z w bucket b p l e same t = sym (walk_end bucket b p same (length links) next (w.1 bucket b p l e same t) z)
+  pub walking_end : (next : ℕ) → next ≡ 0 → Walking next → Answers false
+  unfolding any_of
+  walking_end next z w p t = rw z at (w.1 p t)
 
   module _ (d : Descends links head) (next k : ℕ) (z : next ≡ suc k) (w : Walking next) where
     inside : k < length links
     inside = omega (arith, w.0)
 
-    pub walking_found : says k true → AnyLinked says links head true
-    walking_found s bucket b p l e same t =
-        sym (walk_found bucket b p same (length links) next k (w.1 bucket b p l e same t) z (sym (t k true inside s)))
+    pub walking_found : says k true → Answers true
+    unfolding any_of
+    walking_found s p t = rw (z, sym (t k true inside s)) at (w.1 p t)
 
     pub walking_before : (r : ℕ) → r ≡ get_or links k 0 → r < next
     walking_before r f = omega (arith, d.before k inside)
 
     pub walking_on : says k false → (r : ℕ) → r ≡ get_or links k 0 → Walking r
+    unfolding any_of
     walking_on s r f = (
       omega (arith, walking_before r f, w.0),
-      λ bucket b p l e same t. (walk_on bucket b p same (length links) next k (w.1 bucket b p l e same t) z (sym (t k false inside s)) links l r f).1,
+      λ p t.
+          let b = d.before k inside in
+          rw f (enough links p d.before (get_or links k 0) k (get_or links k 0) (omega arith) (omega (arith, b)) (omega (arith, b, inside))) ∙ (rw (z, sym (t k false inside s)) at (w.1 p t)),
     )
 
 -- ---- what a walk along the links of the first n things answers
@@ -135,8 +155,20 @@ module _ (bucket : ℕ → ℕ) (links : List ℕ) (n : ℕ) (l : Links bucket l
       before = λ j k. omega (arith, linked j k, last_le bucket (bucket j) j);
     }
 
-    pub any_walked : (says : ℕ → Bool → Type 0) (found : Bool) → AnyLinked says (take n links) head found → (p : ℕ → Bool) → ((j : ℕ) → p j ≡ true → bucket j ≡ b)
+    pub any_walked : (says : ℕ → Bool → Type 0) (found : Bool) → Answers says (take n links) head found → (p : ℕ → Bool) → ((j : ℕ) → p j ≡ true → bucket j ≡ b)
         → ((k : ℕ) (r : Bool) → k < n → says k r → r ≡ p k) → found ≡ any_to n p
-    any_walked says found a p same t =
-        a bucket b p linked (e ∙ ap (λ (m : ℕ). last_below bucket m b) (sym taken)) same (λ k r i s. t k r (omega (arith, taken)) s)
-        ∙ ap (λ (m : ℕ). any_to m p) taken
+    unfolding any_of
+    any_walked says found a p same t = a p (λ k r i s. t k r (omega (arith, taken)) s) ∙ go head head (omega arith) (walk_start bucket b p same n head e)
+      where
+        go : (steps next : ℕ) → next ≤ steps → Walk bucket b p same n next → any_of steps (take n links) p next ≡ any_to n p
+        go zero next i w = sym (walk_end bucket b p same n next w (omega arith))
+        go (suc steps) zero i w = sym (walk_end bucket b p same n 0 w refl)
+        go (suc steps) (suc k) i w =
+            let back = get_or (take n links) k 0 in
+            let next : p k ≡ false → (back < suc k) × Walk bucket b p same n back = λ f. walk_on bucket b p same n (suc k) k w refl f links l back (same_links k (omega (arith, w.0))) in
+            on (p k) refl (λ f. go steps back (omega (arith, (next f).0)) (next f).1)
+          where
+            on : (x : Bool) → p k ≡ x → (p k ≡ false → any_of steps (take n links) p (get_or (take n links) k 0) ≡ any_to n p)
+                → (x || any_of steps (take n links) p (get_or (take n links) k 0)) ≡ any_to n p
+            on true f rest = sym (walk_found bucket b p same n (suc k) k w refl f)
+            on false f rest = rest f

@@ -1,6 +1,5 @@
 -- Numbered things in buckets: the last of the first i things in a bucket, and the tables that hold it.
-use Rattle.std.specs.Prelude.{Bool, true, cond, List, ◌≡◌, ℕ, zero, suc, ◌<◌, ◌≤◌, length, get_or, eqb}
-use Rattle.pages.specs.Quant.{any_to}
+use Rattle.std.specs.Prelude.{Bool, false, ◌||◌, cond, List, ◌≡◌, ℕ, zero, suc, ◌<◌, ◌≤◌, length, get_or, eqb}
 
 -- one more than the last of the first i things that is in bucket b, or 0 where none is
 unfoldable pub last_below : (ℕ → ℕ) → ℕ → ℕ → ℕ
@@ -20,9 +19,12 @@ pub record Descends (links : List ℕ) (head : ℕ) : Type 0 where
   pub head_in : head ≤ length links
   pub before : (j : ℕ) → j < length links → get_or links j 0 ≤ j
 
--- What a walk answers that asks a test of the things of a bucket: whether any thing passes p, where the test says what p says, and only
--- things of the bucket pass.
-abbrev pub AnyLinked : (ℕ → Bool → Type 0) → List ℕ → ℕ → Bool → Type 0
-AnyLinked says links head found =
-    (bucket : ℕ → ℕ) (b : ℕ) (p : ℕ → Bool) → Links bucket links (length links) → head ≡ last_below bucket (length links) b
-    → ((j : ℕ) → p j ≡ true → bucket j ≡ b) → ((k : ℕ) (r : Bool) → k < length links → says k r → r ≡ p k) → found ≡ any_to (length links) p
+-- does p pass one of the things of the chain that begins at the one before `next`, of the first so many
+unfoldable pub any_of : ℕ → List ℕ → (ℕ → Bool) → ℕ → Bool
+any_of zero links p next = false
+any_of (suc steps) links p zero = false
+any_of (suc steps) links p (suc k) = p k || any_of steps links p (get_or links k 0)
+
+-- does p pass one of the things of the chain; no chain is longer than where it begins
+abbrev pub any_linked : List ℕ → (ℕ → Bool) → ℕ → Bool
+any_linked links p head = any_of head links p head

@@ -3,8 +3,8 @@
 // places are arrays, since there is no heap for a map.
 #![tactic(auto)]
 
-ghost use Rattle.std.specs.Prelude.{◌≡◌, ℕ, ◌+◌, ◌<◌, length, get_or, set, replicate};
-ghost use Rattle.chains.specs.Last.{Descends, AnyLinked};
+ghost use Rattle.std.specs.Prelude.{◌≡◌, ℕ, ◌+◌, ◌<◌, length, get_or, set, replicate, Bool};
+ghost use Rattle.chains.specs.Last.{Descends, any_linked};
 ghost use Rattle.chains.specs.Prints.{prints_max, print_of};
 
 // Puts thing i into a bucket, before the things that are there.
@@ -20,7 +20,7 @@ pub fn link(heads: &mut [u16], links: &mut [u16], bucket: usize, i: usize)
 pub fn any_linked<F: Fn(usize) -> bool>(links: &[u16], head: usize, test: F) -> bool
     requires linked { Descends links.now head }
     requires callable { (k : ℕ) → k < length links.now → F.pre test k }
-    ensures { AnyLinked (λ k r. F.post test k r) links.now head result }
+    ensures { (p : ℕ → Bool) → ((k : ℕ) (r : Bool) → k < length links.now → F.post test k r → r ≡ p k) → result ≡ any_linked links.now p head }
 {
     let mut next = head;
     while let Some(k) = next.checked_sub(1) {
