@@ -17,12 +17,14 @@ use Rattle.names.specs.Calls.{used_of}
 use Rattle.types.specs.Store.{Formed}
 use Rattle.types.specs.Types.{types_in}
 use Rattle.types.specs.Making.{Grows}
-use Rattle.types.specs.Calls.{store_broken}
+use Rattle.types.specs.Calls.{store_broken, opened_answer}
+use Rattle.types.proofs.Calls.{unbroken_both, opened_err}
 use Rattle.matching.specs.Matching as matching
 use Rattle.matching.specs.declared.Checked.{Checked}
 use Rattle.units.specs.Unit.{in_use}
 use Rattle.units.specs.Calls.{present}
-use Rattle.pairs.specs.Calls.{table_broken}
+use Rattle.pairs.specs.Calls.{table_broken, form_verdict}
+use Rattle.pairs.proofs.Calls.{table_err}
 use Rattle.sums.specs.Calls.{roots_in, or_empty}
 use Rattle.operators.specs.Operators.{is_operator}
 use Rattle.operators.specs.Outcome.{number_of}
@@ -95,8 +97,15 @@ module _ (page : List ℕ) (names : Option (List ℕ)) (pairs : List ℕ) (op : 
       ((Broken when (store_broken page names || table_broken pairs names)) ∷ operand_conditions page (used_of names) left right) refl))
 
   module _ (d : is_operator op ≡ true) where
-    pub binary_broken : (store_broken page names || table_broken pairs names) ≡ true → Err Broken ≡ binary_answer page names pairs op left right
+    binary_broken : (store_broken page names || table_broken pairs names) ≡ true → Err Broken ≡ binary_answer page names pairs op left right
     binary_broken b = binary_refused Broken (rw (d, b) (first_holds Broken (operand_conditions page (used_of names) left right) refl))
+
+    pub binary_unopened : (r : Refusal) → Err r ≡ opened_answer page names → Err r ≡ binary_answer page names pairs op left right
+    binary_unopened r e = let o = opened_err page names r e in rw o.1 (binary_broken (rw o.0))
+
+    pub binary_unformed : store_broken page names ≡ false → (n : ℕ) → n ≡ used_of names → (r : Refusal) → Err r ≡ form_verdict pairs n
+        → Err r ≡ binary_answer page names pairs op left right
+    binary_unformed b n is r e = let t = table_err pairs names (unbroken_both page names b).0 n is r e in rw t.1 (binary_broken (rw (b, t.0)))
 
     module _ (b : store_broken page names ≡ false) (t : table_broken pairs names ≡ false) where
       pub binary_unfit : (r : Refusal) → Err r ≡ lowest (operand_conditions page (used_of names) left right)
@@ -163,8 +172,11 @@ module _ (page : List ℕ) (names : Option (List ℕ)) (op : ℕ) (x : CheckedEx
       (rw d (first_holds Undefined ((Broken when store_broken page names) ∷ operand_conditions page (used_of names) x x) refl))
 
   module _ (d : is_operator op ≡ true) where
-    pub unary_broken : store_broken page names ≡ true → Unary (Err Broken) page
+    unary_broken : store_broken page names ≡ true → Unary (Err Broken) page
     unary_broken b = unary_refused Broken (rw (d, b) (first_holds Broken (operand_conditions page (used_of names) x x) refl))
+
+    pub unary_unopened : (r : Refusal) → Err r ≡ opened_answer page names → Unary (Err r) page
+    unary_unopened r e = let o = opened_err page names r e in rw o.1 (unary_broken o.0)
 
     module _ (b : store_broken page names ≡ false) where
       pub unary_unfit : (r : Refusal) → Err r ≡ lowest (operand_conditions page (used_of names) x x) → Unary (Err r) page
@@ -186,8 +198,11 @@ module _ (page : List ℕ) (names : Option (List ℕ)) (target : CheckedExpr) (k
   unfolding index_answer index_page
   index_refused r v = (rw v refl, rw v refl)
 
-  pub index_broken : store_broken page names ≡ true → Indexed (Err Broken) page
+  index_broken : store_broken page names ≡ true → Indexed (Err Broken) page
   index_broken b = index_refused Broken (rw b (first_holds Broken (operand_conditions page (used_of names) target (keyed key)) refl))
+
+  pub index_unopened : (r : Refusal) → Err r ≡ opened_answer page names → Indexed (Err r) page
+  index_unopened r e = let o = opened_err page names r e in rw o.1 (index_broken o.0)
 
   module _ (b : store_broken page names ≡ false) where
     pub index_unfit : (r : Refusal) → Err r ≡ lowest (operand_conditions page (used_of names) target (keyed key)) → Indexed (Err r) page

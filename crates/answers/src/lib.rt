@@ -4,7 +4,8 @@
 
 ghost use Rattle.std.specs.Prelude.{◌≡◌, true, false, ◌*◌, ◌≤◌, ◌<◌, option_copied};
 ghost use Rattle.refusals.specs.Lowest.{lowest};
-ghost use Rattle.types.specs.Types.{types_in, Measured};
+ghost use Rattle.types.specs.Types.{types_in};
+ghost use Rattle.types.specs.Same.{Same};
 ghost use Rattle.matching.specs.Matching.{in_use};
 ghost use Rattle.marks.specs.Marks.{large_bytes, Noted};
 ghost use Rattle.matching.specs.Memo.{Found};
@@ -18,13 +19,14 @@ ghost use Rattle.indexing.specs.Indexing.{check_index};
 ghost use Rattle.answers.specs.Units.{clashes, adopted_by, or_none, combined, binary_unit};
 ghost use Rattle.answers.specs.Calls.{operand_used, operand_formed, operand_conditions, answered, with_unit, concluded_by, store_after, unary_unit, unary_checked, binary_checked, binary_answer, unary_answer, unary_page, index_answer, index_page};
 
+use binary::Check;
+use groups::Groups;
 use marks::{SMALL, TINY};
 use matching::{Checked, LARGE_MEMO, SMALL_MEMO, TINY_MEMO};
 use members::Leafed;
-use names::Symbol;
 use operators::{Errors, MINUS, Outcome, UnitRule};
 use refusals::Refusal;
-use types::{Store, TYPES, Tables};
+use types::{Maker, Store, TYPES, Tables};
 use units::Unit;
 
 // An operand: a checked type, and a unit or none.
@@ -34,7 +36,7 @@ pub struct CheckedExpr {
     pub unit: Option<Unit>,
 }
 
-// What a call answers: a checked type, a unit or none, and errors.
+// What a call answers: a checked type, a unit or none, and errors. Document 01 lists these three; the first two are an operand's.
 #[derive(Clone, Copy, Debug, PartialEq, Eq)]
 pub struct Answered {
     pub checked: Checked,
@@ -46,35 +48,25 @@ pub struct Answered {
 fn answer(o: Outcome, unit: Option<Unit>) -> Answered
     ensures { result ≡ answered o unit }
 {
-    let checked = o.checked;
-    let errors = o.errors;
     Answered {
-        checked,
+        checked: o.checked,
         unit,
-        errors,
+        errors: o.errors,
     }
 }
 
-// Whether there is no unit, or the empty one.
+// Whether there is no unit, or the empty one: of a unit in form, which `units::is_dimensionless` would test again.
 #[tactic(auto, using(units::proofs::Form::length_terms), unfolding(units::specs::Calls::unitless))]
 fn is_dimensionless(m: Option<Unit>) -> bool
     ensures { result ≡ unitless m }
 {
-    match m {
-        Some(u) => u.count == 0,
-        None => true,
-    }
+    m.is_none_or(|u| u.count == 0)
 }
 
-// Whether two operands' units clash, where so many steps lead from a symbol to its root: `add_unit_mismatch` of the source.
-fn add_unit_mismatch(
-    parents: &[Symbol],
-    steps: usize,
-    left: CheckedExpr,
-    right: CheckedExpr,
-) -> bool
+// Whether two operands' units clash: `add_unit_mismatch` of the source.
+fn add_unit_mismatch(groups: Groups, left: CheckedExpr, right: CheckedExpr) -> bool
     requires { (operand_formed left ≡ true) × (operand_formed right ≡ true) }
-    ensures { result ≡ clashes (walk steps parents.now) left.unit right.unit }
+    ensures { result ≡ clashes (walk groups.entry.steps groups.entry.parents.now) left.unit right.unit }
 {
     if is_dimensionless(left.unit) {
         return false;
@@ -84,7 +76,7 @@ fn add_unit_mismatch(
     }
     let a = sums::or_empty(left.unit);
     let b = sums::or_empty(right.unit);
-    !sums::convertible(parents, steps, a, b)
+    !sums::convertible(groups, a, b)
 }
 
 // The unit of a sum: a unitless side adopts the other's.
@@ -183,24 +175,24 @@ fn operands_verdict(
     Ok(())
 }
 
-// What a binary operator answers for two operands in use, by the parents of symbols and the leaves of types, for crates above
+// What a binary operator answers for two operands in use, by the groups of symbols and the leaves of types, for crates above
 // (`check_binary_operator` is the entry call, and tests the forms).
 pub fn binary_checked(
     leafed: Leafed<'_, 2>,
-    parents: &[Symbol],
-    steps: usize,
+    groups: Groups,
     op: usize,
     left: CheckedExpr,
     right: CheckedExpr,
 ) -> Result<Answered, Refusal>
     requires left_used { (in_use leafed.store.page.now left.checked ≡ true) × (in_use leafed.store.page.now right.checked ≡ true) }
     requires left_value { (operand_formed left ≡ true) × (operand_formed right ≡ true) }
-    ensures { result ≡ binary_checked leafed.entry.store.page.now (walk steps parents.now) op left right }
+    ensures { result ≡ binary_checked leafed.entry.store.page.now (walk groups.entry.steps groups.entry.parents.now) op left right }
 {
-    let clash = add_unit_mismatch(parents, steps, left, right);
+    let clash = add_unit_mismatch(groups, left, right);
     let l = left.checked;
     let r = right.checked;
-    let o = binary::check_binary(leafed, op, clash, l, r);
+    let check = Check { leafed, op, clash };
+    let o = check.check_binary(l, r);
     with_unit(o, binary_unit(op, left.unit, right.unit))
 }
 
@@ -219,21 +211,19 @@ pub fn check_binary_operator(
         return Err(Refusal::Undefined);
     }
     let mut tables = Tables::new();
-    if !types::opened(page, names, &mut tables) {
-        return Err(Refusal::Broken);
-    }
-    if pairs::is_broken(table, names) {
-        return Err(Refusal::Broken);
-    }
-    let n = names::in_use(names);
+    let n = types::opened(page, names, &mut tables)?;
+    pairs::form_verdict(table, n)?;
     let store = tables.store(page);
     operands_verdict(store, n, left, right)?;
     let mut leaves = [0; TYPES];
     members::fill_leaves::<2>(store, &mut leaves, 0);
     let parents = pairs::parents_of(table);
-    let steps = pages::count(table);
+    let groups = Groups {
+        parents: &parents,
+        steps: pages::count(table),
+    };
     let leafed = Leafed::new(store, &leaves);
-    binary_checked(leafed, &parents, steps, op, left, right)
+    binary_checked(leafed, groups, op, left, right)
 }
 
 // The unit of an operator's answer on one operand with that unit: − keeps it, unless its answer is a union.
@@ -270,32 +260,31 @@ fn unary_answer(
     answer(outcome, unary_unit(store, op, outcome, unit))
 }
 
-// What an operator answers for one operand in use; a union that it answers enters the store. The tables stay right for the store
-// that it leaves. For crates above (`check_unary_operator` is the entry call, and tests the forms).
+// What an operator answers for one operand in use; a union that it answers enters the store. The leaves stay right for the store that it
+// leaves; they stand beside it, as a `Leafed` has a store that nobody writes. For crates above (`check_unary_operator` is the entry call,
+// and tests the forms).
 pub fn unary_checked(
-    page: &mut [u8],
-    tables: &mut Tables,
+    maker: &mut Maker,
     leaves: &mut [u16],
     op: usize,
     x: CheckedExpr,
 ) -> Result<Answered, Refusal>
-    requires measured { Measured page.old tables.old.offsets tables.old.depths }
-    requires leaves { Leaves true page.old leaves.old (types_in page.old) }
-    requires op_value { (is_operator op ≡ true) × (in_use page.old x.checked ≡ true) }
-    ensures value { result ≡ unary_checked (check_unary page.old op x.checked) op x.unit }
-    ensures page_after { page.new ≡ store_after (check_unary page.old op x.checked) page.old }
-    ensures measured_2 { Measured page.new tables.new.offsets tables.new.depths }
-    ensures leaves_2 { Leaves true page.new leaves.new (types_in page.new) }
+    requires leaves { Leaves true maker.old.page.now leaves.old (types_in maker.old.page.now) }
+    requires op_value { (is_operator op ≡ true) × (in_use maker.old.page.now x.checked ≡ true) }
+    ensures value { result ≡ unary_checked (check_unary maker.old.page.now op x.checked) op x.unit }
+    ensures page_after { maker.new.page.now ≡ store_after (check_unary maker.old.page.now op x.checked) maker.old.page.now }
+    ensures leaves_2 { Leaves true maker.new.page.now leaves.new (types_in maker.new.page.now) }
+    ensures same { Same maker.new maker.old }
 {
-    let store = tables.store(page);
+    let store = maker.store();
     let front = store.front();
     let n = store.count();
     let end = store.place_of(n);
-    let conclusion = unary::check_unary(page, tables, leaves, op, x.checked);
+    let conclusion = unary::check_unary(maker, leaves, op, x.checked);
     match conclusion {
-        Ok(o) => Ok(unary_answer(tables.store(page), leaves, n, op, o, x.unit)),
+        Ok(o) => Ok(unary_answer(maker.store(), leaves, n, op, o, x.unit)),
         Err(r) => {
-            types::take_back(page, front, end);
+            types::take_back(maker.page, front, end);
             Err(r)
         }
     }
@@ -314,76 +303,69 @@ pub fn check_unary_operator(
         return Err(Refusal::Undefined);
     }
     let mut tables = Tables::new();
-    if !types::opened(page, names, &mut tables) {
-        return Err(Refusal::Broken);
-    }
-    let n = names::in_use(names);
+    let n = types::opened(page, names, &mut tables)?;
     let store = tables.store(page);
     operands_verdict(store, n, x, x)?;
     let mut leaves = [0; TYPES];
     members::fill_leaves::<1>(store, &mut leaves, 0);
-    unary_checked(page, &mut tables, &mut leaves, op, x)
+    let mut maker = Maker {
+        page,
+        tables: &mut tables,
+    };
+    unary_checked(&mut maker, &mut leaves, op, x)
 }
 
-// What indexing a target in use by a key in use answers; a union that it answers enters the store. The tables, and what matching
-// has found, stay right for the store that it leaves. For crates above (`check_index` is the entry call, and tests the forms).
+// What indexing a target in use by a key in use answers; a union that it answers enters the store. What matching has found stays
+// right for the store that it leaves. For crates above (`check_index` is the entry call, and tests the forms).
 pub fn index_checked(
-    page: &mut [u8],
-    tables: &mut Tables,
+    maker: &mut Maker,
     memo: &mut [u8],
     target: CheckedExpr,
     key: Checked,
 ) -> Result<Answered, Refusal>
-    requires measured { Measured page.old tables.old.offsets tables.old.depths }
-    requires checked_value { (in_use page.old target.checked ≡ true) × (in_use page.old key ≡ true) }
-    requires noted { Noted (Found page.old) memo.old }
-    ensures value { result ≡ concluded_by (check_index page.old key target.checked).conclusion target.unit }
-    ensures page_after { page.new ≡ store_after (check_index page.old key target.checked) page.old }
-    ensures measured_2 { Measured page.new tables.new.offsets tables.new.depths }
-    ensures noted_2 { Noted (Found page.new) memo.new }
+    requires checked_value { (in_use maker.old.page.now target.checked ≡ true) × (in_use maker.old.page.now key ≡ true) }
+    requires noted { Noted (Found maker.old.page.now) memo.old }
+    ensures value { result ≡ concluded_by (check_index maker.old.page.now key target.checked).conclusion target.unit }
+    ensures page_after { maker.new.page.now ≡ store_after (check_index maker.old.page.now key target.checked) maker.old.page.now }
+    ensures noted_2 { Noted (Found maker.new.page.now) memo.new }
+    ensures same { Same maker.new maker.old }
 {
     let c = target.checked;
-    let o = indexing::check_index(page, tables, memo, c, key)?;
+    let o = indexing::check_index(maker, memo, c, key)?;
     Ok(answer(o, target.unit))
 }
 
 // The same, over a table of N bytes of what matching has found, in a frame of its own.
 #[inline(never)]
 fn index_over<const N: usize>(
-    page: &mut [u8],
-    tables: &mut Tables,
+    maker: &mut Maker,
     target: CheckedExpr,
     key: Checked,
 ) -> Result<Answered, Refusal>
-    requires measured { Measured page.old tables.old.offsets tables.old.depths }
-    requires checked_value { (in_use page.old target.checked ≡ true) × (in_use page.old key ≡ true) }
+    requires checked_value { (in_use maker.old.page.now target.checked ≡ true) × (in_use maker.old.page.now key ≡ true) }
     requires n_bound { N ≤ 2 * large_bytes }
-    ensures value { result ≡ concluded_by (check_index page.old key target.checked).conclusion target.unit }
-    ensures page_after { page.new ≡ store_after (check_index page.old key target.checked) page.old }
+    ensures value { result ≡ concluded_by (check_index maker.old.page.now key target.checked).conclusion target.unit }
+    ensures page_after { maker.new.page.now ≡ store_after (check_index maker.old.page.now key target.checked) maker.old.page.now }
+    ensures same { Same maker.new maker.old }
 {
     let mut memo = [0; N];
-    index_checked(page, tables, &mut memo, target, key)
+    index_checked(maker, &mut memo, target, key)
 }
 
 // The same, over a table that has room for both types.
-fn index_in(
-    page: &mut [u8],
-    tables: &mut Tables,
-    target: CheckedExpr,
-    key: Checked,
-) -> Result<Answered, Refusal>
-    requires measured { Measured page.old tables.old.offsets tables.old.depths }
-    requires checked_value { (in_use page.old target.checked ≡ true) × (in_use page.old key ≡ true) }
-    ensures value { result ≡ concluded_by (check_index page.old key target.checked).conclusion target.unit }
-    ensures page_after { page.new ≡ store_after (check_index page.old key target.checked) page.old }
+fn index_in(maker: &mut Maker, target: CheckedExpr, key: Checked) -> Result<Answered, Refusal>
+    requires { (in_use maker.old.page.now target.checked ≡ true) × (in_use maker.old.page.now key ≡ true) }
+    ensures value { result ≡ concluded_by (check_index maker.old.page.now key target.checked).conclusion target.unit }
+    ensures page_after { maker.new.page.now ≡ store_after (check_index maker.old.page.now key target.checked) maker.old.page.now }
+    ensures same { Same maker.new maker.old }
 {
     let c = target.checked;
     if matching::fits(TINY, c, key) {
-        index_over::<TINY_MEMO>(page, tables, target, key)
+        index_over::<TINY_MEMO>(maker, target, key)
     } else if matching::fits(SMALL, c, key) {
-        index_over::<SMALL_MEMO>(page, tables, target, key)
+        index_over::<SMALL_MEMO>(maker, target, key)
     } else {
-        index_over::<LARGE_MEMO>(page, tables, target, key)
+        index_over::<LARGE_MEMO>(maker, target, key)
     }
 }
 
@@ -397,14 +379,15 @@ pub fn check_index(
     ensures { (result ≡ index_answer page.old (option_copied names.entry) target key) × (page.new ≡ index_page page.old (option_copied names.entry) target key) }
 {
     let mut tables = Tables::new();
-    if !types::opened(page, names, &mut tables) {
-        return Err(Refusal::Broken);
-    }
-    let n = names::in_use(names);
+    let n = types::opened(page, names, &mut tables)?;
     let keyed = CheckedExpr {
         checked: key,
         unit: None,
     };
     operands_verdict(tables.store(page), n, target, keyed)?;
-    index_in(page, &mut tables, target, key)
+    let mut maker = Maker {
+        page,
+        tables: &mut tables,
+    };
+    index_in(&mut maker, target, key)
 }

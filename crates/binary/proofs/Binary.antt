@@ -1,6 +1,7 @@
 -- The check of a binary operator: its equation, and that whether it passes, and what it then answers, depends only on the families of the
 -- leaves that stand for the two types. Assumes nothing.
 use Rattle.std.proofs.Common.{Ok}
+use Rattle.std.specs.Prelude.{Option, Some, None}
 use mathlib.Core.Path.{◌≡◌, refl, ap, ap₂, sym, ◌∙◌}
 use mathlib.Core.Bool.{Bool, true, false, ◌||◌, cond}
 use mathlib.Core.List.{List}
@@ -40,7 +41,7 @@ module _ (page : List ℕ) (rule other : ℕ → ℕ → Outcome) (l r : ℕ)
   unfolding row_tried fold_to
   row_same i zero q h k = refl
   row_same i (suc n) q h k =
-      ap₂ (λ (o : Outcome) (p : Tried). joined (member page l i) (member page r n) o p)
+      ap₂ (λ (o : Outcome) (p : Tried). joined (member page l i) (Some (member page r n)) o p)
       (same i n h (k n (omega arith))) (row_same i n q h (λ j m. k j (omega arith)))
 
   rows_same : (m : ℕ) → ((i : ℕ) → i < m → i < size_of page l) → rows_tried page rule l r m ≡ rows_tried page other l r m
@@ -136,7 +137,7 @@ module _ (page : List ℕ) (form : Formed page) (op : ℕ) (clash : Bool) where
     known_passes = says_passes (known_says l r u v)
 
     -- a trial of two types is a trial of their leaves' families
-    pub known_joined : (x y : ℕ) (q : Tried)
+    pub known_joined : (x : ℕ) (y : Option ℕ) (q : Tried)
         → joined x y (binary_known page op clash l r) q ≡ joined x y (plain_binary op clash (standing page l) (standing page r)) q
     known_joined = says_joined (known_says l r u v) (plain_says op clash (standing page l) (standing page r))
 
@@ -148,14 +149,14 @@ module _ (page : List ℕ) (form : Formed page) (op : ℕ) (clash : Bool) where
         ∙ rw (leaf_plain false page form l u, leaf_plain false page form r v) refl
 
     -- and so a trial of their leaves
-    pub stand_in : (x y : ℕ) (q : Tried)
+    pub stand_in : (x : ℕ) (y : Option ℕ) (q : Tried)
         → joined x y (binary_known page op clash (leaf_of false page l) (leaf_of false page r)) q
         ≡ joined x y (binary_known page op clash l r) q
     stand_in x y q = ap (λ (o : Outcome). joined x y o q) leaf_known ∙ sym (known_joined x y q)
 
     -- where no pair of members fails there is at most one result
     pub one_result : let q = rows_tried page (binary_known page op clash) l r (size_of page l) in
-        q.failed.count ≡ 0 → length q.results ≤ 1
+        q.failed ≡ None → length q.results ≤ 1
     one_result =
         one_at_most page (binary_known page op clash) l r op clash (λ i. standing page (member page l i))
         (λ j. standing page (member page r j))

@@ -1,4 +1,5 @@
 -- A binary operator's own rule: when it passes, and what it then answers. Assumes nothing.
+use Rattle.std.specs.Prelude.{Option}
 use mathlib.Core.Path.{◌≡◌, refl, sym, ◌∙◌}
 use mathlib.Core.Bool.{Bool, true, false, ◌&&◌, not, cond}
 use Prim.Native.Nat.{ℕ}
@@ -33,7 +34,7 @@ module _ {op : ℕ} {clash : Bool} {f g : ℕ} {o : Outcome} (s : Says op clash 
       go false e = s.failing e ∙ sym e
 
   -- a trial makes no difference between two outcomes of which so much is known
-  pub says_joined : {p : Outcome} → Says op clash f g p → (x y : ℕ) (q : Tried) → joined x y o q ≡ joined x y p q
+  pub says_joined : {p : Outcome} → Says op clash f g p → (x : ℕ) (y : Option ℕ) (q : Tried) → joined x y o q ≡ joined x y p q
   unfolding joined
   says_joined {p} t x y q = go (fits op clash f g) refl
     where

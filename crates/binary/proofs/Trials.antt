@@ -1,4 +1,5 @@
 -- What the trials of every pair of members come to, where each pair answers what two families come to. Assumes nothing.
+use Rattle.std.specs.Prelude.{Option, Some, None}
 use mathlib.Core.Path.{◌≡◌, refl, ap, ap₂, sym, ◌∙◌}
 use mathlib.Core.Bool.{Bool, true, false}
 use mathlib.Core.List.{List, [], ◌∷◌}
@@ -6,15 +7,15 @@ use mathlib.Core.Logic.{⊎_elim}
 use Prim.Native.Nat.{ℕ, zero, suc, ◌<◌, ◌≤◌}
 use native.Mathlib.Omega.{arith}
 use native.Mathlib.Nat.{not-suc-le-zero, le_of_suc-le-suc, eq-or-lt_of_le}
-use borrow.Author.Tests.{eq-eqb, eqb-true}
-use lib.Dec.{eqb}
+use borrow.Author.Tests.{eq-eqb}
 use lib.ListN.{length}
 use Rattle.matching.specs.declared.Checked.TheVariants.{Known}
 use Rattle.operators.specs.Operators.{no_family, gives, fits}
 use Rattle.operators.specs.Outcome.{no_error, outcome, passes}
+use Rattle.operators.specs.declared.Failing.{Failing}
 use Rattle.operators.specs.declared.Outcome.{Outcome}
 use Rattle.members.specs.Members.{size_of, member, has, merged, union_of}
-use Rattle.members.specs.Trials.{fold_to, no_failure, failed_at, errors_of, Tried, tried, joined, settled}
+use Rattle.members.specs.Trials.{fold_to, no_failure, failed_at, Tried, tried, joined, settled}
 use Rattle.binary.specs.Binary.{row_tried, rows_tried, outcome_of, any_rule}
 use Rattle.binary.proofs.Rule.{never, Says, fits_same, fits_some}
 
@@ -26,7 +27,7 @@ none = tried [] no_failure
 abbrev one : ℕ → Tried
 one t = tried (t ∷ []) no_failure
 
-module _ (t x y : ℕ) where
+module _ (t x : ℕ) (y : Option ℕ) where
   join_first : joined x y (outcome (Known t) no_error) none ≡ one t
   unfolding joined passes merged has
   join_first = refl
@@ -40,29 +41,27 @@ abbrev comes_to : List ℕ → Tried → Outcome
 comes_to page q = outcome_of (settled page q).conclusion
 
 settle_one : (page : List ℕ) (t : ℕ) → comes_to page (one t) ≡ outcome (Known t) no_error
-unfolding outcome_of settled errors_of union_of
+unfolding outcome_of settled union_of
 settle_one page t = refl
 
 -- trials that pass: there is a result, and no failure
-settled_passes : (page : List ℕ) (q : Tried) → passes (comes_to page q) ≡ true → (q.failed.count ≡ 0) × (0 < length q.results)
-unfolding outcome_of settled errors_of passes
-settled_passes page q = go q.results (eqb q.failed.count 0) refl
+settled_passes : (page : List ℕ) (q : Tried) → passes (comes_to page q) ≡ true → (q.failed ≡ None) × (0 < length q.results)
+unfolding outcome_of settled passes
+settled_passes page q = go q.results q.failed
   where
-    go : (ts : List ℕ) (b : Bool) → eqb q.failed.count 0 ≡ b → passes (comes_to page (tried ts q.failed)) ≡ true
-        → (q.failed.count ≡ 0) × (0 < length ts)
-    go ts false e h = absurd (never (sym (rw e at h)))
-    go [] true e h = absurd (never (sym (rw e at h)))
-    go (t ∷ ts) true e h = (eqb-true q.failed.count 0 e, omega arith)
+    go : (ts : List ℕ) (f : Option Failing) → passes (comes_to page (tried ts f)) ≡ true → (f ≡ None) × (0 < length ts)
+    go ts (Some f) h = absurd (never (sym h))
+    go [] None h = absurd (never (sym h))
+    go (t ∷ ts) None h = (refl, omega arith)
 
 -- a trial after which there is no failure
-join_passes : (x y : ℕ) (o : Outcome) (q : Tried) → (joined x y o q).failed.count ≡ 0 → (q.failed.count ≡ 0) × (passes o ≡ true)
-unfolding joined failed_at
-join_passes x y o q h = go (passes o) (eqb q.failed.count 0) refl refl
+join_passes : (x : ℕ) (y : Option ℕ) (o : Outcome) (q : Tried) → (joined x y o q).failed ≡ None → (q.failed ≡ None) × (passes o ≡ true)
+unfolding joined
+join_passes x y o q h = go (passes o) refl
   where
-    go : (a b : Bool) → passes o ≡ a → eqb q.failed.count 0 ≡ b → (q.failed.count ≡ 0) × (passes o ≡ true)
-    go true b d e = (rw d at h, d)
-    go false true d e = absurd (omega (arith, rw (d, e) at h))
-    go false false d e = absurd (omega (arith, rw (d, e) at h))
+    go : (a : Bool) → passes o ≡ a → (q.failed ≡ None) × (passes o ≡ true)
+    go true d = (rw d at h, d)
+    go false d = absurd (let n : Some (failed_at x y q.failed) ≡ None = rw d at h in let z : ◌≡◌ {A = ℕ} 0 1 = cc in omega arith)
 
 module _ (page : List ℕ) (rule : ℕ → ℕ → Outcome) (l r : ℕ) where
   -- the answer for member i of l and member j of r
@@ -74,13 +73,13 @@ module _ (page : List ℕ) (rule : ℕ → ℕ → Outcome) (l r : ℕ) where
     unfolding row_tried fold_to
     row_again i zero h = refl
     row_again i (suc n) h =
-        rw (row_again i n (λ j k. h j (omega arith)), h n (omega arith)) (join_again t (member page l i) (member page r n))
+        rw (row_again i n (λ j k. h j (omega arith)), h n (omega arith)) (join_again t (member page l i) (Some (member page r n)))
 
     row_first : (i n : ℕ) → ((j : ℕ) → j < suc n → answer i j ≡ outcome (Known t) no_error) → row_tried page rule l r i (suc n) none ≡ one t
     unfolding row_tried fold_to
-    row_first i zero h = rw (h 0 (omega arith)) (join_first t (member page l i) (member page r 0))
+    row_first i zero h = rw (h 0 (omega arith)) (join_first t (member page l i) (Some (member page r 0)))
     row_first i (suc n) h =
-        rw (row_first i n (λ j k. h j (omega arith)), h (suc n) (omega arith)) (join_again t (member page l i) (member page r (suc n)))
+        rw (row_first i n (λ j k. h j (omega arith)), h (suc n) (omega arith)) (join_again t (member page l i) (Some (member page r (suc n))))
 
     rows_one : (n m : ℕ) → size_of page r ≡ suc n → ((i j : ℕ) → i < suc m → j < suc n → answer i j ≡ outcome (Known t) no_error)
         → rows_tried page rule l r (suc m) ≡ one t
@@ -101,16 +100,16 @@ module _ (page : List ℕ) (rule : ℕ → ℕ → Outcome) (l r : ℕ) where
   unfolding rows_tried fold_to
   no_rows = refl
 
-  row_passes : (i n : ℕ) (q : Tried) → (row_tried page rule l r i n q).failed.count ≡ 0
-      → (q.failed.count ≡ 0) × ((j : ℕ) → j < n → passes (answer i j) ≡ true)
+  row_passes : (i n : ℕ) (q : Tried) → (row_tried page rule l r i n q).failed ≡ None
+      → (q.failed ≡ None) × ((j : ℕ) → j < n → passes (answer i j) ≡ true)
   unfolding row_tried fold_to
   row_passes i zero q h = (h, λ j k. absurd (not-suc-le-zero k))
   row_passes i (suc n) q h =
-      let a = join_passes (member page l i) (member page r n) (answer i n) (row_tried page rule l r i n q) h in
+      let a = join_passes (member page l i) (Some (member page r n)) (answer i n) (row_tried page rule l r i n q) h in
       let b = row_passes i n q a.0 in
       (b.0, λ j k. ⊎_elim (λ (e : j ≡ n). rw e a.1) (λ (m : j < n). b.1 j m) (eq-or-lt_of_le (le_of_suc-le-suc k)))
 
-  rows_pass : (m : ℕ) → (rows_tried page rule l r m).failed.count ≡ 0 → (i j : ℕ) → i < m → j < size_of page r → passes (answer i j) ≡ true
+  rows_pass : (m : ℕ) → (rows_tried page rule l r m).failed ≡ None → (i j : ℕ) → i < m → j < size_of page r → passes (answer i j) ≡ true
   unfolding rows_tried fold_to
   rows_pass zero h i j k = absurd (not-suc-le-zero k)
   rows_pass (suc m) h i j k =
@@ -129,7 +128,7 @@ module _ (page : List ℕ) (rule : ℕ → ℕ → Outcome) (l r op : ℕ) (clas
   abbrev all : Tried
   all = rows_tried page rule l r (size_of page l)
 
-  module _ (h : all.failed.count ≡ 0) where
+  module _ (h : all.failed ≡ None) where
     pair_fits : (i j : ℕ) → i < size_of page l → j < size_of page r → fits op clash (f i) (g j) ≡ true
     pair_fits i j a b = go (fits op clash (f i) (g j)) refl
       where
@@ -171,7 +170,7 @@ module _ (page : List ℕ) (rule : ℕ → ℕ → Outcome) (l r op : ℕ) (clas
       go (suc m) (suc n) d e = (omega arith, omega arith)
 
   -- where no pair fails there is at most one result
-  pub one_at_most : all.failed.count ≡ 0 → length all.results ≤ 1
+  pub one_at_most : all.failed ≡ None → length all.results ≤ 1
   one_at_most h = go (size_of page l) (size_of page r) refl refl
     where
       go : (m n : ℕ) → size_of page l ≡ m → size_of page r ≡ n → length all.results ≤ 1

@@ -1,4 +1,5 @@
 -- The loops over pairs of members, turn by turn, on plain values. Assumes nothing.
+use Rattle.std.specs.Prelude.{Some}
 use mathlib.Core.Path.{◌≡◌, refl, ap, ap₂, ◌∙◌}
 use mathlib.Core.Bool.{Bool, true, false}
 use mathlib.Core.List.{List, []}
@@ -42,7 +43,7 @@ module _ (page : List ℕ) (op : ℕ) (clash : Bool) (l r : ℕ) where
 
   row_more : (i j : ℕ) → let x = member page l i in
       let y = member page r j in
-      joined x y (binary_known page op clash x y) (row i j) ≡ row i (j + 1)
+      joined x (Some y) (binary_known page op clash x y) (row i j) ≡ row i (j + 1)
   unfolding row_tried fold_to
   row_more i j = rw (add-one j) refl
 
@@ -87,13 +88,13 @@ module _ (page : List ℕ) (form : Formed page) (op : ℕ) (clash : Bool) (l r :
 
     -- the trial of the leaves is the trial of the members
     pub turn : (o : Outcome) (w z : Tally) → w ≡ tally_of (row page op clash l r i j) → o ≡ binary_known page op clash p q
-        → ((t : Tried) → w ≡ tally_of t → z ≡ tally_of (joined x y o t)) → z ≡ tally_of (row page op clash l r i (j + 1))
+        → ((t : Tried) → w ≡ tally_of t → z ≡ tally_of (joined x (Some y) o t)) → z ≡ tally_of (row page op clash l r i (j + 1))
     turn o w z a b c =
         c (row page op clash l r i j) a
         ∙ ap tally_of
-        (ap (λ (o : Outcome). joined x y o (row page op clash l r i j)) (b ∙ ap₂ (binary_known page op clash) m.leaf n.leaf)
-        ∙ stand_in page form op clash x y (member_in page form l u m) (member_in page form r v n) x y (row page op clash l r i j)
-        ∙ ap₂ (λ (x y : ℕ). joined x y (binary_known page op clash x y) (row page op clash l r i j)) m.is n.is
+        (ap (λ (o : Outcome). joined x (Some y) o (row page op clash l r i j)) (b ∙ ap₂ (binary_known page op clash) m.leaf n.leaf)
+        ∙ stand_in page form op clash x y (member_in page form l u m) (member_in page form r v n) x (Some y) (row page op clash l r i j)
+        ∙ ap₂ (λ (x y : ℕ). joined x (Some y) (binary_known page op clash x y) (row page op clash l r i j)) m.is n.is
         ∙ row_more page op clash l r i j)
 
   -- ---- and all of them

@@ -1,7 +1,7 @@
 -- The check of a binary operator on two types (document 01, "Answers"; `check_binary_operator` and `check_binary_any` of the source's
 -- binary.rs). The operands' units enter as one test: they clash, or they do not.
 use Rattle.refusals.specs.declared.Refusal.{Refusal}
-use Rattle.std.specs.Prelude.{Bool, ◌||◌, cond, List, [], ℕ, ◌+◌, Result, Ok, Err}
+use Rattle.std.specs.Prelude.{Some, Bool, ◌||◌, cond, List, [], ℕ, ◌+◌, Result, Ok, Err}
 use Rattle.kinds.specs.Kinds.{is_union}
 use Rattle.types.specs.Types.{kind_of}
 use Rattle.types.specs.Recur.{cov}
@@ -27,7 +27,7 @@ either page l r = is_union (kind_of page l) || is_union (kind_of page r)
 -- member i of l with the first n members of r, tried by a rule after the trials q
 unfoldable pub row_tried : List ℕ → (ℕ → ℕ → Outcome) → ℕ → ℕ → ℕ → ℕ → Tried → Tried
 row_tried page rule l r i n q =
-    fold_to n (λ j p. joined (member page l i) (member page r j) (rule (member page l i) (member page r j)) p) q
+    fold_to n (λ j p. joined (member page l i) (Some (member page r j)) (rule (member page l i) (member page r j)) p) q
 
 -- the first m members of l, each with all of r
 unfoldable pub rows_tried : List ℕ → (ℕ → ℕ → Outcome) → ℕ → ℕ → ℕ → Tried

@@ -4,7 +4,7 @@ use Rattle.refusals.specs.declared.Refusal.{Refusal}
 use Rattle.pages.specs.Quant.{any_to}
 use Rattle.kinds.specs.Kinds.{callback, generic, is_built}
 use Rattle.types.specs.Store.{types_max, Formed}
-use Rattle.types.specs.Types.{types_in, kind_of, arity, child_of, name_of, Measured}
+use Rattle.types.specs.Types.{types_in, kind_of, arity, child_of, name_of}
 use Rattle.types.specs.Recur.{cov}
 use Rattle.types.specs.Making.{entry_of, enter_answer, enter_page, Grows}
 use Rattle.bindings.specs.Bindings.{is_bound, bound_to, Usable}
@@ -77,9 +77,8 @@ pub record Remembered (b : Bindings) (page : List ℕ) (done : List (Option ℕ)
   pub size : length done ≡ types_max
   pub right : (t r : ℕ) → get_or done t None ≡ Some r → (q : List ℕ) → Grows page q → Formed q → substitute b t q ≡ outcome (Ok r) q
 
--- a type that is to be substituted, in a store with its tables
-pub record Working (b : Bindings) (page offsets ds : List ℕ) (done : List (Option ℕ)) (t : ℕ) : Type 0 where
-  pub measured : Measured page offsets ds
+-- a type that is to be substituted, in a store
+pub record Working (b : Bindings) (page : List ℕ) (done : List (Option ℕ)) (t : ℕ) : Type 0 where
   pub used : t < types_in page
   pub usable : Usable b (types_in page)
   pub remembered : Remembered b page done

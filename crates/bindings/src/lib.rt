@@ -3,19 +3,21 @@
 
 ghost use Rattle.std.specs.Prelude.{◌≡◌, true, cond, ◌+◌, ◌≤◌, ◌<◌, length, get_or, set, replicate, Some, None, MatchOption};
 ghost use Rattle.types.specs.Store.{types_max};
-ghost use Rattle.types.specs.Types.{types_in, kind_of, Held, Measured};
+ghost use Rattle.types.specs.Types.{types_in, kind_of, Held};
+ghost use Rattle.types.specs.Same.{Same};
 ghost use Rattle.bindings.specs.Bindings.{bindings_max, place_in, is_bound, bound_to, with_binding, good_binding, formed, types_below};
 ghost use Rattle.bindings.specs.Generics.{is_entered, has_generic, Told, substitute, Remembered, Working};
 
 use kinds::{CALLBACK, CHILDREN, GENERIC, Kind};
-use names::{Symbol, symbol_index};
+use names::Symbol;
 use refusals::Refusal;
-use types::{Store, TYPES, Tables, enter_type};
+use types::{Maker, Store, TYPES};
 
 // How many names are bound at most.
 pub const BINDINGS: usize = 32;
 
-// Generic names, and the types that they are bound to: two arrays of 32 and a count by value, as document 01 has them.
+// Generic names, and the types that they are bound to: two arrays of 32 and a count by value, as document 01 has them. Callers hand in
+// any count, so what reads the places asks for one of at most 32; a type for bindings in form would stand beside this one.
 #[derive(Clone, Copy)]
 pub struct Bindings {
     pub count: usize,
@@ -23,7 +25,8 @@ pub struct Bindings {
     pub types: [u16; BINDINGS],
 }
 
-// The first of the first k places that has a name.
+// The first of the first k places that has a name. It asks for places that there are: past the last one the definition reads a 0, as
+// if name 0 stood there.
 fn place_of(bindings: Bindings, k: usize, name: Symbol) -> Option<usize>
     requires { k ≤ bindings_max }
     ensures { MatchOption result (place_in bindings k name ≡ k) (λ i. (i < k) × (i ≡ place_in bindings k name)) }
@@ -39,7 +42,7 @@ fn is_good(bindings: Bindings, n: usize, t: usize, i: usize) -> bool
 {
     let name = bindings.names[i];
     place_of(bindings, i, name).is_none()
-        && names::is_used(n, symbol_index(name))
+        && names::is_used(n, usize::from(name))
         && usize::from(bindings.types[i]) < t
 }
 
@@ -47,15 +50,7 @@ fn is_good(bindings: Bindings, n: usize, t: usize, i: usize) -> bool
 pub fn is_formed(bindings: Bindings, n: usize, t: usize) -> bool
     ensures { result ≡ formed n t bindings }
 {
-    if BINDINGS < bindings.count {
-        return false;
-    }
-    for i in 0..bindings.count {
-        if !is_good(bindings, n, t, i) {
-            return false;
-        }
-    }
-    true
+    bindings.count <= BINDINGS && (0..bindings.count).all(|i| is_good(bindings, n, t, i))
 }
 
 // Whether the types that names are bound to are numbered below t.
@@ -115,12 +110,7 @@ fn generic_in(store: Store, found: &[bool], t: usize) -> bool
     if !is_entered(kind) {
         return false;
     }
-    for i in 0..store.arity(t) {
-        if found[store.child_of(t, i)] {
-            return true;
-        }
-    }
-    false
+    (0..store.arity(t)).any(|i| found[store.child_of(t, i)])
 }
 
 // Whether a generic name stands in a type, outside every union in it (`checked::has_generic` tests the store and the number). Types
@@ -140,17 +130,17 @@ pub fn has_generic(store: Store, t: usize) -> bool
 // refusal). Each type is substituted once.
 #[cycle(rebuild_substitute)]
 pub fn substitute(
-    page: &mut [u8],
-    tables: &mut Tables,
+    maker: &mut Maker,
     done: &mut [Option<u16>],
     bindings: Bindings,
     t: usize,
 ) -> Result<usize, Refusal>
-    requires { Working bindings page.old tables.old.offsets tables.old.depths done.old t }
-    ensures value { (result ≡ (substitute bindings t page.old).made) × (page.new ≡ (substitute bindings t page.old).store) }
-    ensures measured { Measured page.new tables.new.offsets tables.new.depths × Remembered bindings page.new done.new }
+    requires { Working bindings maker.old.page.now done.old t }
+    ensures value { (result ≡ (substitute bindings t maker.old.page.now).made) × (maker.new.page.now ≡ (substitute bindings t maker.old.page.now).store) }
+    ensures remembered { Remembered bindings maker.new.page.now done.new }
+    ensures same { Same maker.new maker.old }
 {
-    let store = tables.store(page);
+    let store = maker.store();
     let kind = store.kind_of(t);
     if kind == GENERIC {
         return Ok(bound_to(bindings, store.name_of(t)).unwrap_or(t));
@@ -161,7 +151,7 @@ pub fn substitute(
     if let Some(r) = done[t] {
         return Ok(usize::from(r));
     }
-    let r = rebuild(page, tables, done, bindings, t)?;
+    let r = rebuild(maker, done, bindings, t)?;
     done[t] = Some(r as u16);
     Ok(r)
 }
@@ -169,26 +159,26 @@ pub fn substitute(
 // A type of a kind that is entered, made anew over its children, left to right.
 #[cycle(rebuild_substitute)]
 fn rebuild(
-    page: &mut [u8],
-    tables: &mut Tables,
+    maker: &mut Maker,
     done: &mut [Option<u16>],
     bindings: Bindings,
     t: usize,
 ) -> Result<usize, Refusal>
-    requires working { Working bindings page.old tables.old.offsets tables.old.depths done.old t }
-    requires t_value { is_entered (kind_of page.old t) ≡ true }
-    ensures value { (result ≡ (substitute bindings t page.old).made) × (page.new ≡ (substitute bindings t page.old).store) }
-    ensures measured { Measured page.new tables.new.offsets tables.new.depths × Remembered bindings page.new done.new }
+    requires working { Working bindings maker.old.page.now done.old t }
+    requires t_value { is_entered (kind_of maker.old.page.now t) ≡ true }
+    ensures value { (result ≡ (substitute bindings t maker.old.page.now).made) × (maker.new.page.now ≡ (substitute bindings t maker.old.page.now).store) }
+    ensures remembered { Remembered bindings maker.new.page.now done.new }
+    ensures same { Same maker.new maker.old }
 {
-    let store = tables.store(page);
+    let store = maker.store();
     let kind = store.kind_of(t);
     let n = store.arity(t);
-    // An array with its count beside it: there is no heap.
+    // An array of which the first n places are filled: nothing is on a heap, and the crates use no library but their own.
     let mut kids = [0; CHILDREN];
     for i in 0..n {
-        let child = tables.store(page).child_of(t, i);
-        let r = substitute(page, tables, done, bindings, child)?;
+        let child = maker.store().child_of(t, i);
+        let r = substitute(maker, done, bindings, child)?;
         kids[i] = r as u16;
     }
-    enter_type(page, tables, kind, &kids[..n], 0)
+    maker.enter_type(kind, &kids[..n], 0)
 }

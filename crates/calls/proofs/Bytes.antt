@@ -25,12 +25,16 @@ use Rattle.types.specs.Calls.{store_broken}
 use Rattle.units.specs.Unit.{places_max, Term, formed, in_use}
 use Rattle.units.specs.Calls.{terms_of, present, unit_of, form_verdict, product_answer, exponent_answer, unitless_answer}
 use Rattle.units.proofs.Calls as units
-use Rattle.std.specs.Option.{ok_or}
+use Rattle.std.specs.Option.{ok_or, option_zip}
+use Rattle.std.specs.Result.{result_ok}
 use lib.IntN.{ℤ}
 use Rattle.units.proofs.Order.{or_both}
 use Rattle.units.proofs.Held.{terms_unit}
 use Rattle.units.proofs.Used.{present_all}
 use Rattle.pairs.specs.Calls.{table_broken}
+use Rattle.pairs.specs.Calls as tables
+use Rattle.pairs.proofs.Calls.{table_ok, table_err}
+use Rattle.types.proofs.Calls.{unbroken_both}
 use Rattle.sums.specs.Calls.{roots_in, or_empty, units_verdict, sums_answer, convert_answer}
 use Rattle.text.specs.Calls.{text_verdict, text_answer}
 use Rattle.values.specs.Value.{none_count, term_bytes, terms_at, is_none, is_some, readable, value_verdict, unit_in, symbols_used, value_in}
@@ -280,10 +284,9 @@ module _ (page : List ℕ) (names : Option (List ℕ)) where
     unfolding convert_answer
     convert_alike = rw units_alike
 
-  pub sums_alike : (b : List ℕ) → (readable b && readable b) ≡ true → sums_answer page names (or_empty (unit_in b)) ≡ group_sums_in page names b
+  pub sums_alike : (b : List ℕ) → readable b ≡ true → sums_answer page names (or_empty (unit_in b)) ≡ group_sums_in page names b
   unfolding sums_answer units_verdict units_verdict_in
-  sums_alike b h =
-      let k = (read_both b b h).0 in
+  sums_alike b k =
       let n = used_of names in
       rw (used_in b k n, formed_in b k, and_end (in_use n (present (or_empty (unit_in b)))), and_end (formed places_max names_max (terms_of (or_empty (unit_in b)))), and_self (in_use n (present (or_empty (unit_in b)))), and_self (formed places_max names_max (terms_of (or_empty (unit_in b)))))
 
@@ -310,6 +313,20 @@ module _ (page : List ℕ) (names : Option (List ℕ)) where
 
 -- ---- operands
 
+-- the refusal of operands of which one cannot be read
+module _ (page : List ℕ) (left : ℕ) (unit : List ℕ) (right : ℕ) (other : List ℕ) (h : (readable unit && readable other) ≡ false) (n : ℕ) where
+  unused_operand : (operand_used_in page n left unit && operand_used_in page n right other) ≡ false → Err Unused ≡ lowest (operands_in page n left unit right other)
+  unused_operand u = sym (rw u (first_holds Unused ((BadUnit when not (maybe_formed_in unit && maybe_formed_in other)) ∷ []) refl))
+
+  pub left_operand : operand_used_in page n left unit ≡ false → Err Unused ≡ lowest (operands_in page n left unit right other)
+  left_operand u = unused_operand (rw u)
+
+  pub right_operand : operand_used_in page n right other ≡ false → Err Unused ≡ lowest (operands_in page n left unit right other)
+  right_operand u = unused_operand (rw u (and_false (operand_used_in page n left unit)))
+
+  pub operands_bad : operand_used_in page n left unit ≡ true → operand_used_in page n right other ≡ true → Err BadUnit ≡ lowest (operands_in page n left unit right other)
+  operands_bad a b = rw (a, b, unread_both unit other h)
+
 module _ (page : List ℕ) (names : Option (List ℕ)) (left : ℕ) (unit : List ℕ) (right : ℕ) (other : List ℕ) where
   abbrev conditions : ℕ → List Condition
   conditions n = operands_in page n left unit right other
@@ -327,27 +344,16 @@ module _ (page : List ℕ) (names : Option (List ℕ)) (left : ℕ) (unit : List
         ap (λ (cs : List Condition). guarded (lowest ((Undefined when not (is_operator op)) ∷ (Broken when (store_broken page names || table_broken pairs names)) ∷ cs))
         (binary_checked page (roots_in pairs) op (operand_of left unit) (operand_of right other))) (operands_alike (used_of names))
 
-  module _ (h : (readable unit && readable other) ≡ false) where
-    pub operands_broken : store_broken page names ≡ true → Err Broken ≡ operands_verdict_in page names left unit right other
-    unfolding operands_verdict_in
-    operands_broken t = sym (rw t (first_holds Broken (conditions (used_of names)) refl))
+  -- store and names come before what is asked of the operands
+  pub operands_broken : store_broken page names ≡ true → Err Broken ≡ operands_verdict_in page names left unit right other
+  unfolding operands_verdict_in
+  operands_broken t = sym (rw t (first_holds Broken (conditions (used_of names)) refl))
 
-    module _ (t : store_broken page names ≡ false) (n : ℕ) (is : n ≡ used_of names) where
-      unused_operand : (operand_used_in page n left unit && operand_used_in page n right other) ≡ false → Err Unused ≡ operands_verdict_in page names left unit right other
-      unfolding operands_verdict_in
-      unused_operand u = sym (rw (t, ← is, u) (first_holds Unused ((BadUnit when not (maybe_formed_in unit && maybe_formed_in other)) ∷ []) refl))
+  pub operands_rest : store_broken page names ≡ false → (n : ℕ) → n ≡ used_of names → lowest (conditions n) ≡ operands_verdict_in page names left unit right other
+  unfolding operands_verdict_in
+  operands_rest t n is = rw (t, ← is)
 
-      pub left_operand : operand_used_in page n left unit ≡ false → Err Unused ≡ operands_verdict_in page names left unit right other
-      left_operand u = unused_operand (rw u)
-
-      pub right_operand : operand_used_in page n right other ≡ false → Err Unused ≡ operands_verdict_in page names left unit right other
-      right_operand u = unused_operand (rw u (and_false (operand_used_in page n left unit)))
-
-      pub operands_bad : operand_used_in page n left unit ≡ true → operand_used_in page n right other ≡ true → Err BadUnit ≡ operands_verdict_in page names left unit right other
-      unfolding operands_verdict_in
-      operands_bad a b = rw (t, ← is, a, b, unread_both unit other h)
-
-  -- 1 and the pairs come before what is asked of the operands
+  -- and 1 and the pairs too
   module _ (pairs : List ℕ) (op : ℕ) where
     pub binary_undefined : is_operator op ≡ false → Err Undefined ≡ binary_verdict_in page names pairs op left unit right other
     unfolding binary_verdict_in
@@ -355,21 +361,25 @@ module _ (page : List ℕ) (names : Option (List ℕ)) (left : ℕ) (unit : List
         sym (rw o (first_holds Undefined ((Broken when (store_broken page names || table_broken pairs names)) ∷ conditions (used_of names)) refl))
 
     module _ (o : is_operator op ≡ true) where
-      pub binary_broken : table_broken pairs names ≡ true → Err Broken ≡ binary_verdict_in page names pairs op left unit right other
+      pub binary_broken : (store_broken page names || table_broken pairs names) ≡ true → Err Broken ≡ binary_verdict_in page names pairs op left unit right other
       unfolding binary_verdict_in
-      binary_broken t = sym (rw (o, t, or_end (store_broken page names)) (first_holds Broken (conditions (used_of names)) refl))
+      binary_broken t = sym (rw (o, t) (first_holds Broken (conditions (used_of names)) refl))
 
-      pub binary_rest : table_broken pairs names ≡ false → operands_verdict_in page names left unit right other ≡ binary_verdict_in page names pairs op left unit right other
-      unfolding binary_verdict_in operands_verdict_in
-      binary_rest t = rw (o, t, or_none_lem (store_broken page names))
+      module _ (t : store_broken page names ≡ false) (n : ℕ) (is : n ≡ used_of names) where
+        pub binary_unformed : (r : Refusal) → Err r ≡ tables.form_verdict pairs n → Err r ≡ binary_verdict_in page names pairs op left unit right other
+        binary_unformed r e = let q = table_err pairs names (unbroken_both page names t).0 n is r e in rw q.1 (binary_broken (rw (t, q.0)))
+
+        pub binary_rest : Ok tt ≡ tables.form_verdict pairs n → lowest (conditions n) ≡ binary_verdict_in page names pairs op left unit right other
+        unfolding binary_verdict_in
+        binary_rest e = rw (o, t, table_ok pairs names (unbroken_both page names t).0 n is e, ← is)
 
 module _ (page : List ℕ) (names : Option (List ℕ)) (op operand : ℕ) (unit : List ℕ) where
-  pub unary_alike : (readable unit && readable unit) ≡ true
+  pub unary_alike : readable unit ≡ true
       → (unary_answer page names op (operand_of operand unit) ≡ unary_in page names op operand unit)
       × (unary_page page names op (operand_of operand unit) ≡ unary_page_in page names op operand unit)
   unfolding unary_answer unary_page unary_verdict_in
   unary_alike h =
-      let e = operands_alike page names operand unit operand unit h (used_of names) in
+      let e = operands_alike page names operand unit operand unit (rw h refl) (used_of names) in
       let verdict : List Condition → Verdict = λ cs. lowest ((Undefined when not (is_operator op)) ∷ (Broken when store_broken page names) ∷ cs) in
       let q = check_unary page op (checked_of operand) in (
         ap (λ (cs : List Condition). guarded (verdict cs) (unary_checked q op (unit_in unit))) e,
@@ -386,7 +396,7 @@ module _ (page : List ℕ) (names : Option (List ℕ)) (op operand : ℕ) (unit 
   unary_rest o = rw o
 
 -- a key, whose bytes say that it has no unit
-pub index_alike : (page : List ℕ) (names : Option (List ℕ)) (target : ℕ) (unit : List ℕ) (key : ℕ) → (readable unit && readable (none_count ∷ [])) ≡ true
+pub index_alike : (page : List ℕ) (names : Option (List ℕ)) (target : ℕ) (unit : List ℕ) (key : ℕ) → readable unit ≡ true
     → (index_answer page names (operand_of target unit) (checked_of key) ≡ index_in page names target unit key)
     × (index_page page names (operand_of target unit) (checked_of key) ≡ index_page_in page names target unit key)
 unfolding index_answer index_page operands_verdict_in
@@ -394,7 +404,7 @@ index_alike page names target unit key h =
     let none : operand_of key (none_count ∷ []) ≡ keyed (checked_of key) = unfold unit_in in refl in
     let e =
     ap (λ x. operand_conditions page (used_of names) (operand_of target unit) x) (sym none)
-    ∙ operands_alike page names target unit key (none_count ∷ []) h (used_of names) in
+    ∙ operands_alike page names target unit key (none_count ∷ []) (unfold readable in rw h refl) (used_of names) in
     let verdict : List Condition → Verdict = λ cs. lowest ((Broken when store_broken page names) ∷ cs) in
     let q = check_index page (checked_of key) (checked_of target) in (
       ap (λ (cs : List Condition). guarded (verdict cs) (concluded_by q.conclusion (unit_in unit))) e,
@@ -413,19 +423,19 @@ module _ (l r : List ℕ) where
       go true h e = (h, cc)
       go false h e = absurd (let z : ◌≡◌ {A = ℕ} 0 1 = cc in omega arith)
 
-  -- nothing where one cannot
-  pub left_unread : (x : Refusal) → value_in l ≡ Err x → None ≡ units_in l r
-  left_unread x e = let v = value_none l x e in rw v.0 refl
-
-  pub right_unread : (m : Option Unit) (x : Refusal) → value_in l ≡ Ok m → value_in r ≡ Err x → None ≡ units_in l r
-  right_unread m x d e = let u = value_some l m d in let v = value_none r x e in rw (u.0, v.0) refl
-
-  pub both_read : (m n : Option Unit) → value_in l ≡ Ok m → value_in r ≡ Ok n → Some (m, n) ≡ units_in l r
-  both_read m n d e = let u = value_some l m d in let v = value_some r n e in rw (u.0, v.0, u.1, v.1) refl
+  -- both, or nothing where one cannot be read
+  pub both_read : option_zip (result_ok (value_in l)) (result_ok (value_in r)) ≡ units_in l r
+  unfolding value_verdict
+  both_read = go (readable l) (readable r) refl refl
+    where
+      go : (a b : Bool) → readable l ≡ a → readable r ≡ b → option_zip (result_ok (value_in l)) (result_ok (value_in r)) ≡ units_in l r
+      go true true e f = rw (e, f) refl
+      go true false e f = rw (e, f) refl
+      go false b e f = rw e refl
 
 -- the group sums of what was read
-pub sums_read : (page : List ℕ) (names : Option (List ℕ)) (b : List ℕ) (p : Option Unit × Option Unit) (u : Unit) → units_in b b ≡ Some p → u ≡ or_empty p.0
+pub sums_read : (page : List ℕ) (names : Option (List ℕ)) (b : List ℕ) (m : Option Unit) (u : Unit) → value_in b ≡ Ok m → u ≡ or_empty m
     → sums_answer page names u ≡ group_sums_in page names b
-sums_read page names b p u e o =
-    let z = units_read b b p e in
-    ap (sums_answer page names) (o ∙ ap (λ q. or_empty q.0) z.1) ∙ sums_alike page names b z.0
+sums_read page names b m u e o =
+    let z = value_some b m e in
+    ap (sums_answer page names) (o ∙ ap or_empty z.1) ∙ sums_alike page names b z.0

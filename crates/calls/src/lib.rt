@@ -25,15 +25,16 @@ ghost use Rattle.values.specs.Value.{none_count, unit_max, readable, unit_in};
 ghost use Rattle.sums.specs.Calls.{or_empty};
 ghost use Rattle.calls.specs.Types.{bytes_of_type, checked_of, bindings_in, bytes_of_bindings, number_in, const_code, bindings_after, unify_in, unify_arg_in};
 ghost use Rattle.calls.specs.Codes.{packed, number_code, found_code, nothing_code, size_code, out_after, out_after_bytes, power_code, answer_code, unit_or_broken, unitless_in, product_in, text_verdict_in, text_in, bytes_of_unit, factor_code, out_after_factor, units_verdict_in, group_sums_in, bytes_of_sums, convertible_in, units_in};
-ghost use Rattle.calls.specs.Answers.{answered_code, bytes_of_errors, bytes_of_maybe, bytes_of_answer, out_after_answer, operand_used_in, operands_verdict_in, binary_verdict_in, binary_in, unary_verdict_in, unary_in, unary_page_in, index_in, index_page_in};
+ghost use Rattle.refusals.specs.Lowest.{lowest};
+ghost use Rattle.calls.specs.Answers.{operands_in, answered_code, bytes_of_errors, bytes_of_maybe, bytes_of_answer, out_after_answer, operand_used_in, operands_verdict_in, binary_verdict_in, binary_in, unary_verdict_in, unary_in, unary_page_in, index_in, index_page_in};
 
 use answers::{Answered, CheckedExpr};
 use bindings::{BINDINGS, Bindings};
 use kinds::Kind;
 use matching::Checked;
-use names::{NAME_BYTES, Symbol, symbol_index};
+use names::{NAME_BYTES, Symbol};
 use operators::Errors;
-use pages::{LONG_BYTES, Padded, index};
+use pages::{LONG_BYTES, Padded};
 use refusals::Refusal;
 use sums::Sums;
 use text::{TEXT_BYTES, Text};
@@ -95,6 +96,8 @@ pub extern "C" fn riddlepoppy_find_name(page: &[u8], name: &[u8]) -> u32
 }
 
 // The size of bytes by value as one number, and the bytes written down, unless it is a refusal.
+// One function for this, `written` and `written_down` was tried twice: over a tuple of an array and a number, and with a writer of the array
+// alone. The borrow checker takes no array whose length is a parameter in a tuple, and none by value that has been passed by value.
 fn written_bytes<const N: usize>(answer: Result<Padded<N>, Refusal>, out: &mut [u8; N]) -> u32
     ensures { (result ≡ size_code answer.entry) × (out.new ≡ out_after_bytes answer.entry out.old) }
 {
@@ -203,7 +206,8 @@ pub extern "C" fn riddlepoppy_is_dimensionless(bytes: &[u8]) -> u32
     answer_code(unitless_in(bytes))
 }
 
-// Why a text is refused of bytes that say no unit.
+// Why a text is refused of bytes that say no unit. A refusal by itself, as what those below answer where a unit cannot be read, and no
+// `Result<(), Refusal>` with `?`: that it is no Ok would take a clause more, and an answer by hand for each code and page of their callers.
 fn unread_text(page: &[u8], unit: &[u8]) -> Refusal
     requires { unit_in unit.now ≡ None }
     ensures { Err result ≡ text_verdict_in page.now unit.now }
@@ -221,11 +225,10 @@ fn unread_text(page: &[u8], unit: &[u8]) -> Refusal
 fn text_in(page: &[u8], unit: &[u8]) -> Result<Text, Refusal>
     ensures { result ≡ text_in page.now unit.now }
 {
-    match values::read_value(unit) {
-        Ok(Some(u)) => text::unit_text(page, u),
-        Ok(None) => Err(unread_text(page, unit)),
-        Err(_) => Err(unread_text(page, unit)),
-    }
+    let Ok(Some(u)) = values::read_value(unit) else {
+        return Err(unread_text(page, unit));
+    };
+    text::unit_text(page, u)
 }
 
 // The text of a unit, and its length.
@@ -271,7 +274,7 @@ pub extern "C" fn riddlepoppy_canonical(
     ensures { result ≡ number_code (root_answer page.now (then_some lent names.now) symbol) }
 {
     let names = lent_names(names, lent);
-    coded(pairs::canonical(page, names, symbol).map(symbol_index))
+    coded(pairs::canonical(page, names, symbol).map(usize::from))
 }
 
 // The first factor of a symbol, and its base, or 65,535 where no pair has the symbol.
@@ -286,10 +289,11 @@ pub extern "C" fn riddlepoppy_first_factor(
     ensures { (result ≡ factor_code (factor_answer page.now (then_some lent names.now) symbol)) × (out.new ≡ out_after_factor (factor_answer page.now (then_some lent names.now) symbol) out.old) }
 {
     let names = lent_names(names, lent);
+    // Not by `written`, which writes whatever is answered: where no pair has the symbol, nothing is written.
     match pairs::first_factor(page, names, symbol) {
         Ok(Some(first)) => {
             *out = pages::long_bytes(first.factor);
-            coded(Ok(symbol_index(first.base)))
+            coded(Ok(usize::from(first.base)))
         }
         Ok(None) => coded(Ok(ABSENT)),
         Err(r) => coded(Err(r)),
@@ -298,30 +302,19 @@ pub extern "C" fn riddlepoppy_first_factor(
 
 // Group sums in the form of a unit's bytes.
 fn sums_bytes(sums: Sums) -> UnitBytes
-    requires { sums.count ≤ places_max }
+    requires { sums.terms.count ≤ places_max }
     ensures { result ≡ bytes_of_sums sums }
 {
-    let count = sums.count;
-    let symbols = sums.symbols;
-    let exponents = sums.exponents;
-    values::value_bytes(Unit {
-        count,
-        symbols,
-        exponents,
-    })
+    values::value_bytes(Unit::from(sums))
 }
 
 // The units that two slices say, or none of them, where both can be read.
 fn units_in(left: &[u8], right: &[u8]) -> Option<(Option<Unit>, Option<Unit>)>
     ensures { result ≡ units_in left.now right.now }
 {
-    let Ok(l) = values::read_value(left) else {
-        return None;
-    };
-    let Ok(r) = values::read_value(right) else {
-        return None;
-    };
-    Some((l, r))
+    let l = values::read_value(left).ok();
+    let r = values::read_value(right).ok();
+    l.zip(r)
 }
 
 // Why two units are refused, over the pairs of a page, where one of them cannot be read.
@@ -329,10 +322,9 @@ fn unread_units(page: &[u8], names: Option<&[u8]>, left: &[u8], right: &[u8]) ->
     requires { (readable left.now && readable right.now) ≡ false }
     ensures { Err result ≡ units_verdict_in page.now (option_copied names.entry) left.now right.now }
 {
-    if pairs::is_broken(page, names) {
+    let Ok(n) = pairs::opened(page, names) else {
         return Refusal::Broken;
-    }
-    let n = names::in_use(names);
+    };
     if !values::are_used(left, n) {
         return Refusal::Unused;
     }
@@ -354,7 +346,7 @@ pub extern "C" fn riddlepoppy_canonicalize(
     ensures { (result ≡ nothing_code (group_sums_in page.now (then_some lent names.now) unit.now)) × (out.new ≡ out_after bytes_of_sums (group_sums_in page.now (then_some lent names.now) unit.now) out.old) }
 {
     let names = lent_names(names, lent);
-    let Some((u, _)) = units_in(unit, unit) else {
+    let Ok(u) = values::read_value(unit) else {
         return coded(Err(unread_units(page, names, unit, unit)));
     };
     written(
@@ -483,7 +475,7 @@ fn bindings_in(bytes: BindingBytes) -> Bindings
     let mut types = [0; BINDINGS];
     pages::read_words(&bytes, TYPES_AT, &mut types);
     Bindings {
-        count: index(bytes[0]),
+        count: usize::from(bytes[0]),
         names,
         types,
     }
@@ -630,38 +622,44 @@ fn operand_of(c: u32, unit: Option<Unit>) -> CheckedExpr
     }
 }
 
-// Why two operands are refused, over a store, where the unit of one of them cannot be read.
-fn unread_operands(
-    page: &[u8],
-    names: Option<&[u8]>,
-    left: u32,
-    unit: &[u8],
-    right: u32,
-    other: &[u8],
-) -> Refusal
-    requires { (readable unit.now && readable other.now) ≡ false }
-    ensures { Err result ≡ operands_verdict_in page.now (option_copied names.entry) left unit.now right other.now }
+// An operand as it is lent: the number of its checked type, and the bytes that say its unit or none.
+#[derive(Clone, Copy)]
+struct Operand<'a> {
+    number: u32,
+    unit: &'a [u8],
+}
+
+// Why two operands are refused, over a store and n name numbers in use, where the unit of one of them cannot be read.
+fn unfit(store: Store, n: usize, left: Operand, right: Operand) -> Refusal
+    requires { (readable left.unit.now && readable right.unit.now) ≡ false }
+    ensures { Err result ≡ lowest (operands_in store.entry.page.now n left.entry.number left.entry.unit.now right.entry.number right.entry.unit.now) }
 {
-    let mut tables = Tables::new();
-    if !types::opened(page, names, &mut tables) {
-        return Refusal::Broken;
-    }
-    let store = tables.store(page);
-    let n = names::in_use(names);
-    if !is_operand_used(store, n, left, unit) {
+    if !is_operand_used(store, n, left) {
         return Refusal::Unused;
     }
-    if !is_operand_used(store, n, right, other) {
+    if !is_operand_used(store, n, right) {
         return Refusal::Unused;
     }
     Refusal::BadUnit
 }
 
-// Whether an operand's type, and the symbols that stand in its unit's bytes, of n numbers, are in use.
-fn is_operand_used(store: Store, n: usize, c: u32, unit: &[u8]) -> bool
-    ensures { result ≡ operand_used_in store.entry.page.now n c unit.now }
+// The same, over a store's page and the names that may be lent.
+fn unread_operands(page: &[u8], names: Option<&[u8]>, left: Operand, right: Operand) -> Refusal
+    requires { (readable left.unit.now && readable right.unit.now) ≡ false }
+    ensures { Err result ≡ operands_verdict_in page.now (option_copied names.entry) left.entry.number left.entry.unit.now right.entry.number right.entry.unit.now }
 {
-    checked::is_used(store, checked_of(c)) && values::are_used(unit, n)
+    let mut tables = Tables::new();
+    let Ok(n) = types::opened(page, names, &mut tables) else {
+        return Refusal::Broken;
+    };
+    unfit(tables.store(page), n, left, right)
+}
+
+// Whether an operand's type, and the symbols that stand in its unit's bytes, of n numbers, are in use.
+fn is_operand_used(store: Store, n: usize, x: Operand) -> bool
+    ensures { result ≡ operand_used_in store.entry.page.now n x.entry.number x.entry.unit.now }
+{
+    checked::is_used(store, checked_of(x.number)) && values::are_used(x.unit, n)
 }
 
 // How many bytes errors take: their number, two reasons, how many members fail in four bytes, and the first two in two each.
@@ -747,32 +745,34 @@ fn unread_binary(
     names: Option<&[u8]>,
     table: &[u8],
     op: usize,
-    left: u32,
-    unit: &[u8],
-    right: u32,
-    other: &[u8],
+    left: Operand,
+    right: Operand,
 ) -> Refusal
-    requires { (readable unit.now && readable other.now) ≡ false }
-    ensures { Err result ≡ binary_verdict_in page.now (option_copied names.entry) table.now op left unit.now right other.now }
+    requires { (readable left.unit.now && readable right.unit.now) ≡ false }
+    ensures { Err result ≡ binary_verdict_in page.now (option_copied names.entry) table.now op left.entry.number left.entry.unit.now right.entry.number right.entry.unit.now }
 {
     if !operators::is_operator(op) {
         return Refusal::Undefined;
     }
-    if pairs::is_broken(table, names) {
+    let mut tables = Tables::new();
+    let Ok(n) = types::opened(page, names, &mut tables) else {
         return Refusal::Broken;
+    };
+    if let Err(r) = pairs::form_verdict(table, n) {
+        return r;
     }
-    unread_operands(page, names, left, unit, right, other)
+    unfit(tables.store(page), n, left, right)
 }
 
 // Why an operator's one operand is refused where its unit cannot be read.
-fn unread_unary(page: &[u8], names: Option<&[u8]>, op: usize, operand: u32, unit: &[u8]) -> Refusal
-    requires { (readable unit.now && readable unit.now) ≡ false }
-    ensures { Err result ≡ unary_verdict_in page.now (option_copied names.entry) op operand unit.now }
+fn unread_unary(page: &[u8], names: Option<&[u8]>, op: usize, x: Operand) -> Refusal
+    requires { readable x.unit.now ≡ false }
+    ensures { Err result ≡ unary_verdict_in page.now (option_copied names.entry) op x.entry.number x.entry.unit.now }
 {
     if !operators::is_operator(op) {
         return Refusal::Undefined;
     }
-    unread_operands(page, names, operand, unit, operand, unit)
+    unread_operands(page, names, x, x)
 }
 
 // What a binary operator answers for two operands: the number of a type, errors, and a unit or none.
@@ -793,7 +793,12 @@ pub extern "C" fn riddlepoppy_check_binary_operator(
 {
     let names = lent_names(names, lent);
     let Some((l, r)) = units_in(unit, other) else {
-        return coded(Err(unread_binary(page, names, table, op as usize, left, unit, right, other)));
+        let a = Operand { number: left, unit };
+        let b = Operand {
+            number: right,
+            unit: other,
+        };
+        return coded(Err(unread_binary(page, names, table, op as usize, a, b)));
     };
     let a = operand_of(left, l);
     let b = operand_of(right, r);
@@ -816,8 +821,12 @@ pub extern "C" fn riddlepoppy_check_unary_operator(
     ensures page_after { page.new ≡ unary_page_in page.old (then_some lent names.now) op operand unit.now }
 {
     let names = lent_names(names, lent);
-    let Some((u, _)) = units_in(unit, unit) else {
-        return coded(Err(unread_unary(page, names, op as usize, operand, unit)));
+    let Ok(u) = values::read_value(unit) else {
+        let x = Operand {
+            number: operand,
+            unit,
+        };
+        return coded(Err(unread_unary(page, names, op as usize, x)));
     };
     let x = operand_of(operand, u);
     let answer = answers::check_unary_operator(page, names, op as usize, x);
@@ -839,9 +848,17 @@ pub extern "C" fn riddlepoppy_check_index(
     ensures page_after { page.new ≡ index_page_in page.old (then_some lent names.now) target unit.now key }
 {
     let names = lent_names(names, lent);
-    let none = [NONE_COUNT as u8];
-    let Some((u, _)) = units_in(unit, &none) else {
-        return coded(Err(unread_operands(page, names, target, unit, key, &none)));
+    let Ok(u) = values::read_value(unit) else {
+        let none = [NONE_COUNT as u8];
+        let x = Operand {
+            number: target,
+            unit,
+        };
+        let k = Operand {
+            number: key,
+            unit: &none,
+        };
+        return coded(Err(unread_operands(page, names, x, k)));
     };
     let x = operand_of(target, u);
     let answer = answers::check_index(page, names, x, checked_of(key));

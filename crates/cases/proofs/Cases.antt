@@ -24,7 +24,7 @@ use Rattle.pairs.specs.Calls.{empty_verdict, empty_page, table_broken}
 use Rattle.operators.specs.Operators.{class_of, unit_rule, result_rule, family_of, takes, looks, gives, suits, fits}
 use Rattle.operators.specs.Outcome.{passes, not_bools, misfit, plain_binary}
 use Rattle.members.specs.Members.{gather, members_of}
-use Rattle.members.specs.Trials.{fold_to, errors_of}
+use Rattle.members.specs.Trials.{fold_to}
 use Rattle.binary.specs.Binary.{binary_rule, binary_by, binary_known, check_binary}
 use Rattle.unary.specs.Unary.{failing, unary_errors, check_unary}
 use Rattle.answers.specs.Units.{clashes, binary_unit}
@@ -40,7 +40,7 @@ unfolding cases product_verdict product_of formed root_of parents_of enter_all e
     table_broken page_formed holds table_in table_formed pairs_in type_in_use symbols_in_use empty_verdict empty_page
     binary_checked with_unit passes clashes unitless binary_unit check_binary binary_known binary_by binary_rule
     plain_binary misfit not_bools fits suits looks takes gives family_of class_of unit_rule result_rule
-    unary_answer unary_page unary_unit check_unary unary_errors failing fold_to errors_of members_of gather is_used
+    unary_answer unary_page unary_unit check_unary unary_errors failing fold_to members_of gather is_used
 every_case_holds = ((refl, refl), (refl, (refl, (refl, (refl, (refl, (refl, (refl, (refl, (refl, (refl, (refl, (refl, (refl, (refl, (refl, (refl, (refl, ((refl, refl), tt)))))))))))))))))))
 
 -- the types of the rows stand in a store in form, with one name in use

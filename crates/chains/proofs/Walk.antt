@@ -155,10 +155,11 @@ module _ (bucket : ℕ → ℕ) (links : List ℕ) (n : ℕ) (l : Links bucket l
       before = λ j k. omega (arith, linked j k, last_le bucket (bucket j) j);
     }
 
-    pub any_walked : (says : ℕ → Bool → Type 0) (found : Bool) → Answers says (take n links) head found → (p : ℕ → Bool) → ((j : ℕ) → p j ≡ true → bucket j ≡ b)
+    pub any_walked : (says : ℕ → Bool → Type 0) (found : Bool) → ((p : ℕ → Bool) → ((k : ℕ) (r : Bool) → k < n → says k r → r ≡ p k) → found ≡ any_linked (take n links) p head)
+        → (p : ℕ → Bool) → ((j : ℕ) → p j ≡ true → bucket j ≡ b)
         → ((k : ℕ) (r : Bool) → k < n → says k r → r ≡ p k) → found ≡ any_to n p
     unfolding any_of
-    any_walked says found a p same t = a p (λ k r i s. t k r (omega (arith, taken)) s) ∙ go head head (omega arith) (walk_start bucket b p same n head e)
+    any_walked says found a p same t = a p t ∙ go head head (omega arith) (walk_start bucket b p same n head e)
       where
         go : (steps next : ℕ) → next ≤ steps → Walk bucket b p same n next → any_of steps (take n links) p next ≡ any_to n p
         go zero next i w = sym (walk_end bucket b p same n next w (omega arith))

@@ -10,7 +10,8 @@ use native.Mathlib.Omega.{arith}
 use lib.ListN.{length, get_or, replicate}
 use lib.Dec.{ltb, eqb}
 use borrow.Author.Tests.{lt-ltb, le-ltb, ltb-true}
-use Rattle.refusals.specs.Lowest.{◌when◌}
+use Rattle.refusals.specs.Lowest.{◌when◌, answer_of}
+use Rattle.refusals.specs.Numbers.{Verdict}
 use Rattle.refusals.specs.declared.Refusal.{Refusal}
 use Rattle.refusals.specs.declared.Refusal.TheVariants.{Broken, Unused}
 use Rattle.refusals.proofs.Lowest.{first_holds}
@@ -23,7 +24,8 @@ use Rattle.types.specs.Making.{taken_back, Grows}
 use Rattle.types.proofs.Placing.{offset_start, offset_le}
 use Rattle.types.proofs.Types.{end_inside}
 use Rattle.types.proofs.Back.{back}
-use Rattle.types.specs.Calls.{store_broken, const_answer, const_page}
+use Rattle.types.specs.Calls.{store_broken, opened_answer, const_answer, const_page}
+use Rattle.types.proofs.Calls.{opened_err}
 use Rattle.matching.specs.Matching.{matches, in_use}
 use Rattle.matching.specs.declared.Checked.{Checked}
 use Rattle.matching.specs.declared.Checked.TheVariants.{Known, Unknown, Function}
@@ -36,7 +38,7 @@ use Rattle.bindings.proofs.Substitution.{substitute_sound}
 use Rattle.bindings.proofs.Rebuilding.{remembered_none}
 use Rattle.unification.specs.Unification.{unified, unify_arg}
 use Rattle.unification.specs.declared.Unified.{Unified}
-use Rattle.checked.specs.Calls.{verdict_of, of_made, const_of, const_after, matches_answer, generic_answer, into_const, into_const_page, bindings_verdict, substitute_answer, substitute_page, kept_by, unify_arg_answer, unify_answer}
+use Rattle.checked.specs.Calls.{verdict_of, of_made, const_of, const_after, matches_answer, generic_answer, into_const, into_const_page, bindings_verdict, substitute_answer, substitute_page, kept_by, unified_or, unify_arg_answer, unify_answer}
 
 -- ---- numbers in use
 
@@ -82,9 +84,12 @@ module _ (page : List ℕ) (names : Option (List ℕ)) (f u : Bool) where
 -- ---- `matches`
 
 module _ (page : List ℕ) (names : Option (List ℕ)) (a e : Checked) where
-  pub matches_broken : store_broken page names ≡ true → Err Broken ≡ matches_answer page names a e
+  matches_broken : store_broken page names ≡ true → Err Broken ≡ matches_answer page names a e
   unfolding matches_answer
   matches_broken b = rw (verdict_broken page names true (in_use page a && in_use page e) b) refl
+
+  pub matches_refused : (r : Refusal) → Err r ≡ opened_answer page names → Err r ≡ matches_answer page names a e
+  matches_refused r h = let o = opened_err page names r h in rw o.1 (matches_broken o.0)
 
   module _ (b : store_broken page names ≡ false) where
     pub matches_left : in_use page a ≡ false → Err Unused ≡ matches_answer page names a e
@@ -102,9 +107,12 @@ module _ (page : List ℕ) (names : Option (List ℕ)) (a e : Checked) where
 -- ---- `has_generic`
 
 module _ (page : List ℕ) (names : Option (List ℕ)) (t : ℕ) where
-  pub generic_broken : store_broken page names ≡ true → Err Broken ≡ generic_answer page names t
+  generic_broken : store_broken page names ≡ true → Err Broken ≡ generic_answer page names t
   unfolding generic_answer
   generic_broken b = rw (verdict_broken page names true (ltb t (types_in page)) b) refl
+
+  pub generic_refused : (r : Refusal) → Err r ≡ opened_answer page names → Err r ≡ generic_answer page names t
+  generic_refused r h = let o = opened_err page names r h in rw o.1 (generic_broken o.0)
 
   module _ (b : store_broken page names ≡ false) where
     pub generic_unused : types_in page ≤ t → Err Unused ≡ generic_answer page names t
@@ -122,9 +130,12 @@ module _ (page : List ℕ) (names : Option (List ℕ)) (c : Checked) where
   abbrev Converts : Result Checked Refusal → List ℕ → Type 0
   Converts r after = (r ≡ into_const page names c) × (after ≡ into_const_page page names c)
 
-  pub const_broken : store_broken page names ≡ true → Converts (Err Broken) page
+  const_broken : store_broken page names ≡ true → Converts (Err Broken) page
   unfolding into_const into_const_page
   const_broken b = let v = verdict_broken page names true (in_use page c) b in (rw v refl, rw v refl)
+
+  pub const_refused : (r : Refusal) → Err r ≡ opened_answer page names → Converts (Err r) page
+  const_refused r h = let o = opened_err page names r h in rw o.1 (const_broken o.0)
 
   module _ (b : store_broken page names ≡ false) where
     pub const_unused : in_use page c ≡ false → Converts (Err Unused) page
@@ -161,9 +172,12 @@ module _ (page : List ℕ) (names : Option (List ℕ)) (b : Bindings) (t : ℕ) 
   unfolding substitute_answer substitute_page
   refused q v = (rw v refl, rw v refl)
 
-  pub substitute_broken : store_broken page names ≡ true → Substitutes (Err Broken) page
+  substitute_broken : store_broken page names ≡ true → Substitutes (Err Broken) page
   unfolding bindings_verdict
   substitute_broken h = refused Broken (verdict_broken page names (formed (used_of names) (types_in page) b) (ltb t (types_in page)) h)
+
+  pub substitute_refused : (r : Refusal) → Err r ≡ opened_answer page names → Substitutes (Err r) page
+  substitute_refused r h = let o = opened_err page names r h in rw o.1 (substitute_broken o.0)
 
   module _ (h : store_broken page names ≡ false) where
     pub substitute_unformed : formed (used_of names) (types_in page) b ≡ false → Substitutes (Err Broken) page
@@ -194,8 +208,8 @@ pub end_there : (page : List ℕ) (n end : ℕ) → n ≡ types_in page → end 
 end_there page n end is e = let z : n - fixed_max ≡ count_of page = omega (arith, is) in e ∙ ap (offset page) z
 
 module _ (page os ds : List ℕ) (m : Measured page os ds) where
-  pub works : (b : Bindings) (k t : ℕ) → formed k (types_in page) b ≡ true → t < types_in page → Working b page os ds (replicate types_max None) t
-  works b k t h l = record { measured = m; used = l; usable = usable k (types_in page) b h; remembered = remembered_none b page }
+  pub works : (b : Bindings) (k t : ℕ) → formed k (types_in page) b ≡ true → t < types_in page → Working b page (replicate types_max None) t
+  works b k t h l = record { used = l; usable = usable k (types_in page) b h; remembered = remembered_none b page }
 
   -- a store that has grown, taken back
   module _ (after : List ℕ) (g : Grows page after) (end : ℕ) (is : end ≡ offset page (count_of page)) where
@@ -219,35 +233,60 @@ module _ (page os ds : List ℕ) (m : Measured page os ds) where
 -- ---- `unify` and `unify_arg`
 
 module _ (page : List ℕ) (names : Option (List ℕ)) (b : Bindings) (e : ℕ) (c : Checked) where
-  fails : (q : Refusal) → bindings_verdict page names b (ltb e (types_in page) && in_use page c) ≡ Err q → unified (Err q) b ≡ unify_arg_answer page names b e c
-  unfolding unify_arg_answer
+  -- what the tests come to, and the walk after them
+  abbrev Tested : Result Unified Refusal
+  Tested = answer_of (bindings_verdict page names b (ltb e (types_in page) && in_use page c)) (unify_arg page e c b)
+
+  fails : (q : Refusal) → bindings_verdict page names b (ltb e (types_in page) && in_use page c) ≡ Err q → Err q ≡ Tested
   fails q v = rw v refl
 
-  pub unify_broken : store_broken page names ≡ true → unified (Err Broken) b ≡ unify_arg_answer page names b e c
+  unify_broken : store_broken page names ≡ true → Err Broken ≡ Tested
   unfolding bindings_verdict
   unify_broken h = fails Broken (verdict_broken page names (formed (used_of names) (types_in page) b) (ltb e (types_in page) && in_use page c) h)
 
+  pub unify_refused : (r : Refusal) → Err r ≡ opened_answer page names → Err r ≡ Tested
+  unify_refused r h = let o = opened_err page names r h in rw o.1 (unify_broken o.0)
+
   module _ (h : store_broken page names ≡ false) where
-    pub unify_unformed : formed (used_of names) (types_in page) b ≡ false → unified (Err Broken) b ≡ unify_arg_answer page names b e c
+    pub unify_unformed : formed (used_of names) (types_in page) b ≡ false → Err Broken ≡ Tested
     unfolding bindings_verdict
     unify_unformed k = fails Broken (verdict_unformed page names (formed (used_of names) (types_in page) b) (ltb e (types_in page) && in_use page c) h k)
 
     module _ (k : formed (used_of names) (types_in page) b ≡ true) where
-      unused : (ltb e (types_in page) && in_use page c) ≡ false → unified (Err Unused) b ≡ unify_arg_answer page names b e c
+      unused : (ltb e (types_in page) && in_use page c) ≡ false → Err Unused ≡ Tested
       unfolding bindings_verdict
       unused l = fails Unused (verdict_unused page names (formed (used_of names) (types_in page) b) (ltb e (types_in page) && in_use page c) h k l)
 
-      pub unify_unused : types_in page ≤ e → unified (Err Unused) b ≡ unify_arg_answer page names b e c
+      pub unify_unused : types_in page ≤ e → Err Unused ≡ Tested
       unify_unused l = unused (rw (le-ltb e (types_in page) l) refl)
 
-      pub unify_unused_actual : in_use page c ≡ false → unified (Err Unused) b ≡ unify_arg_answer page names b e c
+      pub unify_unused_actual : in_use page c ≡ false → Err Unused ≡ Tested
       unify_unused_actual u = unused (rw u (and_false (ltb e (types_in page))))
 
-      pub unify_says : e < types_in page → in_use page c ≡ true → (u : Unified) → u ≡ unify_arg page e c b → kept_by u.answer u.bindings b ≡ unify_arg_answer page names b e c
-      unfolding unify_arg_answer bindings_verdict
+      pub unify_says : e < types_in page → in_use page c ≡ true → (u : Unified) → u ≡ unify_arg page e c b → Ok u ≡ Tested
+      unfolding bindings_verdict
       unify_says l u r q =
           let w : (ltb e (types_in page) && in_use page c) ≡ true = rw (lt-ltb e (types_in page) l, u) refl in
           rw (verdict_passed page names (formed (used_of names) (types_in page) b) (ltb e (types_in page) && in_use page c) h k w, q) refl
+
+  -- what is answered of that
+  abbrev given : Result Unified Refusal → Unified
+  given (Ok u) = kept_by u.answer u.bindings b
+  given (Err r) = unified (Err r) b
+
+  given_is : given Tested ≡ unify_arg_answer page names b e c
+  unfolding unify_arg_answer
+  given_is = go (bindings_verdict page names b (ltb e (types_in page) && in_use page c))
+    where
+      go : (v : Verdict) → given (answer_of v (unify_arg page e c b)) ≡ unified_or v (unify_arg page e c b) b
+      go (Ok t) = refl
+      go (Err r) = refl
+
+  pub unify_passed : (u : Unified) → Ok u ≡ Tested → kept_by u.answer u.bindings b ≡ unify_arg_answer page names b e c
+  unify_passed u h = ap given h ∙ given_is
+
+  pub unify_stopped : (r : Refusal) → Err r ≡ Tested → unified (Err r) b ≡ unify_arg_answer page names b e c
+  unify_stopped r h = ap given h ∙ given_is
 
 -- an actual type is a checked one that is Known
 pub unify_known : (page : List ℕ) (names : Option (List ℕ)) (b : Bindings) (e a : ℕ) → unify_arg_answer page names b e (Known a) ≡ unify_answer page names b e a

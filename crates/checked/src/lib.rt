@@ -2,20 +2,21 @@
 // what it cannot answer.
 #![tactic(auto)]
 
-ghost use Rattle.std.specs.Prelude.{◌≡◌, true, ◌*◌, ◌≤◌, ◌<◌, option_copied};
+ghost use Rattle.std.specs.Prelude.{◌≡◌, true, ◌&&◌, ◌*◌, ◌≤◌, ◌<◌, ltb, option_copied};
+ghost use Rattle.refusals.specs.Lowest.{answer_of};
 ghost use Rattle.types.specs.Types.{types_in};
 ghost use Rattle.marks.specs.Marks.{large_bytes};
 ghost use Rattle.matching.specs.Matching.{in_use, matches};
 ghost use Rattle.bindings.specs.Bindings.{bindings_max, Usable};
 ghost use Rattle.unification.specs.Unification.{unified, unify_arg};
-ghost use Rattle.checked.specs.Calls.{of_made, matches_answer, generic_answer, into_const, into_const_page, substitute_answer, substitute_page, kept_by, fits_bound, unify_arg_answer, unify_answer};
+ghost use Rattle.checked.specs.Calls.{of_made, matches_answer, generic_answer, into_const, into_const_page, substitute_answer, bindings_verdict, substitute_page, kept_by, fits_bound, unify_arg_answer, unify_answer};
 
 use bindings::Bindings;
 use kinds::CALLBACK;
 use marks::{LARGE_BYTES, SMALL, SMALL_BYTES, TINY, TINY_BYTES};
 use matching::{Checked, LARGE_MEMO, Matcher, SMALL_MEMO, TINY_MEMO};
 use refusals::Refusal;
-use types::{Store, TYPES, Tables};
+use types::{Maker, Store, TYPES, Tables};
 use unification::{Unified, Unifier};
 
 // Whether a checked type's number is in use and, of a Function, that of a Callback. For crates above (their entry calls answer 3).
@@ -44,7 +45,8 @@ fn matches_over<const N: usize>(store: Store, actual: Checked, expected: Checked
     matcher.matches(actual, expected)
 }
 
-// The same over a table that has room for both types.
+// The same over a table that has room for both types. The choice stands here, in `unify_in` and in `answers::index_in`: over a closure for
+// what is called it cannot be one function, as a closure has no const parameter.
 fn matches_in(store: Store, actual: Checked, expected: Checked) -> bool
     requires { (in_use store.page.now actual ≡ true) × (in_use store.page.now expected ≡ true) }
     ensures { result ≡ matches store.entry.page.now actual expected }
@@ -68,9 +70,7 @@ pub fn matches(
     ensures { result ≡ matches_answer page.now (option_copied names.entry) actual expected }
 {
     let mut tables = Tables::new();
-    if !types::opened(page, names, &mut tables) {
-        return Err(Refusal::Broken);
-    }
+    types::opened(page, names, &mut tables)?;
     let store = tables.store(page);
     if !is_used(store, actual) {
         return Err(Refusal::Unused);
@@ -86,9 +86,7 @@ pub fn has_generic(page: &[u8], names: Option<&[u8]>, t: usize) -> Result<bool, 
     ensures { result ≡ generic_answer page.now (option_copied names.entry) t }
 {
     let mut tables = Tables::new();
-    if !types::opened(page, names, &mut tables) {
-        return Err(Refusal::Broken);
-    }
+    types::opened(page, names, &mut tables)?;
     let store = tables.store(page);
     if store.count() <= t {
         return Err(Refusal::Unused);
@@ -108,16 +106,20 @@ pub fn into_const(page: &mut [u8], names: Option<&[u8]>, c: Checked) -> Result<C
     ensures { (result ≡ into_const page.old (option_copied names.entry) c) × (page.new ≡ into_const_page page.old (option_copied names.entry) c) }
 {
     let mut tables = Tables::new();
-    if !types::opened(page, names, &mut tables) {
-        return Err(Refusal::Broken);
-    }
+    types::opened(page, names, &mut tables)?;
     if !is_used(tables.store(page), c) {
         return Err(Refusal::Unused);
     }
     match c {
         Checked::Unknown => Ok(Checked::Unknown),
         Checked::Function(f) => Ok(Checked::Function(f)),
-        Checked::Known(t) => of_made(types::const_form(page, &mut tables, t)),
+        Checked::Known(t) => {
+            let mut maker = Maker {
+                page,
+                tables: &mut tables,
+            };
+            of_made(maker.const_form(t))
+        }
     }
 }
 
@@ -131,12 +133,10 @@ pub fn substitute(
     ensures { (result ≡ substitute_answer page.old (option_copied names.entry) bound t) × (page.new ≡ substitute_page page.old (option_copied names.entry) bound t) }
 {
     let mut tables = Tables::new();
-    if !types::opened(page, names, &mut tables) {
-        return Err(Refusal::Broken);
-    }
+    let used = types::opened(page, names, &mut tables)?;
     let store = tables.store(page);
     let n = store.count();
-    if !bindings::is_formed(bound, names::in_use(names), n) {
+    if !bindings::is_formed(bound, used, n) {
         return Err(Refusal::Broken);
     }
     if n <= t {
@@ -145,7 +145,11 @@ pub fn substitute(
     let front = store.front();
     let end = store.place_of(n);
     let mut done = [None; TYPES];
-    let made = bindings::substitute(page, &mut tables, &mut done, bound, t);
+    let mut maker = Maker {
+        page,
+        tables: &mut tables,
+    };
+    let made = bindings::substitute(&mut maker, &mut done, bound, t);
     if let Err(_) = made {
         types::take_back(page, front, end);
     }
@@ -227,6 +231,32 @@ fn unify_in(store: Store, bound: Bindings, e: usize, actual: Checked) -> Unified
     }
 }
 
+// Whether an argument fits a parameter, and what generic names it binds, where names, store and bindings are in form and the numbers in use.
+fn unify_tested(
+    page: &[u8],
+    names: Option<&[u8]>,
+    bound: Bindings,
+    e: usize,
+    actual: Checked,
+) -> Result<Unified, Refusal>
+    ensures { result ≡ answer_of (bindings_verdict page.now (option_copied names.entry) bound (ltb e (types_in page.now) && in_use page.now actual)) (unify_arg page.now e actual bound) }
+{
+    let mut tables = Tables::new();
+    let used = types::opened(page, names, &mut tables)?;
+    let store = tables.store(page);
+    let n = store.count();
+    if !bindings::is_formed(bound, used, n) {
+        return Err(Refusal::Broken);
+    }
+    if n <= e {
+        return Err(Refusal::Unused);
+    }
+    if !is_used(store, actual) {
+        return Err(Refusal::Unused);
+    }
+    Ok(unify_in(store, bound, e, actual))
+}
+
 // Whether an argument fits a parameter, and what generic names it binds.
 pub fn unify_arg(
     page: &[u8],
@@ -237,23 +267,10 @@ pub fn unify_arg(
 ) -> Unified
     ensures { result ≡ unify_arg_answer page.now (option_copied names.entry) bound e actual }
 {
-    let mut tables = Tables::new();
-    if !types::opened(page, names, &mut tables) {
-        return refuse(Refusal::Broken, bound);
+    match unify_tested(page, names, bound, e, actual) {
+        Ok(out) => kept_by(out, bound),
+        Err(r) => refuse(r, bound),
     }
-    let store = tables.store(page);
-    let n = store.count();
-    if !bindings::is_formed(bound, names::in_use(names), n) {
-        return refuse(Refusal::Broken, bound);
-    }
-    if n <= e {
-        return refuse(Refusal::Unused, bound);
-    }
-    if !is_used(store, actual) {
-        return refuse(Refusal::Unused, bound);
-    }
-    let out = unify_in(store, bound, e, actual);
-    kept_by(out, bound)
 }
 
 // Whether an actual type fits an expected one, and what generic names it binds.

@@ -5,7 +5,8 @@ ghost use Rattle.std.specs.Prelude.{◌≡◌, ◌+◌, ◌≤◌, ◌<◌, leng
 ghost use Rattle.pages.specs.Bytes.{put};
 ghost use Rattle.digits.specs.Decimal.{decimal_max, digit_of, decimal_of};
 
-// Writes bytes from index at on, and answers where they end.
+// Writes bytes from index at on, and answers where they end. The page and the place go apart: of a struct with both, each contract would
+// say `old.out` and `new.at` of it, and that the page lent is the same one, besides.
 pub fn push(out: &mut [u8], at: usize, bytes: &[u8]) -> usize
     requires { at + length bytes.now ≤ length out.old }
     ensures { (result ≡ at + length bytes.now) × (out.new ≡ put out.old at bytes.now) }
@@ -14,6 +15,7 @@ pub fn push(out: &mut [u8], at: usize, bytes: &[u8]) -> usize
     at + bytes.len()
 }
 
+// The byte of a digit.
 fn digit(n: usize) -> u8
     requires { n < 10 }
     ensures { result ≡ digit_of n }

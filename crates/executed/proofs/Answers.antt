@@ -31,7 +31,7 @@ use Rattle.operators.specs.Operators.{minus, class_of, unit_rule, result_rule, i
 use Rattle.operators.specs.Outcome.{no_error, one_error, some_fail, passes, misfit, plain_binary}
 use Rattle.operators.specs.declared.Reason.TheVariants.{BadUnits, NotIndexable}
 use Rattle.members.specs.Members.{gather, share_of, members_of, has, merged, union_of}
-use Rattle.members.specs.Trials.{fold_to, failed_at, errors_of, joined, settled}
+use Rattle.members.specs.Trials.{fold_to, joined, settled}
 use Rattle.binary.specs.Binary.{row_tried, rows_tried, outcome_of, any_rule, binary_rule, binary_by, binary_known, check_binary}
 use Rattle.unary.specs.Unary.{pass_rule, unary_passes, failing, unary_errors, one_more, result_next, results_to, together, answer_rule, unary_result, check_unary}
 use Rattle.indexing.specs.Indexing.{index_target, check_index}
@@ -63,7 +63,7 @@ pub record Rows : Type 0 where
   pub mm_in : BinaryRow 1 (operand uint mm) (operand uint inch) (passed (Known uint) mm no_error)
   pub sum : BinaryRow 1 (operand uint mm) (operand uint (power 1 (pos 1))) (passed (Known uint) no_unit (one_error BadUnits))
   pub difference : BinaryRow minus (operand uint mm) (operand uint (power 1 (pos 1))) (passed (Known uint) no_unit (one_error BadUnits))
-  pub member : BinaryRow 3 (operand 19 (power 0 (pos 1000))) (operand int (power 0 (pos 1))) (passed Unknown no_unit (some_fail 1 float int))
+  pub member : BinaryRow 3 (operand 19 (power 0 (pos 1000))) (operand int (power 0 (pos 1))) (passed Unknown no_unit (some_fail 1 float (Some int)))
   pub limit : BinaryRow 3 (operand 20 (power 0 (pos 1000))) (operand int (power 0 (pos 1))) (Err Exponent)
   pub negated : UnaryRow minus (operand 19 mm) (passed (Known 19) no_unit no_error)
   pub null : IndexRow (operand 0 no_unit) (passed Unknown no_unit no_error)
@@ -78,7 +78,7 @@ unfolding binary_answer store_broken lent_broken used_of names_formed good_name_
     page_after pair_verdict with_table with_pair
     type_in_use symbols_in_use formed kind_of arity child_of cov run below
     binary_checked with_unit passes clashes unitless convertible binary_unit adopted_by combined product_answer product_verdict product_of
-    check_binary binary_known binary_by binary_rule any_rule outcome_of rows_tried row_tried fold_to joined settled failed_at errors_of merged has
+    check_binary binary_known binary_by binary_rule any_rule outcome_of rows_tried row_tried fold_to joined settled merged has
     plain_binary misfit fits suits looks takes gives family_of class_of unit_rule result_rule members_of share_of gather
     unary_answer unary_page unary_unit negation_unit check_unary unary_errors failing unary_passes pass_rule taker_of
     unary_result answer_rule together results_to result_next one_more union_of enter_answer enter_page enter_verdict is_made entry_of words is_used

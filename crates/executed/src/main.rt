@@ -20,14 +20,13 @@ use bindings::{BINDINGS, Bindings};
 use marks::TINY_BYTES;
 use matching::{Checked, Matcher, TINY_MEMO};
 use names::Symbol;
-use operators::{Errors, MINUS, Reason};
+use operators::{Errors, Failing, MINUS, Reason};
 use refusals::Refusal;
-use types::Tables;
+use types::{NULL, Tables};
 use unification::Unifier;
 use units::{PLACES, Unit};
 
-const NULL: usize = 0;
-
+// The numbers of fixed types, each the code of its kind.
 const INT: usize = 1;
 
 const UINT: usize = 3;
@@ -52,12 +51,16 @@ const TUPLE_INT_INT: usize = 21;
 
 // A store of Any(Int, Float), Any(Int), Tuple(Int) and Array Float.
 const UNIONS: [u8; 20] = [
-    0, // a count of 4
-    4, 2, // Any(Int, Float)
-    29, 0, 1, 0, 5, 1, // Any(Int)
-    29, 0, 1, 1, // Tuple(Int)
-    27, 0, 1, 1, // Array Float
-    19, 0, 5,
+    // a count of 4
+    0, 4,
+    // Any(Int, Float)
+    2, 29, 0, 1, 0, 5,
+    // Any(Int)
+    1, 29, 0, 1,
+    // Tuple(Int)
+    1, 27, 0, 1,
+    // Array Float
+    1, 19, 0, 5,
 ];
 
 const ANY_INT_FLOAT: usize = 19;
@@ -68,7 +71,7 @@ const TUPLE_INT: usize = 21;
 
 const ARRAY_FLOAT: usize = 22;
 
-// How many names there are.
+// How many names are in use in the stores `ARRAYS` and `TUPLES`, in which A has number 0. The four of `SYMBOLS` are of units.
 const NAMES: usize = 1;
 
 const METRE: Symbol = 0;
@@ -221,11 +224,11 @@ const NO_ERROR: Errors = Errors::None;
 
 const BAD_UNITS: Errors = Errors::One(Reason::BadUnits);
 
-const ONE_FAILS: Errors = Errors::SomeFail {
-    failing: 1,
+const ONE_FAILS: Errors = Errors::SomeFail(Failing {
+    count: 1,
     left: 5,
-    right: 1,
-};
+    right: Some(1),
+});
 
 const NOT_INDEXABLE: Errors = Errors::One(Reason::NotIndexable);
 
@@ -254,7 +257,7 @@ fn expect_unified(page: &[u8], e: usize, a: usize, yes: bool)
     requires unbound_value { unify page.now e a unbound ≡ said yes unbound }
 {
     let mut tables = Tables::new();
-    check::expect(types::survey(page, NAMES, &mut tables));
+    check::expect(types::survey(page, NAMES, &mut tables).is_ok());
     let store = tables.store(page);
     let mut memo = [0; TINY_MEMO];
     let mut seen = [0; TINY_BYTES];

@@ -1,7 +1,6 @@
 -- The check of an index (document 01, "Answers"; `check_index_target` and `check_index_any` of the source's statements/mod.rs): a
 -- target, and a key.
-use Rattle.std.specs.Prelude.{◌≡◌, ◌||◌, cond, List, [], ℕ, ◌<◌, eqb, take, Ok, Option, MatchOption}
-use Rattle.std.specs.Option.{unwrap_or}
+use Rattle.std.specs.Prelude.{◌||◌, cond, List, [], ℕ, eqb, take, Ok, None}
 use Rattle.kinds.specs.Kinds.{null, is_array, is_set, is_map, is_tuple, is_union}
 use Rattle.types.specs.Types.{kind_of, child_of}
 use Rattle.matching.specs.Matching.{matches}
@@ -11,7 +10,7 @@ use Rattle.operators.specs.Outcome.{no_error, one_error, outcome}
 use Rattle.operators.specs.declared.Reason.TheVariants.{BadKey, NotIndexable}
 use Rattle.operators.specs.declared.Outcome.{Outcome}
 use Rattle.members.specs.Members.{size_of, member, Concluded, concluded}
-use Rattle.members.specs.Trials.{fold_to, failures, no_failure, Tried, tried, joined, settled}
+use Rattle.members.specs.Trials.{fold_to, no_failure, Tried, tried, joined, settled}
 use Rattle.indexing.specs.declared.Trials.{Trials}
 
 -- ---- `check_index_target`
@@ -29,15 +28,11 @@ index_target page key t =
 
 -- the first n members of t
 unfoldable pub members_tried : List ℕ → Checked → ℕ → ℕ → Tried
-members_tried page key t n = fold_to n (λ i q. joined (member page t i) 0 (index_target page key (member page t i)) q) (tried [] no_failure)
+members_tried page key t n = fold_to n (λ i q. joined (member page t i) None (index_target page key (member page t i)) q) (tried [] no_failure)
 
--- a first of the members that fail is there exactly where some fail
-abbrev pub FirstOf : ℕ → Option ℕ → Type 0
-FirstOf failing first = MatchOption first (failing ≡ 0) (λ x. 0 < failing)
-
--- the trials as src/ has them: how many results stand in a list, how many members fail, and the first of those
+-- the trials as src/ has them: how many results stand in a list, and the members that fail
 abbrev pub tried_of : List ℕ → Trials → Tried
-tried_of results trials = tried (take trials.merged results) (failures trials.failing (unwrap_or trials.first 0) 0)
+tried_of results trials = tried (take trials.merged results) trials.failing
 
 unfoldable pub index_any : List ℕ → Checked → ℕ → Concluded
 index_any page key t = settled page (members_tried page key t (size_of page t))

@@ -1,25 +1,26 @@
 // Indexing (document 01, "Answers"; `check_index_target` and `check_index_any` of the source's statements/mod.rs).
 #![tactic(auto)]
 
-ghost use Rattle.std.specs.Prelude.{◌≡◌, true, ◌||◌, ◌+◌, ◌≤◌, ◌<◌, eqb, length};
+ghost use Rattle.std.specs.Prelude.{None, ◌≡◌, true, ◌||◌, ◌+◌, ◌≤◌, ◌<◌, eqb};
 ghost use Rattle.kinds.specs.Kinds.{null, is_array, is_set, is_tuple};
 ghost use Rattle.types.specs.Store.{types_max};
-ghost use Rattle.types.specs.Types.{types_in, Held, Measured};
+ghost use Rattle.types.specs.Types.{types_in};
+ghost use Rattle.types.specs.Same as makers;
 ghost use Rattle.matching.specs.Matching.{in_use};
 ghost use Rattle.marks.specs.Marks.{Noted};
 ghost use Rattle.matching.specs.Memo.{Found};
 ghost use Rattle.matching.specs.Same.{Same};
 ghost use Rattle.operators.specs.Outcome.{number_of};
 ghost use Rattle.members.specs.Members.{members_max, size_of, concluded};
-ghost use Rattle.members.specs.Trials.{joined};
-ghost use Rattle.indexing.specs.Indexing.{index_target, members_tried, FirstOf, tried_of, index_any, check_index};
+ghost use Rattle.members.specs.Trials.{failing_count, joined};
+ghost use Rattle.indexing.specs.Indexing.{index_target, members_tried, tried_of, index_any, check_index};
 
 use kinds::Kind;
 use matching::{Checked, Matcher};
-use members::{MEMBERS, conclusion_of, enter_union, flatten, merge};
-use operators::{Errors, Outcome, Reason};
+use members::{MEMBERS, conclusion_of, enter_union, failed_at, flatten, merge};
+use operators::{Errors, Failing, Outcome, Reason};
 use refusals::Refusal;
-use types::{NULL, Tables};
+use types::{Maker, NULL};
 
 // Whether a kind's values have one sort of element: arrays and sets.
 fn has_elements(k: Kind) -> bool
@@ -52,10 +53,7 @@ pub fn check_index_target(matcher: &mut Matcher, key: Checked, t: usize) -> Outc
         if matcher.matches(key, Checked::Known(wanted)) {
             return operators::known(value);
         }
-        return Outcome {
-            checked: Checked::Known(value),
-            errors: Errors::One(Reason::BadKey),
-        };
+        return operators::known_with(value, Errors::One(Reason::BadKey));
     }
     if is_unknown(kind) {
         return operators::unknown(Errors::None);
@@ -63,28 +61,24 @@ pub fn check_index_target(matcher: &mut Matcher, key: Checked, t: usize) -> Outc
     operators::unknown(Errors::One(Reason::NotIndexable))
 }
 
-// The trials of members: how many results there are, how many members fail, and the first of those.
+// The trials of members: how many results there are, and the members that fail.
 #[derive(Clone, Copy)]
 struct Trials {
     merged: usize,
-    failing: usize,
-    first: Option<usize>,
+    failing: Option<Failing>,
 }
 
 // One more trial, of member x. The results are merged.
-#[tactic(auto, using(crate::proofs::Trying::joins, crate::proofs::Trying::fails, crate::proofs::Trying::first_or, pages::proofs::Options::none_cond, std::proofs::lemmas::Option::cond_some))]
-fn join(results: &mut [u16], trials: Trials, o: Outcome, x: usize) -> Trials
-    requires results_len { (length results.old ≡ members_max) × (trials.merged < members_max) }
-    requires failing_lt_members_max { (trials.failing < members_max) × (number_of o.checked < types_max) }
-    requires first { FirstOf trials.failing trials.first }
-    ensures result_after { tried_of results.new result ≡ joined x 0 o (tried_of results.old trials) }
-    ensures results_len_2 { (length results.new ≡ members_max) × (result.merged ≤ trials.merged + 1) × (result.failing ≤ trials.failing + 1) }
-    ensures first_2 { FirstOf result.failing result.first }
+#[tactic(auto, using(crate::proofs::Trying::joins, crate::proofs::Trying::fails, pages::proofs::Options::none_cond, std::proofs::lemmas::Option::cond_some))]
+fn join(results: &mut [u16; MEMBERS], trials: Trials, o: Outcome, x: usize) -> Trials
+    requires merged_lt_members_max { trials.merged < members_max }
+    requires failing_lt_members_max { (failing_count trials.failing < members_max) × (number_of o.checked < types_max) }
+    ensures result_after { tried_of results.new result ≡ joined x None o (tried_of results.old trials) }
+    ensures merged_bound { (result.merged ≤ trials.merged + 1) × (failing_count result.failing ≤ failing_count trials.failing + 1) }
 {
     let Some(t) = o.passed() else {
         return Trials {
-            failing: trials.failing + 1,
-            first: trials.first.or(Some(x)),
+            failing: Some(failed_at(x, None, trials.failing)),
             ..trials
         };
     };
@@ -95,20 +89,23 @@ fn join(results: &mut [u16], trials: Trials, o: Outcome, x: usize) -> Trials
 }
 
 // Tries every member of a type.
-fn try_members(matcher: &mut Matcher, key: Checked, t: usize, results: &mut [u16]) -> Trials
-    requires t_bound { (t < types_in matcher.old.store.page.now) × (in_use matcher.old.store.page.now key ≡ true) × (length results.old ≡ members_max) }
+fn try_members(
+    matcher: &mut Matcher,
+    key: Checked,
+    t: usize,
+    results: &mut [u16; MEMBERS],
+) -> Trials
+    requires t_bound { (t < types_in matcher.old.store.page.now) × (in_use matcher.old.store.page.now key ≡ true) }
     ensures result_after { tried_of results.new result ≡ members_tried matcher.old.store.page.now key t (size_of matcher.old.store.page.now t) }
-    ensures results_len { (length results.new ≡ members_max) × (result.merged ≤ members_max) }
-    ensures first { FirstOf result.failing result.first }
+    ensures merged_bound { result.merged ≤ members_max }
     ensures same { Same matcher.new matcher.old }
 {
-    // An array with its count beside it: there is no heap.
+    // An array with its count beside it, as `members::MEMBERS` says.
     let mut types = [0; MEMBERS];
     let n = flatten(matcher.store, t, &mut types);
     let mut trials = Trials {
         merged: 0,
-        failing: 0,
-        first: None,
+        failing: None,
     };
     for x in &types[..n] {
         let x = usize::from(*x);
@@ -118,62 +115,59 @@ fn try_members(matcher: &mut Matcher, key: Checked, t: usize, results: &mut [u16
     trials
 }
 
-// What indexing a union comes to: every member is tried. What the memo holds stays right in the store that grows.
+// What indexing a union comes to: every member is tried. What the memo holds stays right in the store that grows; it stands beside the
+// maker, as a `Matcher` has a store that nobody writes.
 pub fn check_index_any(
-    page: &mut [u8],
-    tables: &mut Tables,
+    maker: &mut Maker,
     memo: &mut [u8],
     key: Checked,
     t: usize,
 ) -> Result<Outcome, Refusal>
-    requires measured { Measured page.old tables.old.offsets tables.old.depths }
-    requires t_bound { (t < types_in page.old) × (in_use page.old key ≡ true) }
-    requires noted { Noted (Found page.old) memo.old }
-    ensures page_after { concluded result page.new ≡ index_any page.old key t }
-    ensures measured_2 { Measured page.new tables.new.offsets tables.new.depths }
-    ensures noted_2 { Noted (Found page.new) memo.new }
+    requires t_bound { (t < types_in maker.old.page.now) × (in_use maker.old.page.now key ≡ true) }
+    requires noted { Noted (Found maker.old.page.now) memo.old }
+    ensures page_after { concluded result maker.new.page.now ≡ index_any maker.old.page.now key t }
+    ensures noted_2 { Noted (Found maker.new.page.now) memo.new }
+    ensures same { makers.Same maker.new maker.old }
 {
-    // An array, whose count the trials hold: there is no heap.
+    // An array, whose count the trials hold, as `members::MEMBERS` says.
     let mut results = [0; MEMBERS];
     let mut matcher = Matcher {
-        store: tables.store(page),
+        store: maker.store(),
         table: memo,
     };
     let trials = try_members(&mut matcher, key, t, &mut results);
-    if let Some(first) = trials.first {
-        return Ok(operators::unknown(operators::some_fail(trials.failing, first, 0)));
+    if let Some(failing) = trials.failing {
+        return Ok(operators::unknown(Errors::SomeFail(failing)));
     }
     if trials.merged == 0 {
         return Ok(operators::unknown(Errors::One(Reason::NoMember)));
     }
-    conclusion_of(enter_union(page, tables, &results, trials.merged))
+    conclusion_of(enter_union(maker, &results[..trials.merged]))
 }
 
 // What indexing a checked type comes to, for crates above (`answers::check_index` is the entry call). A refusal leaves
 // the store as it was.
 pub fn check_index(
-    page: &mut [u8],
-    tables: &mut Tables,
+    maker: &mut Maker,
     memo: &mut [u8],
     target: Checked,
     key: Checked,
 ) -> Result<Outcome, Refusal>
-    requires measured { Measured page.old tables.old.offsets tables.old.depths }
-    requires target_value { (in_use page.old target ≡ true) × (in_use page.old key ≡ true) }
-    requires noted { Noted (Found page.old) memo.old }
-    ensures page_after { concluded result page.new ≡ check_index page.old key target }
-    ensures measured_2 { Measured page.new tables.new.offsets tables.new.depths }
-    ensures noted_2 { Noted (Found page.new) memo.new }
+    requires target_value { (in_use maker.old.page.now target ≡ true) × (in_use maker.old.page.now key ≡ true) }
+    requires noted { Noted (Found maker.old.page.now) memo.old }
+    ensures page_after { concluded result maker.new.page.now ≡ check_index maker.old.page.now key target }
+    ensures noted_2 { Noted (Found maker.new.page.now) memo.new }
+    ensures same { makers.Same maker.new maker.old }
 {
     match target {
         Checked::Unknown => Ok(operators::unknown(Errors::None)),
         Checked::Function(_) => Ok(operators::unknown(Errors::One(Reason::NotIndexable))),
         Checked::Known(t) => {
-            if kinds::is_union(tables.store(page).kind_of(t)) {
-                return check_index_any(page, tables, memo, key, t);
+            if kinds::is_union(maker.store().kind_of(t)) {
+                return check_index_any(maker, memo, key, t);
             }
             let mut matcher = Matcher {
-                store: tables.store(page),
+                store: maker.store(),
                 table: memo,
             };
             Ok(check_index_target(&mut matcher, key, t))

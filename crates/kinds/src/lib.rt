@@ -4,7 +4,8 @@
 ghost use Rattle.std.specs.Prelude.{◌≡◌, ◌≤◌};
 ghost use Rattle.kinds.specs.Kinds.{children_max, is_int, is_byte, is_array, is_set, is_result, is_map, is_tuple, is_record, is_enum, is_built, is_union, is_named, is_stored, fewest, most, is_plain, const_variant, const_matches};
 
-// The code of a kind; no enum, as the functions are lent any byte, and const forms (k + 1) and families (k - k % 2) are arithmetic on codes.
+// The code of a kind; no enum, as the functions are lent any byte, and the const form of a code k, k + 1, and its family in `operators`,
+// k - k % 2 or k - (k + 1) % 2, are arithmetic on codes.
 pub type Kind = u8;
 
 // How many types are always there, under the codes of their kinds.

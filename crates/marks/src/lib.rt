@@ -1,5 +1,6 @@
 // Marks on pairs of types in a lent table, one bit each: what a call has found, so that it is not found again. A row has two marks for
-// each type that the table has room for; behind its end nothing is marked, and nothing can be.
+// each type that the table has room for; behind its end nothing is marked, and nothing can be. Rows and columns are numbers, as types are
+// (`types::Store` says why), and a table is whatever bytes a caller has for it.
 #![tactic(auto)]
 
 ghost use Rattle.std.specs.Prelude.{◌≡◌, ◌≤◌, ◌<◌, length, MatchOption};

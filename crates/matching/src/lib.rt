@@ -2,7 +2,7 @@
 // numbers in use in the store; `checked` has the calls that test them.
 #![tactic(auto)]
 
-ghost use Rattle.std.specs.Prelude.{◌≡◌, true, false, ◌||◌, ◌*◌, ◌≤◌, ◌<◌, replicate};
+ghost use Rattle.std.specs.Prelude.{◌≡◌, true, false, ◌||◌, ◌*◌, ◌≤◌, ◌<◌, replicate, MatchOption};
 ghost use Rattle.types.specs.Store.{types_max};
 ghost use Rattle.kinds.specs.Kinds.{is_array, is_map, is_tuple, is_union, const_matches};
 ghost use Rattle.marks.specs.Marks.{is_marked, marking, Noted};
@@ -23,7 +23,8 @@ pub enum Checked {
 }
 
 // A store, and a table lent to it of what a call has found of pairs of its types: all that it says was found.
-// The functions below take the two apart: as methods of this type they took 5 to 32 percent longer on hostile stores.
+// The functions below take the two apart: as methods of this type, `matches` on the hostile stores of `harness` took 5 to 32 percent
+// longer than as these functions.
 #[derive(Drop)]
 pub struct Matcher<'a> {
     pub store: Store<'a>,
@@ -38,7 +39,8 @@ pub const SMALL_MEMO: usize = 2 * SMALL_BYTES;
 
 pub const LARGE_MEMO: usize = 2 * LARGE_BYTES;
 
-// The number of a checked type, 0 where none is known.
+// The number of a checked type, 0 where none is known: a number that is always in use, so that a type not known fits every table. An
+// Option would have to say what an empty table fits.
 #[tactic(auto, unfolding(crate::specs::Memo::type_number))]
 fn type_number(c: Checked) -> usize
     ensures { result ≡ type_number c }
@@ -57,7 +59,7 @@ pub fn fits(n: usize, a: Checked, b: Checked) -> bool
     (type_number(a) < n) & (type_number(b) < n)
 }
 
-// The column of a type and an answer. Here and in the two below the answer is what is kept, or asked for, and no switch.
+// The column of a type and an answer. The `answer` here, of `recalls` and of `note` is what is kept, or asked for, and no switch.
 #[tactic(auto, unfolding(crate::specs::Memo::column_of))]
 fn column_of(b: usize, answer: bool) -> usize
     requires { b < types_max }
@@ -79,6 +81,20 @@ pub fn recalls(memo: &[u8], a: usize, b: usize, answer: bool) -> bool
     marks::is_marked(memo, a, column_of(b, false))
 }
 
+// The answer that is kept in mind for a pair, if one is.
+pub fn recalled(memo: &[u8], a: usize, b: usize) -> Option<bool>
+    requires { (a < types_max) × (b < types_max) }
+    ensures { MatchOption result ((keeps memo.now a b true ≡ false) × (keeps memo.now a b false ≡ false)) (λ answer. keeps memo.now a b answer ≡ true) }
+{
+    if recalls(memo, a, b, true) {
+        return Some(true);
+    }
+    if recalls(memo, a, b, false) {
+        return Some(false);
+    }
+    None
+}
+
 // Keeps the answer for a pair in mind.
 pub fn note(memo: &mut [u8], a: usize, b: usize, answer: bool)
     requires { (a < types_max) × (b < types_max) }
@@ -87,7 +103,8 @@ pub fn note(memo: &mut [u8], a: usize, b: usize, answer: bool)
     marks::mark(memo, a, column_of(b, answer));
 }
 
-// Keeps in mind that a type does not stand for a union.
+// Keeps in mind that a type does not stand for a union. A union's refutation is both marks, no and yes: a no alone says what `find` came
+// to by the kinds of the two, and no yes is recalled where there is a no. Where the table has no room for the no, neither is made.
 #[tactic(auto, unfolding(crate::specs::Memo::refuting))]
 fn refute(memo: &mut [u8], a: usize, b: usize)
     requires { (a < types_max) × (b < types_max) }
@@ -99,7 +116,9 @@ fn refute(memo: &mut [u8], a: usize, b: usize)
     }
 }
 
-// Whether children can be elided in two types: both arrays, or both tuples.
+// Whether children can be elided in two types: both arrays, or both tuples. One function over the test of a kind for this, maps,
+// unions and the unifier's arrays was tried: what a call of it answers is not proved automatically, and its caller's proof by hand is
+// longer than these bodies.
 fn are_sequences(store: Store, a: usize, b: usize) -> bool
     requires { (a < types_in store.page.now) × (b < types_in store.page.now) }
     ensures { result ≡ (both is_array store.entry.page.now a b || both is_tuple store.entry.page.now a b) }
@@ -109,8 +128,7 @@ fn are_sequences(store: Store, a: usize, b: usize) -> bool
     (kinds::is_array(ka) & kinds::is_array(kb)) | (kinds::is_tuple(ka) & kinds::is_tuple(kb))
 }
 
-// Whether two types are both maps. With the kind's test as a closure this, sequences and unions would be one function, and each call
-// of it as long as these bodies.
+// Whether two types are both maps.
 fn are_maps(store: Store, a: usize, b: usize) -> bool
     requires { (a < types_in store.page.now) × (b < types_in store.page.now) }
     ensures { result ≡ both is_map store.entry.page.now a b }
@@ -146,11 +164,8 @@ pub fn null_array_elision(store: Store, memo: &mut [u8], a: usize, b: usize) -> 
     if !are_sequences(store, a, b) {
         return false;
     }
-    if recalls(memo, a, b, true) {
-        return true;
-    }
-    if recalls(memo, a, b, false) {
-        return false;
+    if let Some(answer) = recalled(memo, a, b) {
+        return answer;
     }
     let n = store.arity(a).min(store.arity(b));
     for i in 0..n {
@@ -176,11 +191,8 @@ pub fn null_map_elision(store: Store, memo: &mut [u8], a: usize, b: usize) -> bo
     if !are_maps(store, a, b) {
         return false;
     }
-    if recalls(memo, a, b, true) {
-        return true;
-    }
-    if recalls(memo, a, b, false) {
-        return false;
+    if let Some(answer) = recalled(memo, a, b) {
+        return answer;
     }
     for i in 0..2 {
         let x = store.child_of(a, i);
@@ -409,11 +421,10 @@ pub fn any_matches(store: Store, memo: &mut [u8], a: usize, b: usize) -> bool
     }
     'members: for i in 0..members_of(store, a) {
         let m = member_of(store, a, i);
-        if recalls(memo, m, b, true) {
-            continue;
-        }
-        if recalls(memo, m, b, false) {
-            return false;
+        match recalled(memo, m, b) {
+            Some(true) => continue,
+            Some(false) => return false,
+            None => {}
         }
         for j in 0..store.arity(b) {
             let e = store.child_of(b, j);

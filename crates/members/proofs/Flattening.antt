@@ -60,7 +60,7 @@ shares page t i = share_of page (child_of page t i)
 -- what `flatten` promises
 abbrev pub Flattened : List ℕ → ℕ → ℕ → List ℕ → Type 0
 Flattened page t r after =
-    (r ≡ length (members_of page t)) × (r ≤ members_max) × (take r after ≡ members_of page t) × (length after ≡ members_max)
+    (r ≡ length (members_of page t)) × (r ≤ members_max) × (take r after ≡ members_of page t)
 
 -- the type at a place is that member
 pub member_is : (page : List ℕ) (t n : ℕ) (types : List ℕ) → Flattened page t n types
@@ -88,7 +88,6 @@ module _ (page : List ℕ) (f : Formed page) (t : ℕ) (u : t < types_in page) (
         refl,
         few,
         ap (λ (k : ℕ). take k (put l 0 (members_of page t))) (sym z) ∙ put_front l 0 (members_of page t) fits,
-        put_length l 0 (members_of page t) fits ∙ size,
       )
 
   pub flat_itself : is_union (kind_of page t) ≡ false → Flattened page t 1 (set l 0 t)

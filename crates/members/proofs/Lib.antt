@@ -3,7 +3,6 @@ pub mod Gathered
 pub mod Members
 pub mod Flattening
 pub mod Merging
-pub mod Trials
 pub mod Leaves
 pub mod Unions
 pub mod Kept

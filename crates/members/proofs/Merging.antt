@@ -7,7 +7,7 @@ use Prim.Native.Nat.{ℕ, ◌+◌, ◌<◌, ◌≤◌}
 use native.Mathlib.Numerals.{add-one}
 use native.Mathlib.Omega.{arith}
 use lib.Dec.{eqb}
-use lib.ListN.{length, get_or, set, take, length-append, length-set}
+use lib.ListN.{length, get_or, set, take, length-append}
 use lib.Seq.{take-suc-set, length-take-le}
 use borrow.Author.Tests.{lt-ltb, le-ltb}
 use Rattle.std.specs.List.{list_any}
@@ -24,12 +24,12 @@ use Rattle.members.proofs.Unions.{union_enterable}
 -- what `merge` promises
 abbrev pub Merges : (types after : List ℕ) (n t r : ℕ) → Type 0
 Merges types after n t r =
-    (r ≤ n + 1) × (take r after ≡ merged t (take n types)) × (length after ≡ members_max) × (r ≡ length (merged t (take n types)))
+    (r ≤ n + 1) × (take r after ≡ merged t (take n types)) × (r ≡ length (merged t (take n types)))
 
 module _ (types : List ℕ) (n t : ℕ) (size : length types ≡ members_max) (l : n < members_max) where
   pub merge_there : list_any (λ x. eqb x t) (take n types) ≡ true → Merges types types n t n
   unfolding merged has
-  merge_there h = rw h (omega arith, refl, size, sym (length-take-le n types (omega arith)))
+  merge_there h = rw h (omega arith, refl, sym (length-take-le n types (omega arith)))
 
   pub merge_new : list_any (λ x. eqb x t) (take n types) ≡ false → Merges types (set types n t) n t (n + 1)
   unfolding merged has
@@ -37,17 +37,17 @@ module _ (types : List ℕ) (n t : ℕ) (size : length types ≡ members_max) (l
       rw h (
         omega arith,
         rw (add-one n) (take-suc-set types n t (omega arith)),
-        length-set types n t ∙ size,
         sym (length-append (take n types) (t ∷ []) ∙ ap (λ (k : ℕ). k + 1) (length-take-le n types (omega arith))),
       )
 
 -- ---- the union of results
 
 module _ (page : List ℕ) where
-  pub union_one : (types : List ℕ) (n : ℕ) → n ≡ 1 → n ≤ length types → entered (Ok (get_or types 0 0)) page ≡ union_of page (take n types)
+  pub union_one : (ts : List ℕ) → length ts ≡ 1 → entered (Ok (get_or ts 0 0)) page ≡ union_of page ts
   unfolding union_of
-  union_one [] n e l = absurd (omega arith)
-  union_one (t ∷ types) n e l = rw e refl
+  union_one [] e = absurd (omega arith)
+  union_one (t ∷ []) e = refl
+  union_one (t ∷ u ∷ ts) e = absurd (omega arith)
 
   pub union_wide : (ts : List ℕ) → children_max < length ts → entered (Err Width) page ≡ union_of page ts
   unfolding union_of

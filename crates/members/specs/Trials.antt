@@ -1,7 +1,8 @@
 -- The trials of a union's members: "every pair of members .. is tried by the operator's own rule" (document 01, "Answers").
 use Rattle.std.specs.Prelude.{Option, Some, None, Bool, cond, List, ℕ, zero, suc, ◌+◌, eqb, ltb, length, Ok}
-use Rattle.operators.specs.Outcome.{no_error, one_error, some_fail, outcome, number_of, passes, count_of}
+use Rattle.operators.specs.Outcome.{no_error, one_error, failures, outcome, number_of, passes, count_of}
 use Rattle.operators.specs.declared.Reason.TheVariants.{NoMember}
+use Rattle.operators.specs.declared.Failing.{Failing}
 use Rattle.operators.specs.declared.Errors.{Errors}
 use Rattle.operators.specs.declared.Outcome.{Outcome}
 use Rattle.matching.specs.declared.Checked.TheVariants.{Unknown}
@@ -12,46 +13,40 @@ unfoldable pub fold_to : {A : Type 0} → ℕ → (ℕ → A → A) → A → A
 fold_to zero step a = a
 fold_to (suc n) step a = step n (fold_to n step a)
 
--- ---- failures
+-- ---- failures: how many members fail, and the first of them, where some do
 
--- how many members fail, and the first of them
-pub record Failures : Type 0 where
-  pub count : ℕ
-  pub left : ℕ
-  pub right : ℕ
+abbrev pub no_failure : Option Failing
+no_failure = None
 
-abbrev pub failures : ℕ → ℕ → ℕ → Failures
-failures n x y = record { count = n; left = x; right = y }
+-- how many
+abbrev pub failing_count : Option Failing → ℕ
+failing_count None = 0
+failing_count (Some f) = f.count
 
-abbrev pub no_failure : Failures
-no_failure = failures 0 0 0
-
--- one more
-unfoldable pub failed_at : ℕ → ℕ → Failures → Failures
-failed_at x y f = cond (eqb f.count 0) (failures 1 x y) (failures (f.count + 1) f.left f.right)
-
--- what g takes of the first of them, where there is one
-abbrev pub first_by : {A : Type 0} → (ℕ → ℕ → A) → Failures → Option A
-first_by g f = cond (eqb f.count 0) None (Some (g f.left f.right))
+-- one more, of member x alone or beside y: the first stays the first
+abbrev pub failed_at : ℕ → Option ℕ → Option Failing → Failing
+failed_at x y None = failures 1 x y
+failed_at x y (Some f) = failures (f.count + 1) f.left f.right
 
 -- the errors of a union's check, where some member passes or none does: 7 some members fail; 8 there is none, since none fails and
 -- none passes
-unfoldable pub errors_of : Failures → Bool → Errors
-errors_of f some_passes = cond (eqb f.count 0) (cond some_passes no_error (one_error NoMember)) (some_fail f.count f.left f.right)
+abbrev pub errors_of : Option Failing → Bool → Errors
+errors_of None some_passes = cond some_passes no_error (one_error NoMember)
+errors_of (Some f) some_passes = Errors.SomeFail f
 
 -- ---- failures, and the distinct results in order
 
 pub record Tried : Type 0 where
   pub results : List ℕ
-  pub failed : Failures
+  pub failed : Option Failing
 
-abbrev pub tried : List ℕ → Failures → Tried
+abbrev pub tried : List ℕ → Option Failing → Tried
 tried ts f = record { results = ts; failed = f }
 
--- one more trial, of the members x and y
-unfoldable pub joined : ℕ → ℕ → Outcome → Tried → Tried
+-- one more trial, of member x alone or beside y
+unfoldable pub joined : ℕ → Option ℕ → Outcome → Tried → Tried
 joined x y o q =
-    cond (passes o) (tried (merged (number_of o.checked) q.results) q.failed) (tried q.results (failed_at x y q.failed))
+    cond (passes o) (tried (merged (number_of o.checked) q.results) q.failed) (tried q.results (Some (failed_at x y q.failed)))
 
 -- their errors: a member that passes leaves a result
 abbrev pub errors_in : Tried → Errors

@@ -1,21 +1,25 @@
 // The members of types, and the union of several types (document 01, "Answers"; `members` in the source's binary.rs).
 #![tactic(auto)]
 
-ghost use Rattle.std.specs.Prelude.{◌≡◌, true, ◌+◌, ◌≤◌, ◌<◌, length, get_or, take, drop, replicate};
+ghost use Rattle.std.specs.Prelude.{◌≡◌, true, ◌*◌, ◌+◌, ◌≤◌, ◌<◌, length, get_or, take, drop};
 ghost use Rattle.pages.specs.Bytes.{put};
 ghost use Rattle.types.specs.Store.{types_max};
-ghost use Rattle.types.specs.Types.{types_in, Held, Measured};
+ghost use Rattle.types.specs.Types.{types_in};
+ghost use Rattle.types.specs.Same.{Same};
 ghost use Rattle.types.specs.Calls.{all_below};
 ghost use Rattle.members.specs.Members.{members_max, share_of, members_of, has, merged, entered, union_of, conclude};
+ghost use Rattle.members.specs.Trials.{failing_count, failed_at};
 ghost use Rattle.members.specs.Leaves.{is_unary, key_of, key_in, leaf_of, Leaves};
 
 use kinds::{ANY, CHILDREN, Kind};
-use operators::Outcome;
+use operators::{Failing, Outcome};
 use refusals::Refusal;
-use types::{NULL, Store, Tables, enter_type};
+use types::{Maker, NULL, Store};
 
 // How many members a type has at most.
-// Members and results stand in arrays of so many places beside a count, as there is no heap.
+// Members and results stand in arrays of so many places beside a count: nothing is on a heap, and the crates use no library but their own
+// (`tests/downwards`). One struct of both, whose model is the list of its types, took two fifths longer: 3.9 for 2.8 ms where the leaves
+// of 4,096 types are filled, 7.2 for 5.1 where one is negated.
 pub const MEMBERS: usize = CHILDREN * CHILDREN;
 
 // A store with the leaf that stands for each of its types, where operators have OPERANDS operands: one or two.
@@ -28,15 +32,16 @@ pub struct Leafed<'a, const OPERANDS: usize> {
 }
 
 // The type at a place.
-pub fn member_at(types: &[u16], i: usize) -> usize
+fn member_at(types: &[u16], i: usize) -> usize
     requires { i < length types.now }
     ensures { result ≡ get_or types.now i 0 }
 {
-    types[i] as usize
+    usize::from(types[i])
 }
 
 // Writes down, from place n on, what child x of a union gives. Says where that ends.
-// A loop, since `pages::read_words` would need the place and the layout of an entry, which `Store::child_of` knows.
+// A loop, since `pages::read_words` would need the place and the layout of an entry, which `Store::child_of` knows, and
+// `Store::children_of` makes sixteen places first, out of which the children would be copied.
 fn add_share(store: Store, x: usize, types: &mut [u16], n: usize) -> usize
     requires x_bound { x < types_in store.page.now }
     requires x_in_bounds { n + length (share_of store.page.now x) ≤ length types.old }
@@ -54,9 +59,9 @@ fn add_share(store: Store, x: usize, types: &mut [u16], n: usize) -> usize
 }
 
 // Writes down the members of a type, and says how many they are; what stands after them is left free.
-pub fn flatten(store: Store, t: usize, types: &mut [u16]) -> usize
-    requires { (t < types_in store.page.now) × (length types.old ≡ members_max) }
-    ensures { (result ≡ length (members_of store.entry.page.now t)) × (result ≤ members_max) × (take result types.new ≡ members_of store.entry.page.now t) × (length types.new ≡ members_max) }
+pub fn flatten(store: Store, t: usize, types: &mut [u16; MEMBERS]) -> usize
+    requires { t < types_in store.page.now }
+    ensures { (result ≡ length (members_of store.entry.page.now t)) × (result ≤ members_max) × (take result types.new ≡ members_of store.entry.page.now t) }
 {
     if !kinds::is_union(store.kind_of(t)) {
         types[0] = t as u16;
@@ -71,9 +76,9 @@ pub fn flatten(store: Store, t: usize, types: &mut [u16]) -> usize
 
 // Merges a result with the n before it, and says how many there are now; what stands after them is left free.
 #[tactic(auto, using(crate::proofs::Merging::merge_there))]
-pub fn merge(types: &mut [u16], n: usize, t: usize) -> usize
-    requires { (length types.old ≡ members_max) × (n < members_max) × (t < types_max) }
-    ensures { (result ≤ n + 1) × (take result types.new ≡ merged t (take n types.old)) × (length types.new ≡ members_max) × (result ≡ length (merged t (take n types.old))) }
+pub fn merge(types: &mut [u16; MEMBERS], n: usize, t: usize) -> usize
+    requires { (n < members_max) × (t < types_max) }
+    ensures { (result ≤ n + 1) × (take result types.new ≡ merged t (take n types.old)) × (result ≡ length (merged t (take n types.old))) }
 {
     if types[..n].contains(&(t as u16)) {
         return n;
@@ -82,25 +87,19 @@ pub fn merge(types: &mut [u16], n: usize, t: usize) -> usize
     n + 1
 }
 
-// The union of the first n results, entered; one result stays itself.
-pub fn enter_union(
-    page: &mut [u8],
-    tables: &mut Tables,
-    types: &[u16],
-    n: usize,
-) -> Result<usize, Refusal>
-    requires measured { Measured page.old tables.old.offsets tables.old.depths }
-    requires n_nonzero { (0 < n) × (n ≤ length types.now) × (all_below (types_in page.old) (take n types.now) ≡ true) }
-    ensures page_after { entered result page.new ≡ union_of page.old (take n types.now) }
-    ensures measured_2 { Measured page.new tables.new.offsets tables.new.depths }
+// The union of results, entered; one result stays itself.
+pub fn enter_union(maker: &mut Maker, types: &[u16]) -> Result<usize, Refusal>
+    requires { (0 < length types.now) × (all_below (types_in maker.old.page.now) types.now ≡ true) }
+    ensures page_after { entered result maker.new.page.now ≡ union_of maker.old.page.now types.now }
+    ensures same { Same maker.new maker.old }
 {
-    if n == 1 {
+    if types.len() == 1 {
         return Ok(member_at(types, 0));
     }
-    if CHILDREN < n {
+    if CHILDREN < types.len() {
         return Err(Refusal::Width);
     }
-    enter_type(page, tables, ANY, &types[..n], 0)
+    maker.enter_type(ANY, types, 0)
 }
 
 // The type that was entered, without an error, or the refusal.
@@ -108,6 +107,24 @@ pub fn conclusion_of(made: Result<usize, Refusal>) -> Result<Outcome, Refusal>
     ensures { result ≡ conclude made }
 {
     made.map(operators::known)
+}
+
+// The members that fail, with one more, which is tried alone or beside another: the first stays the first.
+pub fn failed_at(left: usize, right: Option<usize>, failing: Option<Failing>) -> Failing
+    requires { failing_count failing < members_max * members_max }
+    ensures { (result ≡ failed_at left right failing) × (result.count ≡ failing_count failing + 1) }
+{
+    match failing {
+        None => Failing {
+            count: 1,
+            left,
+            right,
+        },
+        Some(first) => Failing {
+            count: first.count + 1,
+            ..first
+        },
+    }
 }
 
 // The key of a kind, where operators have that many operands.

@@ -13,14 +13,14 @@ use borrow.Author.Tests.{le-leb, lt-leb, lt-ltb, le-ltb, leb-true, not-false}
 use Rattle.refusals.specs.declared.Refusal.{Refusal}
 use Rattle.refusals.specs.declared.Refusal.TheVariants.{Broken, Unused, Malformed, Full}
 use Rattle.refusals.specs.Lowest.{◌when◌}
-use Rattle.refusals.proofs.Lowest.{first_holds}
+use Rattle.refusals.proofs.Lowest.{first_holds, one_ok, one_err}
 use Rattle.pages.specs.Pad.{padded}
 use Rattle.pages.specs.Quant.{all_to}
 use Rattle.pages.specs.Bytes.{zeros, count_bytes, count_of, bytes_of, put}
 use Rattle.pages.proofs.Quant.{all_at, and_true}
 use Rattle.pages.proofs.Put.{put_cons, put_length}
 use Rattle.names.specs.Table.{names_max, name_max, well_named, offset, name_at, number_of, good_at, formed}
-use Rattle.names.specs.Calls.{lent_broken, used_of, is_used, empty_verdict, empty_page, is_known, roomy, with_name, add_verdict, add_answer, page_after, find_verdict, find_answer, read_verdict, read_answer}
+use Rattle.names.specs.Calls.{lent_broken, used_of, used_answer, is_used, empty_verdict, empty_page, is_known, roomy, with_name, add_verdict, add_answer, page_after, find_verdict, find_answer, read_verdict, read_answer}
 
 -- ---- a table in form
 
@@ -69,6 +69,16 @@ in_use_named page f k h = good_named page k (all_at (good_at page) (count_of pag
 pub lent_form : (page : List ℕ) → lent_broken (Some page) ≡ false → Form page
 unfolding lent_broken
 lent_form page h = form page (not-false (formed page) h)
+
+-- what an answer of `used_in` says of the names, and what a refusal does
+module _ (names : Option (List ℕ)) where
+  pub used_ok : (n : ℕ) → Ok n ≡ used_answer names → (lent_broken names ≡ false) × (n ≡ used_of names)
+  unfolding used_answer
+  used_ok n e = one_ok Broken (lent_broken names) (used_of names) n e
+
+  pub used_err : (r : Refusal) → Err r ≡ used_answer names → (lent_broken names ≡ true) × (r ≡ Broken)
+  unfolding used_answer
+  used_err r e = one_err Broken (lent_broken names) (used_of names) r e
 
 -- no more numbers are in use than there can be
 pub used_few : (names : Option (List ℕ)) → lent_broken names ≡ false → used_of names ≤ names_max

@@ -2,7 +2,7 @@
 use mathlib.Core.Path.{◌≡◌, refl, sym, ◌∙◌, ap}
 use mathlib.Core.Bool.{Bool, true, false}
 use mathlib.Core.List.{List}
-use Prim.Native.Nat.{ℕ, ◌+◌, ◌-◌, ◌<◌, ◌≤◌}
+use Prim.Native.Nat.{ℕ, ◌+◌, ◌<◌, ◌≤◌}
 use native.Mathlib.Nat.{not-suc-le-zero}
 use native.Mathlib.Omega.{arith}
 use lib.ListN.{length, get_or, set, replicate, take, drop, length-set, length-replicate}
@@ -18,7 +18,7 @@ use Rattle.chains.specs.Prints.{prints_max, print_of}
 use Rattle.chains.proofs.Grow.{heads_none, heads_more, links_none, links_more}
 use Rattle.names.specs.Table.{names_max, offset, name_at, named, number_of, good_at, well_named}
 use Rattle.names.specs.Prints.{print_at, Chained}
-use Rattle.names.proofs.Table.{offset_suc, step_in, name_there, part_is, good_name}
+use Rattle.names.proofs.Table.{offset_suc, step_in, name_there, good_name}
 
 -- ---- the chain of a print
 
@@ -33,7 +33,7 @@ module _ (page offsets links : List ℕ) (n k : ℕ) (c : Chained page n offsets
 
   pub compared : (name : List ℕ) → eqs (take (get_or page (get_or offsets k 0) 0) (drop (get_or offsets k 0 + 1) page)) name ≡ named page name k
   unfolding named
-  compared name = ap (λ l. eqs l name) (name_there page k (get_or offsets k 0) _ (c.offset_at k h) refl)
+  compared name = ap (λ l. eqs l name) (name_there page k (get_or offsets k 0) (c.offset_at k h))
 
 -- ---- the tables of the first i names, which are good
 
@@ -62,35 +62,28 @@ tables_none page heads links offsets h e f g =
       chain = record { inside = h; noted = omega arith; linked = omega arith; offset_at = λ j l. absurd (not-suc-le-zero l); link_at = links_none (print_at page) links };
     }
 
--- the r bytes behind a length byte
-abbrev part_at : List ℕ → ℕ → ℕ → List ℕ
-part_at page at r = take (at + 1 + r - (at + 1)) (drop (at + 1) page)
-
 -- the part of the page where name i stands
-module _ (page : List ℕ) (i at r : ℕ) (heads links offsets : List ℕ) (t : Tables page i at heads links offsets) (e : r ≡ get_or page at 0) (h : at + 1 + r ≤ length page) where
-  part : part_at page at r ≡ name_at page i
-  part = part_is page i at r t.stands e
+module _ (page : List ℕ) (i at end : ℕ) (heads links offsets : List ℕ) (t : Tables page i at heads links offsets) (e : end ≡ at + 1 + get_or page at 0) (h : end ≤ length page) where
+  module _ (name : List ℕ) (is : name ≡ name_at page i) (w : well_named name ≡ true) where
+    judged : good_at page i ≡ leb i (number_of page i name)
+    judged = good_name page i at end t.stands e h name is w (number_of page i name) refl
 
-  module _ (w : well_named (part_at page at r) ≡ true) where
-    judged : good_at page i ≡ leb i (number_of page i (part_at page at r))
-    judged = good_name page i at r t.stands e h w (number_of page i (part_at page at r)) refl
-
-    pub known_name : (found : Bool) → found ≡ any_to i (named page (part_at page at r)) → found ≡ true → good_at page i ≡ false
+    pub known_name : (found : Bool) → found ≡ any_to i (named page name) → found ≡ true → good_at page i ≡ false
     known_name found f a = judged ∙ lt-leb i _ (first_below _ i (sym f ∙ a))
 
-    new_name : any_to i (named page (part_at page at r)) ≡ false → good_at page i ≡ true
+    new_name : any_to i (named page name) ≡ false → good_at page i ≡ true
     new_name a = judged ∙ le-leb i _ (let z = first_none _ i a in omega arith)
 
-    module _ (print : ℕ) (pr : print ≡ print_of (part_at page at r)) (pl : print < prints_max) where
+    module _ (print : ℕ) (pr : print ≡ print_of name) (pl : print < prints_max) where
       printed : print ≡ print_at page i
-      printed = pr ∙ ap print_of part
+      printed = pr ∙ ap print_of is
 
-      pub head_is : (head : ℕ) → head ≡ get_or heads print 0 → head ≡ last_below (print_at page) i (print_of (part_at page at r))
+      pub head_is : (head : ℕ) → head ≡ get_or heads print 0 → head ≡ last_below (print_at page) i (print_of name)
       head_is head f = f ∙ t.head_at print (omega (arith, t.prints)) ∙ ap (last_below (print_at page) i) pr
 
-      pub tables_more : (found : Bool) → found ≡ any_to i (named page (part_at page at r)) → found ≡ false → i < names_max
+      pub tables_more : (found : Bool) → found ≡ any_to i (named page name) → found ≡ false → i < names_max
           → (heads' links' offsets' : List ℕ) → heads' ≡ set heads print (i + 1) → links' ≡ set links i (get_or heads print 0) → offsets' ≡ set offsets i at
-          → Tables page (i + 1) (at + 1 + r) heads' links' offsets'
+          → Tables page (i + 1) end heads' links' offsets'
       tables_more found f a l heads' links' offsets' eh el eo =
           rw (eh, el, eo) record {
             stands = next;
@@ -108,7 +101,7 @@ module _ (page : List ℕ) (i at r : ℕ) (heads links offsets : List ℕ) (t : 
             };
           }
         where
-          next : at + 1 + r ≡ offset page (i + 1)
+          next : end ≡ offset page (i + 1)
           next = rw (e, t.stands) (sym (offset_suc page i))
 
           noted : (j : ℕ) → j < i + 1 → get_or (set offsets i at) j 0 ≡ offset page j

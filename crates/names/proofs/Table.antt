@@ -3,7 +3,7 @@ use mathlib.Core.Path.{◌≡◌, refl, sym}
 use mathlib.Core.Bool.{Bool, true, false}
 use mathlib.Core.List.{List}
 use mathlib.Core.Logic.{⊎_elim}
-use Prim.Native.Nat.{ℕ, zero, suc, ◌+◌, ◌-◌, ◌<◌, ◌≤◌}
+use Prim.Native.Nat.{ℕ, zero, suc, ◌+◌, ◌<◌, ◌≤◌}
 use native.Mathlib.Numerals.{add-one}
 use native.Mathlib.Omega.{arith}
 use native.Mathlib.Nat.{not-suc-le-zero, le_of_suc-le-suc, eq-or-lt_of_le}
@@ -45,49 +45,44 @@ module _ (page : List ℕ) (i at n : ℕ) (e : at ≡ offset page i) (h : i < n)
   pub step_in : at + 1 + get_or page at 0 ≤ length page
   step_in = rw e (let z = offset_lt page i n h in omega arith)
 
-  pub step_at : (r : ℕ) → r ≡ get_or page at 0 → at + 1 + r ≡ offset page (i + 1)
-  step_at r k = rw (k, e) (sym (offset_suc page i))
+  pub step_at : at + 1 + get_or page at 0 ≡ offset page (i + 1)
+  step_at = rw e (sym (offset_suc page i))
 
 -- the name that stands there
-pub name_there : (page : List ℕ) (i at r : ℕ) → at ≡ offset page i → r ≡ get_or page at 0 → take r (drop (at + 1) page) ≡ name_at page i
+pub name_there : (page : List ℕ) (i at : ℕ) → at ≡ offset page i → take (get_or page at 0) (drop (at + 1) page) ≡ name_at page i
 unfolding name_at
-name_there page i at r e k = rw (k, e)
+name_there page i at e = rw e
 
--- a test on the part of the page there, of either outcome
-pub found_at : (page : List ℕ) (i at r : ℕ) (name : List ℕ) → at ≡ offset page i → r ≡ get_or page at 0 → (b : Bool) → eqs (take (at + 1 + r - (at + 1)) (drop (at + 1) page)) name ≡ b → named page name i ≡ b
+-- a test on it, of either outcome
+pub found_at : (page : List ℕ) (i : ℕ) (there name : List ℕ) → there ≡ name_at page i → (b : Bool) → eqs there name ≡ b → named page name i ≡ b
 unfolding named
-found_at page i at r name e k b h =
-    let s : at + 1 + r - (at + 1) ≡ r = omega arith in
-    rw (← name_there page i at r e k) (rw s at h)
+found_at page i there name e b h = rw (← e) h
 
 -- ---- the form, test by test
 
-module _ (page : List ℕ) (i at r : ℕ) (e : at ≡ offset page i) (k : r ≡ get_or page at 0) where
-  pub part_is : take (at + 1 + r - (at + 1)) (drop (at + 1) page) ≡ name_at page i
-  part_is = let s : at + 1 + r - (at + 1) ≡ r = omega arith in rw s (name_there page i at r e k)
-
-  next_is : at + 1 + r ≡ offset page (suc i)
+module _ (page : List ℕ) (i at end : ℕ) (e : at ≡ offset page i) (k : end ≡ at + 1 + get_or page at 0) where
+  next_is : end ≡ offset page (suc i)
   unfolding offset
   next_is = rw (k, e)
 
-  pub bad_long : length page < at + 1 + r → good_at page i ≡ false
+  pub bad_long : length page < end → good_at page i ≡ false
   unfolding good_at
-  bad_long h = rw (← next_is, lt-leb (at + 1 + r) (length page) h)
+  bad_long h = rw (← next_is, lt-leb end (length page) h)
 
-  module _ (h : at + 1 + r ≤ length page) where
-    pub bad_name : well_named (take (at + 1 + r - (at + 1)) (drop (at + 1) page)) ≡ false → good_at page i ≡ false
+  module _ (h : end ≤ length page) (name : List ℕ) (is : name ≡ name_at page i) where
+    pub bad_name : well_named name ≡ false → good_at page i ≡ false
     unfolding good_at
-    bad_name w = let v : well_named (name_at page i) ≡ false = rw part_is at w in rw (← next_is, le-leb (at + 1 + r) (length page) h, v)
+    bad_name w = let v : well_named (name_at page i) ≡ false = rw is at w in rw (← next_is, le-leb end (length page) h, v)
 
-    pub good_name : well_named (take (at + 1 + r - (at + 1)) (drop (at + 1) page)) ≡ true → (n : ℕ) → n ≡ number_of page i (take (at + 1 + r - (at + 1)) (drop (at + 1) page)) → good_at page i ≡ leb i n
+    pub good_name : well_named name ≡ true → (n : ℕ) → n ≡ number_of page i name → good_at page i ≡ leb i n
     unfolding good_at
     good_name w n m =
-        let v : well_named (name_at page i) ≡ true = rw part_is at w in
-        let o : n ≡ number_of page i (name_at page i) = rw part_is at m in
-        rw (← next_is, le-leb (at + 1 + r) (length page) h, v, o)
+        let v : well_named (name_at page i) ≡ true = rw is at w in
+        let o : n ≡ number_of page i (name_at page i) = rw is at m in
+        rw (← next_is, le-leb end (length page) h, v, o)
 
 pub bad_past : (page : List ℕ) (i at : ℕ) → at ≡ offset page i → length page ≤ at → good_at page i ≡ false
-bad_past page i at e h = bad_long page i at (get_or page at 0) e refl (omega arith)
+bad_past page i at e h = bad_long page i at (at + 1 + get_or page at 0) e refl (omega arith)
 
 pub unformed_short : (page : List ℕ) → length page < count_bytes → false ≡ formed page
 unfolding formed

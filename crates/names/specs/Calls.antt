@@ -21,6 +21,10 @@ unfoldable pub used_of : Option (List ℕ) → ℕ
 used_of None = names_max
 used_of (Some page) = count_of page
 
+-- that number, or 2 where the names that are lent break their form
+unfoldable pub used_answer : Option (List ℕ) → Result ℕ Refusal
+used_answer names = answer_of (lowest ((Broken when lent_broken names) ∷ [])) (used_of names)
+
 -- "not in use" (the table of refusals, 2 and 3): is s the number of a name, where the first `used` numbers are in use; one that no table
 -- can give never is
 unfoldable pub is_used : ℕ → ℕ → Bool

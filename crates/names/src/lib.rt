@@ -1,27 +1,21 @@
 // Names and their numbers, in a lent page (document 01, "Names").
 #![tactic(auto)]
 
-ghost use Rattle.std.specs.Prelude.{◌≡◌, true, false, ◌+◌, ◌≤◌, ◌<◌, cond, length, set, replicate, option_map, Some, None, option_copied, get_or, take, drop, MatchOption};
+ghost use Rattle.std.specs.Prelude.{◌≡◌, true, false, ◌+◌, ◌≤◌, ◌<◌, cond, length, set, replicate, option_map, Some, None, option_copied, get_or, take, drop, MatchOption, IfOk};
 ghost use Rattle.pages.specs.Bytes.{count_of, eqs};
 ghost use Rattle.pages.specs.Quant.{any_to};
 ghost use Rattle.chains.specs.Last.{last_below};
-ghost use Rattle.chains.specs.Prints.{print_of};
+ghost use Rattle.chains.specs.Prints.{prints_max, print_of};
 ghost use Rattle.names.specs.Table.{digit, name_byte, well_named, names_max, name_max, offset, name_at, named, number_of, formed};
 ghost use Rattle.names.specs.Prints.{print_at, Chained};
-ghost use Rattle.names.specs.Calls.{lent_broken, used_of, is_used, empty_verdict, empty_page, add_answer, page_after, find_answer, read_answer};
+ghost use Rattle.names.specs.Calls.{lent_broken, used_of, used_answer, is_used, empty_verdict, empty_page, add_answer, page_after, find_answer, read_answer};
 
-use pages::{Padded, index};
+use chains::Chains;
+use pages::Padded;
 use refusals::Refusal;
 
 // A name's number, as units, pairs and types hold it. In pages and records it takes one byte.
 pub type Symbol = u16;
-
-// A symbol as an index.
-pub fn symbol_index(s: Symbol) -> usize
-    ensures { (result ≡ s) × (result < 65536) }
-{
-    s as usize
-}
 
 // How many names there can be.
 pub const NAMES: usize = 256;
@@ -40,6 +34,7 @@ pub const NAME_BYTES: usize = 31;
 // A name by value.
 pub type Name = Padded<NAME_BYTES>;
 
+// Whether a byte is a digit; in ranges of bytes, as document 01 lists them.
 #[tactic(auto, unfolding(crate::specs::Table::digit))]
 fn is_digit(b: u8) -> bool
     ensures { result ≡ digit b }
@@ -47,6 +42,7 @@ fn is_digit(b: u8) -> bool
     matches!(b, b'0'..=b'9')
 }
 
+// Whether a byte may stand in a name.
 #[tactic(auto, unfolding(crate::specs::Table::digit, crate::specs::Table::name_byte))]
 fn is_name_byte(b: u8) -> bool
     ensures { result ≡ name_byte b }
@@ -64,6 +60,23 @@ pub fn is_name(name: &[u8]) -> bool
         && name.iter().all(|b| is_name_byte(*b))
 }
 
+// Where the name ends whose length byte stands at an index. Names have lengths of their own, so where one begins is known from those
+// before it, and the loops over a table go from one to the next.
+fn name_end(page: &[u8], at: usize) -> usize
+    requires { at < length page.now }
+    ensures { result ≡ at + 1 + get_or page.now at 0 }
+{
+    at + 1 + usize::from(page[at])
+}
+
+// The bytes of that name.
+fn name_from(page: &[u8], at: usize) -> &[u8]
+    requires { at + 1 + get_or page.now at 0 ≤ length page.now }
+    ensures { result.now ≡ take (get_or page.now at 0) (drop (at + 1) page.now) }
+{
+    &page[at + 1..name_end(page, at)]
+}
+
 // The number of a name among the first n.
 fn find(page: &[u8], n: usize, name: &[u8]) -> Option<usize>
     requires { offset page.now n ≤ length page.now }
@@ -71,39 +84,27 @@ fn find(page: &[u8], n: usize, name: &[u8]) -> Option<usize>
 {
     let mut at: usize = pages::COUNT_BYTES;
     for i in 0..n {
-        let start = at + 1;
-        let end = start + index(page[at]);
-        if pages::same(&page[start..end], name) {
+        if pages::same(name_from(page, at), name) {
             return Some(i);
         }
-        at = end;
+        at = name_end(page, at);
     }
     None
 }
 
-// Whether the name whose length byte stands at an index is this one.
-fn is_name_at(page: &[u8], at: usize, name: &[u8]) -> bool
-    requires { at + 1 + get_or page.now at 0 ≤ length page.now }
-    ensures { result ≡ eqs (take (get_or page.now at 0) (drop (at + 1) page.now)) name.now }
-{
-    let start = at + 1;
-    let end = start + index(page[at]);
-    pages::same(&page[start..end], name)
-}
-
-// Whether a name is among the first n, where `head` is one more than the last of them with its print, or 0.
+// Whether a name, which has this print, is among the first n.
 fn is_among(
     page: &[u8],
     offsets: &[usize],
-    links: &[u16],
+    chains: &Chains<NAMES>,
     n: usize,
-    head: usize,
+    print: usize,
     name: &[u8],
 ) -> bool
-    requires { Chained page.now n offsets.now links.now × (head ≡ last_below (print_at page.now) n (print_of name.now)) }
+    requires { Chained page.now n offsets.now chains.now.links × (print < prints_max) × (get_or chains.now.heads print 0 ≡ last_below (print_at page.now) n (print_of name.now)) }
     ensures { result ≡ any_to n (named page.now name.now) }
 {
-    chains::any_linked(&links[..n], head, |k| is_name_at(page, offsets[k], name))
+    chains.any_linked(n, print, |k| pages::same(name_from(page, offsets[k]), name))
 }
 
 // Whether the page is a names table in form. Each name is compared with those before it that have its print.
@@ -117,29 +118,27 @@ pub fn is_formed(page: &[u8]) -> bool
     if n > NAMES {
         return false;
     }
-    let mut heads = chains::no_heads();
-    let mut links = [0u16; NAMES];
+    let mut chains: Chains<NAMES> = Chains::new();
     let mut offsets = [0usize; NAMES];
     let mut at: usize = pages::COUNT_BYTES;
     for i in 0..n {
         if at >= page.len() {
             return false;
         }
-        let start = at + 1;
-        let end = start + index(page[at]);
+        let end = name_end(page, at);
         if end > page.len() {
             return false;
         }
-        if !is_name(&page[start..end]) {
+        let name = name_from(page, at);
+        if !is_name(name) {
             return false;
         }
-        let print = chains::print_of(&page[start..end]);
-        let head = pages::word_index(heads[print]);
-        if is_among(page, &offsets, &links, i, head, &page[start..end]) {
+        let print = chains::print_of(name);
+        if is_among(page, &offsets, &chains, i, print, name) {
             return false;
         }
         offsets[i] = at;
-        chains::link(&mut heads, &mut links, print, i);
+        chains.link(print, i);
         at = end;
     }
     pages::zeros_from(page, at)
@@ -157,7 +156,7 @@ pub fn is_broken(names: Option<&[u8]>) -> bool
 }
 
 // How many name numbers are in use: those of the lent table or, where none is lent, every number that a table can have. For crates
-// above, whose entry calls ask `is_broken` first.
+// above; `used_in` asks `is_broken` before it.
 #[tactic(auto, using(crate::proofs::Calls::lent_form), unfolding(crate::specs::Calls::lent_broken, crate::specs::Calls::used_of))]
 pub fn in_use(names: Option<&[u8]>) -> usize
     requires { lent_broken (option_copied names) ≡ false }
@@ -169,6 +168,17 @@ pub fn in_use(names: Option<&[u8]>) -> usize
     }
 }
 
+// How many name numbers are in use, where the names that are lent are in form. For crates above, whose entry calls ask it first.
+#[tactic(auto, unfolding(crate::specs::Calls::used_answer))]
+pub fn used_in(names: Option<&[u8]>) -> Result<usize, Refusal>
+    ensures { (result ≡ used_answer (option_copied names.entry)) × IfOk result (λ n. n ≤ names_max) }
+{
+    if is_broken(names) {
+        return Err(Refusal::Broken);
+    }
+    Ok(in_use(names))
+}
+
 // Where the length byte of name n stands, or the first free byte where n names are all.
 fn offset_of(page: &[u8], n: usize) -> usize
     requires { offset page.now n ≤ length page.now }
@@ -176,7 +186,7 @@ fn offset_of(page: &[u8], n: usize) -> usize
 {
     let mut at: usize = pages::COUNT_BYTES;
     for i in 0..n {
-        at = at + 1 + index(page[at]);
+        at = name_end(page, at);
     }
     at
 }
@@ -212,10 +222,7 @@ impl<'a> Names<'a> {
         requires { k < count_of self.page.now }
         ensures { (result.now ≡ name_at self.entry.page.now k) × (1 ≤ length result.now) × (length result.now ≤ name_max) }
     {
-        let at = offset_of(self.page, k);
-        let start = at + 1;
-        let end = start + index(self.page[at]);
-        &self.page[start..end]
+        name_from(self.page, offset_of(self.page, k))
     }
 }
 

@@ -1,5 +1,6 @@
 -- What a check comes to: a checked type, and errors in order (document 01, "Answers"); and each operator's own rule.
-use Rattle.std.specs.Prelude.{Bool, true, false, ◌&&◌, cond, ℕ, eqb}
+use Rattle.std.specs.Prelude.{Option, Bool, true, false, ◌&&◌, cond, ℕ, eqb}
+use Rattle.std.specs.Option.{unwrap_or}
 use Rattle.matching.specs.declared.Checked.{Checked}
 use Rattle.matching.specs.declared.Checked.TheVariants.{Known, Unknown, Function}
 use Rattle.operators.specs.Operators.{minus, bang, class_of, uint, bool, family_of, gives, suits, fits, taker_of}
@@ -7,6 +8,7 @@ use Rattle.operators.specs.declared.Class.{Class}
 use Rattle.operators.specs.declared.Class.TheVariants.{NotBinary, Arithmetic, Ordering, Equality, Logic}
 use Rattle.operators.specs.declared.Reason.{Reason}
 use Rattle.operators.specs.declared.Reason.TheVariants.{BadTypes, BadUnits, LeftNotBool, RightNotBool, UnknownHere, UintNegated, NoMember, BadKey, NotIndexable}
+use Rattle.operators.specs.declared.Failing.{Failing}
 use Rattle.operators.specs.declared.Errors.{Errors}
 use Rattle.operators.specs.declared.Outcome.{Outcome}
 
@@ -38,48 +40,52 @@ one_error reason = Errors.One reason
 abbrev pub two_errors : Reason → Reason → Errors
 two_errors reason next = Errors.Two reason next
 
--- reason 7, with how many members fail, and the first of them: a pair, or one member with 0 beside it
-abbrev pub some_fail : ℕ → ℕ → ℕ → Errors
-some_fail n x y = Errors.SomeFail n x y
+-- how many members fail, and the first of them: one member, or a pair
+abbrev pub failures : ℕ → ℕ → Option ℕ → Failing
+failures n x y = record { count = n; left = x; right = y }
+
+-- reason 7, with those
+abbrev pub some_fail : ℕ → ℕ → Option ℕ → Errors
+some_fail n x y = Errors.SomeFail (failures n x y)
 
 -- how many there are
 abbrev pub count_of : Errors → ℕ
 count_of Errors.None = 0
 count_of (Errors.One r) = 1
 count_of (Errors.Two r s) = 2
-count_of (Errors.SomeFail n x y) = 1
+count_of (Errors.SomeFail f) = 1
 
 -- the numbers of their reasons, 0 standing for none
 abbrev pub first_of : Errors → ℕ
 first_of Errors.None = 0
 first_of (Errors.One r) = reason_number r
 first_of (Errors.Two r s) = reason_number r
-first_of (Errors.SomeFail n x y) = members_fail
+first_of (Errors.SomeFail f) = members_fail
 
 abbrev pub second_of : Errors → ℕ
 second_of Errors.None = 0
 second_of (Errors.One r) = 0
 second_of (Errors.Two r s) = reason_number s
-second_of (Errors.SomeFail n x y) = 0
+second_of (Errors.SomeFail f) = 0
 
 -- how many members fail, and the first of them, 0 standing for none
 abbrev pub failing_of : Errors → ℕ
 failing_of Errors.None = 0
 failing_of (Errors.One r) = 0
 failing_of (Errors.Two r s) = 0
-failing_of (Errors.SomeFail n x y) = n
+failing_of (Errors.SomeFail f) = f.count
 
 abbrev pub left_of : Errors → ℕ
 left_of Errors.None = 0
 left_of (Errors.One r) = 0
 left_of (Errors.Two r s) = 0
-left_of (Errors.SomeFail n x y) = x
+left_of (Errors.SomeFail f) = f.left
 
 abbrev pub right_of : Errors → ℕ
 right_of Errors.None = 0
 right_of (Errors.One r) = 0
 right_of (Errors.Two r s) = 0
-right_of (Errors.SomeFail n x y) = y
+right_of (Errors.SomeFail f) = unwrap_or f.right 0
 
 -- ---- outcomes
 

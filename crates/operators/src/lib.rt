@@ -3,17 +3,19 @@
 
 ghost use Rattle.std.specs.Prelude.{◌≡◌, true, ◌<◌, cond, Some, None};
 ghost use Rattle.operators.specs.Operators.{is_operator, row_of, family_of, is_number, class_takes, rule_looks, rule_gives, taker_of};
-ghost use Rattle.operators.specs.Outcome.{count_of, first_of, second_of, failing_of, left_of, right_of, no_error, some_fail, outcome, number_of, is_known, passes, not_bools, class_misfit, plain_binary, unary_reason, plain_unary};
+ghost use Rattle.operators.specs.Outcome.{count_of, first_of, second_of, failing_of, left_of, right_of, no_error, outcome, number_of, is_known, passes, not_bools, class_misfit, plain_binary, unary_reason, plain_unary};
 
 use kinds::{CENUM, INT, Kind, RECORD};
 use matching::Checked;
 
-// How many operators there are. Their codes begin at 1.
+// How many operators there are. Their codes begin at 1, and are numbers: an enum would ask more of callers, who may ask with any number
+// (docs/DECISIONS.md).
 const OPERATORS: usize = 13;
 
-// The operators that have one operand.
+// The operator −, which has two operands or one.
 pub const MINUS: usize = 2;
 
+// The operator !, which has one.
 const BANG: usize = 13;
 
 // Classes of operators.
@@ -57,60 +59,71 @@ pub struct Row {
     pub result: ResultRule,
 }
 
+// The row of + and −, with two operands.
 const SUM: Row = Row {
     class: Class::Arithmetic,
     unit: UnitRule::Adopted,
     result: ResultRule::Operands,
 };
 
+// The row of ×.
 const PRODUCT: Row = Row {
     class: Class::Arithmetic,
     unit: UnitRule::Multiplied,
     result: ResultRule::Operands,
 };
 
+// The row of /.
 const QUOTIENT: Row = Row {
     class: Class::Arithmetic,
     unit: UnitRule::Divided,
     result: ResultRule::Operands,
 };
 
+// The row of <, >, <= and >=.
 const ORDER: Row = Row {
     class: Class::Ordering,
     unit: UnitRule::Compared,
     result: ResultRule::Truth,
 };
 
+// The row of == and !=.
 const EQUAL: Row = Row {
     class: Class::Equality,
     unit: UnitRule::Compared,
     result: ResultRule::Truth,
 };
 
+// The row of `and` and `or`.
 const BOTH: Row = Row {
     class: Class::Logic,
     unit: UnitRule::Ignored,
     result: ResultRule::Truth,
 };
 
+// The row of !, and each number that is no operator's code.
 const UNARY: Row = Row {
     class: Class::NotBinary,
     unit: UnitRule::Ignored,
     result: ResultRule::Nothing,
 };
 
-// + − × / < > <= >= == != and or !
+// The rows of + − × / < > <= >= == != and or ! in the order of their codes.
 const ROWS: [Row; OPERATORS] = [
     SUM, SUM, PRODUCT, QUOTIENT, ORDER, ORDER, ORDER, ORDER, EQUAL, EQUAL, BOTH, BOTH, UNARY,
 ];
 
-// Families: the plain one of a kind and its const form. None is Null's code and no Option, as callers lend any kind for a family.
+// Families: the plain one of a kind and its const form. Where there is none it is Null's code, and no Option, as callers lend any kind
+// for a family.
 pub const NO_FAMILY: Kind = 0;
 
+// The family of UInt.
 const UINT: Kind = 3;
 
+// The family of Float.
 const FLOAT: Kind = 5;
 
+// The family of Bool.
 const BOOL: Kind = 7;
 
 // The last of the kinds of Int, UInt and Float.
@@ -142,12 +155,15 @@ pub enum Errors {
     None,
     One(Reason),
     Two(Reason, Reason),
-    // How many members fail, and the first of them: a pair, or one member with 0 beside it.
-    SomeFail {
-        failing: usize,
-        left: usize,
-        right: usize,
-    },
+    SomeFail(Failing),
+}
+
+// How many members fail, and the first of them: one member, or a pair.
+#[derive(Clone, Copy, Debug, PartialEq, Eq)]
+pub struct Failing {
+    pub count: usize,
+    pub left: usize,
+    pub right: Option<usize>,
 }
 
 impl Errors {
@@ -159,11 +175,11 @@ impl Errors {
             Errors::None => 0,
             Errors::One(_) => 1,
             Errors::Two(_, _) => 2,
-            Errors::SomeFail { .. } => 1,
+            Errors::SomeFail(_) => 1,
         }
     }
 
-    // The numbers of their reasons, 0 where there is none.
+    // The numbers of their reasons, 0 where there is none: what the bytes of an answer say, as what `failing` answers.
     pub fn reasons(self) -> (usize, usize)
         ensures { (result.0 ≡ first_of self) × (result.1 ≡ second_of self) }
     {
@@ -171,7 +187,7 @@ impl Errors {
             Errors::None => (0, 0),
             Errors::One(r) => (r as usize, 0),
             Errors::Two(r, s) => (r as usize, s as usize),
-            Errors::SomeFail { .. } => (MEMBERS_FAIL, 0),
+            Errors::SomeFail(_) => (MEMBERS_FAIL, 0),
         }
     }
 
@@ -180,24 +196,9 @@ impl Errors {
         ensures { (result.0 ≡ failing_of self) × (result.1 ≡ left_of self) × (result.2 ≡ right_of self) }
     {
         match self {
-            Errors::SomeFail {
-                failing,
-                left,
-                right,
-            } => (failing, left, right),
+            Errors::SomeFail(f) => (f.count, f.left, f.right.unwrap_or(0)),
             _ => (0, 0, 0),
         }
-    }
-}
-
-// Reason 7.
-pub fn some_fail(n: usize, x: usize, y: usize) -> Errors
-    ensures { result ≡ some_fail n x y }
-{
-    Errors::SomeFail {
-        failing: n,
-        left: x,
-        right: y,
     }
 }
 
@@ -216,7 +217,7 @@ pub fn known(t: usize) -> Outcome
 }
 
 // A Known type, with these errors.
-fn known_with(t: usize, errors: Errors) -> Outcome
+pub fn known_with(t: usize, errors: Errors) -> Outcome
     ensures { result ≡ outcome (Checked.Known t) errors }
 {
     Outcome {
@@ -308,7 +309,7 @@ fn not_bools(f: Kind, g: Kind) -> Errors
 
 impl Row {
     // Whether the operator takes two operands of that family.
-    fn does_take(self, f: Kind) -> bool
+    fn takes(self, f: Kind) -> bool
         ensures { result ≡ class_takes self.class f }
     {
         match self.class {
@@ -320,7 +321,7 @@ impl Row {
     }
 
     // Whether it looks at the units of two operands of that family.
-    fn does_look(self, f: Kind) -> bool
+    fn looks(self, f: Kind) -> bool
         ensures { result ≡ rule_looks self.unit self.class f }
     {
         match self.unit {
@@ -360,16 +361,16 @@ pub fn plain_binary(op: usize, clash: bool, f: Kind, g: Kind) -> Outcome
     ensures { result ≡ plain_binary op clash f g }
 {
     let row = row_of(op);
-    let suit = f == g && row.does_take(f);
-    if suit && !(clash && row.does_look(f)) {
+    let suit = f == g && row.takes(f);
+    if suit && !(clash && row.looks(f)) {
         known(row.given(f))
     } else {
         row.misfit(suit, f, g)
     }
 }
 
-// The operator with one operand that takes a kind; 0 for none and no Option, as the leaves of unions are told apart by this number or by
-// a family's alike.
+// The operator with one operand that takes a kind, 0 for none. The definition is a number too, by which leaves are told apart as by a
+// family, so that an Option would be turned back at once.
 #[tactic(auto, unfolding(crate::specs::Operators::taker_of))]
 pub fn taker_of(k: Kind) -> usize
     ensures { result ≡ taker_of k }

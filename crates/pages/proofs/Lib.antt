@@ -1,5 +1,6 @@
 -- Laws that the proofs of every page cite.
 pub mod Quant
+pub mod Ranges
 pub mod Bytes
 pub mod Blocks
 pub mod Put

@@ -175,7 +175,7 @@ unfolding all_to
 all_listed p d [] = refl
 all_listed p d (x ∷ xs) = ap (λ b. p x && b) (all_listed p d xs) ∙ sym (all_front (length xs) (λ i. p (get_or (x ∷ xs) i d)))
 
-any_front : (n : ℕ) (p : ℕ → Bool) → any_to (suc n) p ≡ cond (p 0) true (any_to n (λ i. p (suc i)))
+pub any_front : (n : ℕ) (p : ℕ → Bool) → any_to (suc n) p ≡ cond (p 0) true (any_to n (λ i. p (suc i)))
 unfolding any_to
 any_front zero p = go (p 0)
   where

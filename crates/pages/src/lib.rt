@@ -1,4 +1,5 @@
-// Bytes in lent pages.
+// Bytes in lent pages. A page goes with the place in it, here and above, and not as the slice from there on: the definitions count from
+// its front.
 #![tactic(auto)]
 
 ghost use Rattle.std.specs.Prelude.{◌≡◌, ◌+◌, ◌*◌, ◌≤◌, ◌<◌, length, take, drop, replicate, eqb};
@@ -11,14 +12,8 @@ pub const WORD_BYTES: usize = 2;
 // How many bytes the count at a page's front takes.
 pub const COUNT_BYTES: usize = WORD_BYTES;
 
-// A byte as an index.
-pub fn index(b: u8) -> usize
-    ensures { (result ≡ b) × (result < 256) }
-{
-    usize::from(b)
-}
-
-// Whether two slices have the same bytes.
+// Whether two slices have the same bytes. By a name, as what `==` answers is the library's `pointwise`: with `==` at the callers each of
+// the four, three of them in closures, turns it into `eqs` by hand.
 pub fn same(a: &[u8], b: &[u8]) -> bool
     ensures { result ≡ eqs a.now b.now }
 {
@@ -49,7 +44,7 @@ pub fn word_at(page: &[u8], at: usize) -> usize
     requires { at + word_bytes ≤ length page.now }
     ensures { (result ≡ word_at page.now at) × (result < 65536) }
 {
-    word_index(u16::from_be_bytes([page[at], page[at + 1]]))
+    usize::from(u16::from_be_bytes([page[at], page[at + 1]]))
 }
 
 // The count that the page's first two bytes say.
@@ -98,13 +93,6 @@ pub fn put_bytes(page: &mut [u8], at: usize, bytes: &[u8])
     ensures { page.new ≡ put page.old at bytes.now }
 {
     page[at..at + bytes.len()].copy_from_slice(bytes);
-}
-
-// A word as an index.
-pub fn word_index(n: u16) -> usize
-    ensures { (result ≡ n) × (result < 65536) }
-{
-    usize::from(n)
 }
 
 // Writes numbers into the page from index at on, two bytes each.
@@ -173,5 +161,13 @@ impl<const N: usize> Padded<N> {
             size: bytes.len(),
             bytes: places,
         }
+    }
+
+    // The bytes without the zeros after them.
+    pub fn as_slice(&self) -> &[u8]
+        requires { self.now.size ≤ N }
+        ensures { result.now ≡ take self.now.size self.now.bytes }
+    {
+        &self.bytes[..self.size]
     }
 }

@@ -14,19 +14,20 @@ use Rattle.refusals.specs.Lowest.{◌when◌, lowest}
 use Rattle.refusals.specs.declared.Refusal.{Refusal}
 use Rattle.refusals.specs.declared.Refusal.TheVariants.{Broken, Unused, Full}
 use Rattle.refusals.specs.Numbers.{Verdict}
-use Rattle.refusals.proofs.Lowest.{first_holds, passed_parts, answer_of_ok, answer_of_err}
+use Rattle.refusals.proofs.Lowest.{first_holds, passed_parts, answer_of_ok, answer_of_err, one_ok, one_err, verdict_err}
 use Rattle.pages.specs.Quant.{any_to}
 use Rattle.pages.specs.Bytes.{count_bytes, count_of, put}
 use Rattle.pages.proofs.Pad.{length_pad}
 use Rattle.pages.proofs.Quant.{first_none, first_at}
 use Rattle.names.specs.Table.{names_max}
-use Rattle.names.specs.Calls.{lent_broken, used_of, is_used}
+use Rattle.names.specs.Calls.{lent_broken, used_of, used_answer, is_used}
+use Rattle.names.proofs.Calls.{used_err}
 use Rattle.names.proofs.Used.{used_below}
 use Rattle.groups.specs.Groups.{pair, selves, walk, root_of, Below}
 use Rattle.pairs.specs.Table.{pairs_max, pair_bytes, both_used, insert_verdict, with_pair, insertion, after_insertion}
 use Rattle.pairs.specs.Table as tables
 use Rattle.pairs.specs.Page.{parents_at, size_of, bodies_in, parents_in, table_in, listed_in, holds, formed, with_table}
-use Rattle.pairs.specs.Calls.{table_broken, empty_verdict, empty_page, pair_verdict, page_after, symbol_verdict, root_answer, is_of, factor_of, first_factor, factor_answer}
+use Rattle.pairs.specs.Calls.{table_broken, form_verdict, opened_answer, empty_verdict, empty_page, pair_verdict, page_after, symbol_verdict, root_answer, is_of, factor_of, first_factor, factor_answer}
 use Rattle.pairs.specs.declared.ConversionTable.{ConversionTable}
 use Rattle.pairs.proofs.Table.{length_pairs, Form, form}
 use Rattle.pairs.proofs.Page.{form_held, form_unheld, formed_parts, count_in}
@@ -62,6 +63,50 @@ module _ (page : List ℕ) (names : Option (List ℕ)) where
       go : (b : Bool) → lent_broken names ≡ b → (b ≡ false) × (formed page (used_of names) ≡ true)
       go true l = let z : ◌≡◌ {A = Bool} true false = rw l at e in absurd (subst T z tt)
       go false l = (refl, not-false (formed page (used_of names)) (rw l at e))
+
+  -- what an answer of `opened` says of names and table, and what a refusal does
+  pub opened_ok : (n : ℕ) → Ok n ≡ opened_answer page names → (table_broken page names ≡ false) × (n ≡ used_of names)
+  unfolding opened_answer
+  opened_ok n e = one_ok Broken (table_broken page names) (used_of names) n e
+
+  pub opened_err : (r : Refusal) → Err r ≡ opened_answer page names → (table_broken page names ≡ true) × (r ≡ Broken)
+  unfolding opened_answer
+  opened_err r e = one_err Broken (table_broken page names) (used_of names) r e
+
+  -- its returns
+  pub opened_unnamed : lent_broken names ≡ true → Err Broken ≡ opened_answer page names
+  unfolding opened_answer
+  opened_unnamed l = rw (← broken_names l)
+
+  -- the table's verdict, where the names are in form
+  module _ (l : lent_broken names ≡ false) (n : ℕ) (is : n ≡ used_of names) where
+    broken_or_not : (r : Verdict) → r ≡ form_verdict page n → r ≡ lowest ((Broken when table_broken page names) ∷ [])
+    unfolding form_verdict
+    broken_or_not r e = rw (e, ← broken_rest l, ← is)
+
+    pub table_ok : Ok tt ≡ form_verdict page n → table_broken page names ≡ false
+    table_ok e = (passed_parts Broken (table_broken page names) [] (sym (broken_or_not (Ok tt) e))).0
+
+    pub table_err : (r : Refusal) → Err r ≡ form_verdict page n → (table_broken page names ≡ true) × (r ≡ Broken)
+    table_err r e = verdict_err Broken (table_broken page names) r (broken_or_not (Err r) e)
+
+    pub opened_unformed : (r : Refusal) → Err r ≡ form_verdict page n → Err r ≡ opened_answer page names
+    unfolding opened_answer
+    opened_unformed r e = rw (← broken_or_not (Err r) e)
+
+    pub opened_passed : Ok tt ≡ form_verdict page n → Ok n ≡ opened_answer page names
+    unfolding opened_answer
+    opened_passed e = rw (← broken_or_not (Ok tt) e, ← is)
+
+-- the returns of `form_verdict`
+module _ (page : List ℕ) (n : ℕ) where
+  pub form_broken : formed page n ≡ false → Err Broken ≡ form_verdict page n
+  unfolding form_verdict
+  form_broken f = rw f
+
+  pub form_passed : formed page n ≡ true → Ok tt ≡ form_verdict page n
+  unfolding form_verdict
+  form_passed f = rw f
 
 -- ---- insertion
 
@@ -117,8 +162,8 @@ module _ (page : List ℕ) (names : Option (List ℕ)) (s f b : ℕ) where
       v =
           rw t (first_holds Broken ((Unused when not (both_used (used_of names) (pair s b))) ∷ (Full when leb pairs_max (count_of page)) ∷ (Full when ltb (length page) (size_of (count_of page + 1))) ∷ []) refl)
 
-  pub pair_unnamed : lent_broken names ≡ true → (Err Broken ≡ pair_verdict page names (pair s b)) × (page ≡ page_after page names s f b)
-  pair_unnamed l = pair_broken (sym (broken_names page names l))
+  pub pair_unnamed : (r : Refusal) → Err r ≡ used_answer names → (Err r ≡ pair_verdict page names (pair s b)) × (page ≡ page_after page names s f b)
+  pair_unnamed r e = let u = used_err names r e in rw u.1 (pair_broken (sym (broken_names page names u.0)))
 
   module _ (l : lent_broken names ≡ false) where
     pub pair_unheld : holds page ≡ false → (Err Broken ≡ pair_verdict page names (pair s b)) × (page ≡ page_after page names s f b)
@@ -189,9 +234,12 @@ module _ (page : List ℕ) (names : Option (List ℕ)) (s f b : ℕ) where
 -- ---- looking up a symbol
 
 module _ (page : List ℕ) (names : Option (List ℕ)) (s : ℕ) where
-  pub symbol_broken : table_broken page names ≡ true → Err Broken ≡ symbol_verdict page names s
+  symbol_broken : table_broken page names ≡ true → Err Broken ≡ symbol_verdict page names s
   unfolding symbol_verdict
   symbol_broken t = sym (rw t (first_holds Broken ((Unused when not (is_used (used_of names) s)) ∷ []) refl))
+
+  pub symbol_unopened : (r : Refusal) → Err r ≡ opened_answer page names → Err r ≡ symbol_verdict page names s
+  symbol_unopened r e = let o = opened_err page names r e in rw o.1 (symbol_broken o.0)
 
   module _ (t : table_broken page names ≡ false) where
     pub symbol_unused : is_used (used_of names) s ≡ false → Err Unused ≡ symbol_verdict page names s

@@ -1,4 +1,5 @@
 -- Laws that the proofs of this crate, and of the crates above it, cite.
+pub mod Bodies
 pub mod Table
 pub mod Page
 pub mod Grown

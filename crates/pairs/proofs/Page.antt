@@ -1,5 +1,5 @@
 -- The table in a page: its form, and what is written. Assumes nothing.
-use mathlib.Core.Path.{◌≡◌, refl, sym, ◌∙◌, ap}
+use mathlib.Core.Path.{◌≡◌, refl, sym, ◌∙◌}
 use mathlib.Core.Bool.{true, false}
 use mathlib.Core.List.{List}
 use Prim.Native.Nat.{ℕ, ◌-◌, ◌*◌, ◌<◌, ◌≤◌}
@@ -105,10 +105,3 @@ unfolding with_table
 table_written page t at is one two three a b c = c ∙ rw (b, a, is, sub-zero)
 
 -- ---- the parents read
-
-pub parents_read : (page : List ℕ) (at : ℕ) → Held page → at ≡ parents_at (count_of page) → (parents : List ℕ) → parents ≡ take names_max (drop at page)
-    → (parents ≡ parents_in page) × (length parents ≡ names_max)
-parents_read page at h is parents e =
-    let p : parents ≡ parents_in page = e ∙ rw is in
-    let l : length (parents_in page) ≡ names_max = simp (length-take, length-drop) (omega (arith, h.room)) in
-    (p, ap length p ∙ l)

@@ -1,6 +1,6 @@
 -- The table by value: its form and insertion, one law for each return. Assumes nothing.
 use Rattle.std.proofs.Common.{Ok, Err}
-use mathlib.Core.Path.{◌≡◌, refl, sym, ◌∙◌, ap}
+use mathlib.Core.Path.{◌≡◌, refl, sym, ◌∙◌}
 use mathlib.Core.Bool.{true, false, not}
 use mathlib.Core.List.{List, [], ◌∷◌, ◌++◌}
 use Prim.Native.Nat.{ℕ, zero, suc, ◌+◌, ◌*◌, ◌<◌, ◌≤◌}
@@ -20,7 +20,7 @@ use Rattle.pages.proofs.Put.{put_append}
 use Rattle.names.specs.Table.{names_max}
 use Rattle.names.specs.Calls.{is_used}
 use Rattle.names.proofs.Used.{used_below}
-use Rattle.groups.specs.Groups.{Pair, pair, enter, enter_all, selves, parents_of}
+use Rattle.groups.specs.Groups.{Pair, pair, enter, parents_of}
 use Rattle.groups.proofs.Walks.{parents_snoc}
 use Rattle.pairs.specs.Table.{pairs_max, pair_bytes, factor_at, body_of, pair_at, pairs_in, listed, both_used, used_at, formed, insert_verdict, with_pair, insertion, after_insertion}
 use Rattle.pairs.specs.declared.ConversionTable.{ConversionTable}
@@ -36,16 +36,6 @@ length_pairs bodies (suc k) = length-append (pairs_in bodies k) (pair_at bodies 
 pub pairs_next : (bodies : List ℕ) (k : ℕ) → pairs_in bodies (k + 1) ≡ pairs_in bodies k ++ (pair_at bodies k ∷ [])
 unfolding pairs_in
 pairs_next bodies k = rw (add-one k)
-
--- the parents that it gives
-pub parents_next : (bodies : List ℕ) (k : ℕ) → enter k (parents_of names_max (pairs_in bodies k)) (pair_at bodies k) ≡ parents_of names_max (pairs_in bodies (k + 1))
-parents_next bodies k =
-    let l = length_pairs bodies k in
-    sym (ap (parents_of names_max) (pairs_next bodies k) ∙ parents_snoc names_max (pairs_in bodies k) (pair_at bodies k) ∙ rw l)
-
-pub parents_none : (bodies : List ℕ) → selves 0 names_max ≡ parents_of names_max (pairs_in bodies 0)
-unfolding parents_of enter_all pairs_in
-parents_none bodies = refl
 
 -- ---- symbols in use
 

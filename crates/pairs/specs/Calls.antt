@@ -9,13 +9,21 @@ use Rattle.pages.specs.Bytes.{count_bytes, count_of, number_at, long_bytes, put}
 use Rattle.names.specs.Table.{names_max}
 use Rattle.names.specs.Calls.{lent_broken, used_of, is_used}
 use Rattle.groups.specs.Groups.{Pair, pair, selves, root_of}
-use Rattle.pairs.specs.Table.{pairs_max, pair_bytes, factor_at, pair_at, both_used, with_pair}
+use Rattle.pairs.specs.Table.{pairs_max, pair_bytes, factor_at, pair_at, said, both_used, with_pair}
 use Rattle.pairs.specs.Page.{size_of, bodies_in, table_in, listed_in, formed, with_table}
 use Rattle.pairs.specs.declared.Factor.{Factor}
 
 -- do the names that are lent, or the table, break their form
 unfoldable pub table_broken : List ℕ → Option (List ℕ) → Bool
 table_broken page names = lent_broken names || not (formed page (used_of names))
+
+-- refused (2) is a page that is no table in form, with n name numbers in use
+unfoldable pub form_verdict : List ℕ → ℕ → Verdict
+form_verdict page n = lowest ((Broken when not (formed page n)) ∷ [])
+
+-- how many name numbers are in use, or 2 where names or table break their form
+unfoldable pub opened_answer : List ℕ → Option (List ℕ) → Result ℕ Refusal
+opened_answer page names = answer_of (lowest ((Broken when table_broken page names) ∷ [])) (used_of names)
 
 -- ---- making a table
 
@@ -60,6 +68,10 @@ is_of bodies s i = eqb (pair_at bodies i).symbol s
 -- the factor of pair i of the bodies, with its base
 abbrev pub factor_of : List ℕ → ℕ → Factor
 factor_of bodies i = record { factor = number_at bodies (pair_bytes * i + factor_at) long_bytes; base = (pair_at bodies i).base }
+
+-- the factor that the bytes of a pair say, with its base
+abbrev pub factor_said : List ℕ → Factor
+factor_said body = record { factor = number_at body factor_at long_bytes; base = (said body).base }
 
 -- that of the first of k pairs that has the symbol, if one has
 abbrev pub first_factor : List ℕ → ℕ → ℕ → Option Factor

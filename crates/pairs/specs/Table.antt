@@ -38,6 +38,10 @@ body_of s f b = s ∷ b ∷ big_endian long_bytes f
 abbrev pub pair_at : List ℕ → ℕ → Pair
 pair_at bodies i = pair (get_or bodies (pair_bytes * i) 0) (get_or bodies (pair_bytes * i + base_at) 0)
 
+-- the pair that the bytes of one say
+abbrev pub said : List ℕ → Pair
+said body = pair (get_or body 0 0) (get_or body base_at 0)
+
 -- the first k pairs
 unfoldable pub pairs_in : List ℕ → ℕ → List Pair
 pairs_in bodies zero = []

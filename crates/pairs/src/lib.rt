@@ -2,17 +2,19 @@
 // source's units.rs).
 #![tactic(auto)]
 
-ghost use Rattle.std.specs.Prelude.{◌≡◌, true, ◌+◌, ◌*◌, ◌≤◌, ◌<◌, length, get_or, replicate, option_copied};
-ghost use Rattle.pages.specs.Quant.{all_to};
+ghost use Rattle.std.specs.Prelude.{◌≡◌, true, ◌+◌, ◌*◌, ◌≤◌, ◌<◌, map, length, get_or, eqb, option_map, option_copied, IfOk};
+ghost use Rattle.std.specs.List.{list_all, find};
+ghost use Rattle.std.specs.Simd.{first_chunks};
+ghost use Rattle.pages.specs.Bytes.{count_of};
 ghost use Rattle.names.specs.Table.{names_max};
 ghost use Rattle.groups.specs.Groups.{pair, parents_of, Below};
-ghost use Rattle.pairs.specs.Table.{pairs_max, pair_bytes, pairs_in, fresh_table, both_used, used_at, insert_verdict, insertion, after_insertion, with_pair};
+ghost use Rattle.pairs.specs.Table.{pairs_max, pair_bytes, fresh_table, said, both_used, insert_verdict, insertion, after_insertion, with_pair};
 ghost use Rattle.pairs.specs.Table as tables;
 ghost use Rattle.pairs.specs.Page.{parents_at, size_of, parents_in, table_in, holds, Held, formed, with_table};
-ghost use Rattle.pairs.specs.Calls.{table_broken, empty_verdict, empty_page, pair_verdict, page_after, symbol_verdict, root_answer, first_factor, factor_answer};
+ghost use Rattle.pairs.specs.Calls.{form_verdict, opened_answer, empty_verdict, empty_page, pair_verdict, page_after, symbol_verdict, root_answer, factor_said, factor_answer};
 
-use groups::Parents;
-use names::{NAMES, Symbol, symbol_index};
+use groups::{Groups, Parents};
+use names::{NAMES, Symbol};
 use pages::COUNT_BYTES;
 use refusals::Refusal;
 
@@ -27,6 +29,9 @@ pub const FACTOR_AT: usize = 2;
 
 // How many bytes a pair takes.
 pub const PAIR_BYTES: usize = FACTOR_AT + pages::LONG_BYTES;
+
+// The bytes of a pair: its symbol, its base and its factor.
+type Body = [u8; PAIR_BYTES];
 
 // The bytes of the pairs, one after another.
 pub type Bodies = [u8; PAIR_BYTES * PAIRS];
@@ -51,44 +56,42 @@ pub struct Factor {
 fn are_used(symbol: Symbol, base: Symbol, n: usize) -> bool
     ensures { result ≡ both_used n (pair symbol base) }
 {
-    if !names::is_used(n, symbol_index(symbol)) {
-        return false;
-    }
-    names::is_used(n, symbol_index(base))
+    names::is_used(n, usize::from(symbol)) && names::is_used(n, usize::from(base))
 }
 
-// The symbol that a byte says.
-fn symbol_at(bytes: &[u8], at: usize) -> Symbol
-    requires { at < length bytes.now }
-    ensures { result ≡ get_or bytes.now at 0 }
-{
-    pages::index(bytes[at]) as Symbol
-}
-
-// Whether both symbols of each of the first k pairs are numbers in use.
-fn all_used(pairs: &[u8], k: usize, n: usize) -> bool
+// The bytes of the first k pairs, each by itself.
+fn bodies_of(pairs: &[u8], k: usize) -> &[Body]
     requires { pair_bytes * k ≤ length pairs.now }
-    ensures { result ≡ all_to k (used_at pairs.now n) }
+    ensures { (result.now ≡ first_chunks pair_bytes k pairs.now) × (length result.now ≡ k) }
 {
-    for i in 0..k {
-        let at = PAIR_BYTES * i;
-        if !are_used(symbol_at(pairs, at), symbol_at(pairs, at + BASE_AT), n) {
-            return false;
-        }
-    }
-    true
+    let (bodies, _) = pairs[..PAIR_BYTES * k].as_chunks::<PAIR_BYTES>();
+    bodies
 }
 
-// The parents that the first k pairs give.
-fn replayed(pairs: &[u8], k: usize) -> Parents
-    requires { pair_bytes * k ≤ length pairs.now }
-    ensures { result ≡ parents_of names_max (pairs_in pairs.now k) }
+// A pair's symbol, and its base.
+fn symbols_of(body: &Body) -> (Symbol, Symbol)
+    ensures { (result.0 ≡ (said body.now).symbol) × (result.1 ≡ (said body.now).base) }
+{
+    (Symbol::from(body[0]), Symbol::from(body[BASE_AT]))
+}
+
+// Whether both symbols of each pair are numbers in use.
+fn all_used(bodies: &[Body], n: usize) -> bool
+    ensures { result ≡ list_all (λ b. both_used n (said b)) bodies.now }
+{
+    bodies.iter().all(|body| {
+        let (symbol, base) = symbols_of(body);
+        are_used(symbol, base, n)
+    })
+}
+
+// The parents that the pairs give.
+fn replayed(bodies: &[Body]) -> Parents
+    ensures { result ≡ parents_of names_max (map said bodies.now) }
 {
     let mut parents = groups::own_parents();
-    for i in 0..k {
-        let at = PAIR_BYTES * i;
-        let symbol = symbol_at(pairs, at);
-        let base = symbol_at(pairs, at + BASE_AT);
+    for (i, body) in bodies.iter().enumerate() {
+        let (symbol, base) = symbols_of(body);
         groups::join(&mut parents, i, symbol, base);
     }
     parents
@@ -103,11 +106,12 @@ fn is_table(t: ConversionTable, n: usize) -> bool
         return false;
     }
     let pairs = t.pairs;
-    if !all_used(&pairs, k, n) {
+    let bodies = bodies_of(&pairs, k);
+    if !all_used(bodies, n) {
         return false;
     }
     let parents = t.parents;
-    parents == replayed(&pairs, k)
+    parents == replayed(bodies)
 }
 
 // A table in form with one more pair.
@@ -136,16 +140,15 @@ fn with_pair(t: ConversionTable, symbol: Symbol, factor: u64, base: Symbol) -> C
 pub fn fresh_table() -> ConversionTable
     ensures { result ≡ fresh_table }
 {
-    let pairs = no_bodies();
-    let parents = groups::own_parents();
     ConversionTable {
         count: 0,
-        pairs,
-        parents,
+        pairs: [0; PAIR_BYTES * PAIRS],
+        parents: groups::own_parents(),
     }
 }
 
-// The insertion, by value, with n name numbers in use: the table with one more pair.
+// The insertion, by value, with n name numbers in use: the table with one more pair. Symbol, factor and base are the arguments of the
+// source's `insert`; a struct of them would be made for each call, and taken apart at once.
 #[tactic(auto, using(crate::proofs::Table::insert_broken, crate::proofs::Table::insert_unused, crate::proofs::Table::insert_full, crate::proofs::Table::insert_done, crate::proofs::Table::form, crate::proofs::Table::both_below))]
 pub fn inserted(
     t: ConversionTable,
@@ -218,13 +221,6 @@ fn holds_table(page: &[u8]) -> bool
     pages::zeros_from(page, end)
 }
 
-// As many bytes as 512 pairs take, all 0.
-fn no_bodies() -> Bodies
-    ensures { result ≡ replicate (pair_bytes * pairs_max) 0 }
-{
-    [0; PAIR_BYTES * PAIRS]
-}
-
 // The parents in a page that holds a table; in form, they are as its pairs give them. For crates above (`canonical` tests the form).
 pub fn parents_of(page: &[u8]) -> Parents
     requires { Held page.now }
@@ -243,7 +239,7 @@ fn table_in(page: &[u8]) -> ConversionTable
 {
     let k = pages::count(page);
     let at = parents_at(k);
-    let mut pairs = no_bodies();
+    let mut pairs = [0; PAIR_BYTES * PAIRS];
     pages::put_bytes(&mut pairs, 0, &page[COUNT_BYTES..at]);
     let parents = parents_of(page);
     ConversionTable {
@@ -253,14 +249,27 @@ fn table_in(page: &[u8]) -> ConversionTable
     }
 }
 
-// Whether the page is a table in form, with n name numbers in use.
-fn is_formed(page: &[u8], n: usize) -> bool
-    ensures { result ≡ formed page.now n }
+// Whether the page is a table in form, with n name numbers in use, for crates above that have counted them.
+pub fn form_verdict(page: &[u8], n: usize) -> Result<(), Refusal>
+    ensures { result ≡ form_verdict page.now n }
 {
-    if holds_table(page) {
-        return is_table(table_in(page), n);
+    if !holds_table(page) {
+        return Err(Refusal::Broken);
     }
-    false
+    if !is_table(table_in(page), n) {
+        return Err(Refusal::Broken);
+    }
+    Ok(())
+}
+
+// How many name numbers are in use, where names, if they are lent, and the table are in form. Calls of crates above on a page of pairs
+// begin with it, too.
+pub fn opened(page: &[u8], names: Option<&[u8]>) -> Result<usize, Refusal>
+    ensures { (result ≡ opened_answer page.now (option_copied names.entry)) × IfOk result (λ n. n ≤ names_max) }
+{
+    let n = names::used_in(names)?;
+    form_verdict(page, n)?;
+    Ok(n)
 }
 
 // Writes a table at the front of the page.
@@ -301,13 +310,10 @@ pub fn insert_pair(
 ) -> Result<(), Refusal>
     ensures { (result ≡ pair_verdict page.old (option_copied names.entry) (pair symbol base)) × (page.new ≡ page_after page.old (option_copied names.entry) symbol factor base) }
 {
-    if names::is_broken(names) {
-        return Err(Refusal::Broken);
-    }
+    let n = names::used_in(names)?;
     if !holds_table(page) {
         return Err(Refusal::Broken);
     }
-    let n = names::in_use(names);
     let mut t = table_in(page);
     insert(&mut t, n, symbol, factor, base)?;
     if page.len() < size_of(t.count) {
@@ -317,24 +323,12 @@ pub fn insert_pair(
     Ok(())
 }
 
-// Whether the names that are lent, or the table, break their form, for crates above.
-pub fn is_broken(page: &[u8], names: Option<&[u8]>) -> bool
-    ensures { result ≡ table_broken page.now (option_copied names.entry) }
-{
-    if names::is_broken(names) {
-        return true;
-    }
-    !is_formed(page, names::in_use(names))
-}
-
 // Whether a symbol can be looked up in a page of pairs.
 fn symbol_verdict(page: &[u8], names: Option<&[u8]>, symbol: Symbol) -> Result<(), Refusal>
     ensures { result ≡ symbol_verdict page.now (option_copied names.entry) symbol }
 {
-    if is_broken(page, names) {
-        return Err(Refusal::Broken);
-    }
-    if !names::is_used(names::in_use(names), symbol_index(symbol)) {
+    let n = opened(page, names)?;
+    if !names::is_used(n, usize::from(symbol)) {
         return Err(Refusal::Unused);
     }
     Ok(())
@@ -346,24 +340,22 @@ pub fn canonical(page: &[u8], names: Option<&[u8]>, symbol: Symbol) -> Result<Sy
 {
     symbol_verdict(page, names, symbol)?;
     let parents = parents_of(page);
-    Ok(groups::root(&parents, pages::count(page), symbol))
+    let groups = Groups {
+        parents: &parents,
+        steps: pages::count(page),
+    };
+    Ok(groups.root(symbol))
 }
 
-// The factor of the first of k pairs that has the symbol, with its base.
-fn factor_in(bodies: &[u8], k: usize, symbol: Symbol) -> Option<Factor>
-    requires { pair_bytes * k ≤ length bodies.now }
-    ensures { result ≡ first_factor bodies.now k symbol }
+// The factor of the first pair that has the symbol, with its base.
+fn factor_in(bodies: &[Body], symbol: Symbol) -> Option<Factor>
+    ensures { result ≡ option_map factor_said (find (λ b. eqb (said b).symbol symbol) bodies.now) }
 {
-    for i in 0..k {
-        let at = PAIR_BYTES * i;
-        if symbol_at(bodies, at) == symbol {
-            return Some(Factor {
-                factor: pages::long(bodies, at + FACTOR_AT),
-                base: symbol_at(bodies, at + BASE_AT),
-            });
-        }
-    }
-    None
+    let body = bodies.iter().find(|body| symbols_of(body).0 == symbol)?;
+    Some(Factor {
+        factor: pages::long(body, FACTOR_AT),
+        base: symbols_of(body).1,
+    })
 }
 
 // The first factor of a symbol, with its base, if a pair has the symbol.
@@ -376,6 +368,6 @@ pub fn first_factor(
 {
     symbol_verdict(page, names, symbol)?;
     let k = pages::count(page);
-    let bodies = &page[COUNT_BYTES..parents_at(k)];
-    Ok(factor_in(bodies, k, symbol))
+    let bodies = bodies_of(&page[COUNT_BYTES..parents_at(k)], k);
+    Ok(factor_in(bodies, symbol))
 }

@@ -166,3 +166,18 @@ answer_of_ok (Err r) a x e = let z : ◌≡◌ {A = ℕ} 0 1 = cc in absurd (ome
 pub answer_of_err : {A : Type 0} (v : Verdict) (a : A) (r : Refusal) → Err r ≡ answer_of v a → v ≡ Err r
 answer_of_err (Ok _) a r e = let z : ◌≡◌ {A = ℕ} 0 1 = cc in absurd (omega arith)
 answer_of_err (Err s) a r e = cc
+
+-- ---- of one condition
+
+-- an answer is there only where it does not hold
+pub one_ok : {A : Type 0} (r : Refusal) (b : Bool) (a x : A) → Ok x ≡ answer_of (lowest ((r when b) ∷ [])) a → (b ≡ false) × (x ≡ a)
+one_ok r b a x e = let k = answer_of_ok (lowest ((r when b) ∷ [])) a x e in ((passed_parts r b [] k.0).0, k.1)
+
+-- and a refusal only where it does
+pub verdict_err : (r : Refusal) (b : Bool) (s : Refusal) → Err s ≡ lowest ((r when b) ∷ []) → (b ≡ true) × (s ≡ r)
+verdict_err r true s e = (refl, cc)
+verdict_err r false s e = let z : ◌≡◌ {A = ℕ} 0 1 = cc in absurd (omega arith)
+
+pub one_err : {A : Type 0} (r : Refusal) (b : Bool) (a : A) (s : Refusal) → Err s ≡ answer_of (lowest ((r when b) ∷ [])) a → (b ≡ true) × (s ≡ r)
+one_err r true a s e = (refl, cc)
+one_err r false a s e = let z : ◌≡◌ {A = ℕ} 0 1 = cc in absurd (omega arith)

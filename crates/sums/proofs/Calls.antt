@@ -1,7 +1,7 @@
 -- What the calls for group sums and convertibility come to, one law for each return. Assumes nothing.
 use Rattle.std.proofs.Common.{Ok, Err, Option}
 use mathlib.Core.Path.{◌≡◌, refl, sym, fun_ext}
-use mathlib.Core.Bool.{Bool, true, false, ◌&&◌, not}
+use mathlib.Core.Bool.{Bool, true, false, ◌&&◌, not, and-true}
 use mathlib.Core.List.{List, [], ◌∷◌}
 use Prim.Native.Nat.{ℕ}
 use borrow.Author.Tests.{not-false}
@@ -16,13 +16,13 @@ use Rattle.names.specs.Calls.{lent_broken, used_of}
 use Rattle.names.proofs.Calls.{used_few}
 use Rattle.units.specs.Unit.{places_max, in_use}
 use Rattle.units.specs.Unit as units
-use Rattle.units.specs.Calls.{terms_of, present}
+use Rattle.units.specs.Calls.{terms_of, present, form_verdict}
 use Rattle.units.specs.declared.Unit.{Unit}
 use Rattle.groups.specs.Groups.{walk}
 use Rattle.pairs.specs.Page.{parents_in, Held, formed}
 use Rattle.pairs.proofs.Page.{formed_held}
-use Rattle.pairs.specs.Calls.{table_broken}
-use Rattle.pairs.proofs.Calls.{unbroken, root_in}
+use Rattle.pairs.specs.Calls.{table_broken, opened_answer}
+use Rattle.pairs.proofs.Calls.{unbroken, opened_err, root_in}
 use Rattle.pairs.proofs.Run.{form_all}
 use Rattle.sums.specs.Sums.{group_sums, convertible, sums_of}
 use Rattle.sums.specs.Calls.{all_used, all_formed, units_verdict, roots_in, sums_answer, or_empty, convert_answer}
@@ -30,10 +30,13 @@ use Rattle.sums.specs.Calls.{all_used, all_formed, units_verdict, roots_in, sums
 -- ---- two units
 
 module _ (page : List ℕ) (names : Option (List ℕ)) (a b : Unit) where
-  pub units_broken : table_broken page names ≡ true → Err Broken ≡ units_verdict page names (a ∷ b ∷ [])
+  units_broken : table_broken page names ≡ true → Err Broken ≡ units_verdict page names (a ∷ b ∷ [])
   unfolding units_verdict
   units_broken t =
       sym (rw t (first_holds Broken ((Unused when not (all_used (used_of names) (a ∷ b ∷ []))) ∷ (BadUnit when not (all_formed (a ∷ b ∷ []))) ∷ []) refl))
+
+  pub units_unopened : (r : Refusal) → Err r ≡ opened_answer page names → Err r ≡ units_verdict page names (a ∷ b ∷ [])
+  units_unopened r e = let o = opened_err page names r e in rw o.1 (units_broken o.0)
 
   module _ (t : table_broken page names ≡ false) where
     unused : all_used (used_of names) (a ∷ b ∷ []) ≡ false → Err Unused ≡ units_verdict page names (a ∷ b ∷ [])
@@ -56,12 +59,10 @@ module _ (page : List ℕ) (names : Option (List ℕ)) (a b : Unit) where
         left_bad f = bad (rw f)
 
         module _ (fa : units.formed places_max names_max (terms_of a) ≡ true) where
-          pub right_bad : units.formed places_max names_max (terms_of b) ≡ false → Err BadUnit ≡ units_verdict page names (a ∷ b ∷ [])
-          right_bad f = bad (rw (fa, f))
-
-          pub units_passed : units.formed places_max names_max (terms_of b) ≡ true → Ok tt ≡ units_verdict page names (a ∷ b ∷ [])
-          unfolding units_verdict
-          units_passed fb = rw (t, ua, ub, fa, fb)
+          -- the second unit's form is judged last
+          pub right_judged : form_verdict b ≡ units_verdict page names (a ∷ b ∷ [])
+          unfolding form_verdict units_verdict
+          right_judged = rw (t, ua, ub, fa, and-true (units.formed places_max names_max (terms_of b)))
 
   -- what two units have that are not refused
   module _ (v : units_verdict page names (a ∷ b ∷ []) ≡ Ok tt) where

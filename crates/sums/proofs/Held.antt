@@ -34,18 +34,18 @@ module _ (root : ℕ → ℕ) (u : Unit) (h : formed places_max names_max (terms
 -- ---- two
 
 module _ (a b : Sums) where
-  equal_parts : (r : Bool) → r ≡ eqb a.count b.count && (pointwise eqb a.symbols b.symbols && pointwise int_eq a.exponents b.exponents) → r ≡ true → a ≡ b
+  equal_parts : (r : Bool) → r ≡ eqb a.terms.count b.terms.count && (pointwise eqb a.terms.symbols b.terms.symbols && pointwise int_eq a.terms.exponents b.terms.exponents) → r ≡ true → a ≡ b
   equal_parts r e t =
-      let p = and_true (eqb a.count b.count) (pointwise eqb a.symbols b.symbols && pointwise int_eq a.exponents b.exponents) (sym e ∙ t) in
-      let q = and_true (pointwise eqb a.symbols b.symbols) (pointwise int_eq a.exponents b.exponents) p.1 in
-      let symbols = (slice_eq-Decides Decides-eqb a.symbols b.symbols _ refl).0 q.0 in
-      let exponents = (slice_eq-Decides Decides-int_eq a.exponents b.exponents _ refl).0 q.1 in
-      λ i. record { count = eqb-true a.count b.count p.0 i; symbols = symbols i; exponents = exponents i }
+      let p = and_true (eqb a.terms.count b.terms.count) (pointwise eqb a.terms.symbols b.terms.symbols && pointwise int_eq a.terms.exponents b.terms.exponents) (sym e ∙ t) in
+      let q = and_true (pointwise eqb a.terms.symbols b.terms.symbols) (pointwise int_eq a.terms.exponents b.terms.exponents) p.1 in
+      let symbols = (slice_eq-Decides Decides-eqb a.terms.symbols b.terms.symbols _ refl).0 q.0 in
+      let exponents = (slice_eq-Decides Decides-int_eq a.terms.exponents b.terms.exponents _ refl).0 q.1 in
+      λ i. record { terms = record { count = eqb-true a.terms.count b.terms.count p.0 i; symbols = symbols i; exponents = exponents i } }
 
 -- `==` says whether the group sums of two units are the same
 module _ (root : ℕ → ℕ) (u v : Unit) (h : formed places_max names_max (terms_of u) ≡ true) (k : formed places_max names_max (terms_of v) ≡ true) where
   pub equal_sums : (a b : Sums) → a ≡ sums_of (group_sums names_max root (terms_of u)) → b ≡ sums_of (group_sums names_max root (terms_of v))
-      → (r : Bool) → r ≡ eqb a.count b.count && (pointwise eqb a.symbols b.symbols && pointwise int_eq a.exponents b.exponents)
+      → (r : Bool) → r ≡ eqb a.terms.count b.terms.count && (pointwise eqb a.terms.symbols b.terms.symbols && pointwise int_eq a.terms.exponents b.terms.exponents)
       → Decides r (group_sums names_max root (terms_of u) ≡ group_sums names_max root (terms_of v))
   equal_sums a b ea eb r e = (
     λ t. sym (sums_held root u h a ea) ∙ ap sums_in (equal_parts a b r e t) ∙ sums_held root v k b eb,

@@ -1,11 +1,11 @@
 -- Group sums and convertibility (document 01, "Units and pairs"; `canonicalize` and `is_convertible_to` of the source's
 -- units.rs), over any number n of symbols and any roots.
-use Rattle.std.specs.Prelude.{Bool, false, List, [], ◌∷◌, ℕ, ◌<◌, eqb, length, ℤ, pos, negsuc, ◌+ℤ◌}
+use Rattle.std.specs.Prelude.{Bool, false, List, [], ◌∷◌, ℕ, ◌<◌, eqb, ℤ, pos, negsuc, ◌+ℤ◌}
 use Rattle.pages.specs.Quant.{all_to}
-use Rattle.pages.specs.Pad.{pad}
-use Rattle.units.specs.Unit.{places_max, Term, term, exponent}
+use Rattle.units.specs.Unit.{Term, term, exponent}
 use Rattle.units.specs.Product.{written}
-use Rattle.units.specs.Calls.{terms, syms, exps}
+use Rattle.units.specs.Calls.{terms_of, unit_of}
+use Rattle.units.specs.declared.Unit.{Unit}
 use Rattle.groups.specs.Groups.{Pair, Joined}
 use Rattle.sums.specs.declared.Sums.{Sums}
 
@@ -51,8 +51,16 @@ SameSums n ps xs ys = (s : ℕ) → s < n → (z : ℤ) × SumIn ps s xs z × Su
 
 -- the struct that holds group sums, with zeros behind them
 abbrev pub sums_of : List Term → Sums
-sums_of l = record { count = length l; symbols = pad places_max 0 (syms l); exponents = pad places_max (pos 0) (exps l) }
+sums_of l = record { terms = unit_of l }
 
 -- the group sums that it holds: those at its first `count` places
 abbrev pub sums_in : Sums → List Term
-sums_in w = terms w.count 0 w.symbols w.exponents
+sums_in w = terms_of w.terms
+
+-- the places of a unit, as sums
+abbrev pub sums_from : Unit → Sums
+sums_from u = record { terms = u }
+
+-- those of sums, as a unit
+abbrev pub unit_from : Sums → Unit
+unit_from w = w.terms

@@ -8,36 +8,49 @@ ghost use Rattle.units.specs.Unit.{places_max, formed, exponent};
 ghost use Rattle.units.specs.Product.{any_outside, written};
 ghost use Rattle.units.specs.Calls.{terms_of, unit_of};
 ghost use Rattle.groups.specs.Groups.{walk};
-ghost use Rattle.sums.specs.Sums.{rooted, group_sums, convertible, sums_of};
+ghost use Rattle.sums.specs.Sums.{rooted, group_sums, convertible, sums_of, sums_from, unit_from};
 ghost use Rattle.sums.specs.Gather.{next_from};
 ghost use Rattle.sums.specs.Calls.{units_verdict, sums_answer, or_empty, convert_answer};
 
-use groups::root;
-use names::{NAMES, Symbol, symbol_index};
+use groups::Groups;
+use names::{NAMES, Symbol};
 use refusals::Refusal;
-use units::{PLACES, Unit, with_term};
+use units::{Unit, with_term};
 
 // The root of each group, ascending by number, with the sum of a unit's exponents in it, none of them zero. Output only: a sum
-// may reach 8,000 either way. Arrays with a count, as in a unit, since there is no heap; a type of its own, so that none is taken for a
-// unit.
+// may reach 8,000 either way. A type of its own, so that none is taken for a unit.
 #[derive(Clone, Copy, Debug, PartialEq, Eq)]
 pub struct Sums {
-    pub count: usize,
-    pub symbols: [Symbol; PLACES],
-    pub exponents: [i16; PLACES],
+    pub terms: Unit,
+}
+
+// The terms of a unit, as sums.
+impl From<Unit> for Sums {
+    ghost from_gives = { λ u s. s ≡ sums_from u };
+
+    fn from(terms: Unit) -> Sums {
+        Sums { terms }
+    }
+}
+
+// The sums as a unit's terms, to be written: as a unit they may break its form.
+impl From<Sums> for Unit {
+    ghost from_gives = { λ s u. u ≡ unit_from s };
+
+    fn from(s: Sums) -> Unit {
+        s.terms
+    }
 }
 
 // The unit with each symbol's root in its place: a root may stand there several times, and in any order.
 #[tactic(auto, using(units::proofs::Signed::back, crate::proofs::Roots::rooting_start, crate::proofs::Roots::rooting_count, crate::proofs::Roots::rooting_next, crate::proofs::Roots::rooting_end))]
-fn rooted(parents: &[Symbol], steps: usize, u: Unit) -> Unit
+fn rooted(groups: Groups, u: Unit) -> Unit
     requires { u.count ≤ places_max }
-    ensures { result ≡ unit_of (rooted (walk steps parents.now) (terms_of u)) }
+    ensures { result ≡ unit_of (rooted (walk groups.entry.steps groups.entry.parents.now) (terms_of u)) }
 {
-    let n = u.count;
     let mut v = units::dimensionless();
-    for i in 0..n {
-        let g = root(parents, steps, u.symbols[i]);
-        v = with_term(v, g, u.exponents[i]);
+    for (s, e) in u.terms() {
+        v = with_term(v, groups.root(s), e);
     }
     v
 }
@@ -50,7 +63,7 @@ fn next_symbol(u: Unit, lo: usize) -> Option<Symbol>
     u.symbols[..u.count]
         .iter()
         .copied()
-        .filter(|s| (lo..NAMES).contains(&symbol_index(*s)))
+        .filter(|s| (lo..NAMES).contains(&usize::from(*s)))
         .min()
 }
 
@@ -59,17 +72,16 @@ fn sum_of(u: Unit, s: Symbol) -> i16
     requires { (u.count ≤ places_max) × (any_outside (terms_of u) ≡ false) }
     ensures { result ≡ exponent s (terms_of u) }
 {
-    let n = u.count;
     let mut sum: i16 = 0;
-    for i in 0..n {
-        if u.symbols[i] == s {
-            sum += u.exponents[i];
+    for (t, e) in u.terms() {
+        if t == s {
+            sum += e;
         }
     }
     sum
 }
 
-// The terms of each symbol summed, in order of the symbols.
+// The terms of each symbol summed, in order of the symbols. A `while let`, since the next symbol is looked for behind the last one.
 fn gathered(u: Unit) -> Sums
     requires { (u.count ≤ places_max) × (any_outside (terms_of u) ≡ false) }
     ensures { result ≡ sums_of (written names_max (λ g. exponent g (terms_of u))) }
@@ -81,36 +93,26 @@ fn gathered(u: Unit) -> Sums
         if e != 0 {
             w = with_term(w, s, e);
         }
-        lo = symbol_index(s) + 1;
+        lo = usize::from(s) + 1;
     }
-    let Unit {
-        count,
-        symbols,
-        exponents,
-    } = w;
-    Sums {
-        count,
-        symbols,
-        exponents,
-    }
+    Sums::from(w)
 }
 
-// The group sums of a unit in form, where that many steps lead to a root, for crates above (`canonicalize` tests the unit, and the
-// table, whose count is steps enough).
-pub fn group_sums(parents: &[Symbol], steps: usize, u: Unit) -> Sums
+// The group sums of a unit in form, for crates above (`canonicalize` tests the unit, and the table that the groups are of).
+pub fn group_sums(groups: Groups, u: Unit) -> Sums
     requires { formed places_max names_max (terms_of u) ≡ true }
-    ensures { result ≡ sums_of (group_sums names_max (walk steps parents.now) (terms_of u)) }
+    ensures { result ≡ sums_of (group_sums names_max (walk groups.entry.steps groups.entry.parents.now) (terms_of u)) }
 {
-    gathered(rooted(parents, steps, u))
+    gathered(rooted(groups, u))
 }
 
 // Whether two units in form have the same group sums, for crates above (`is_convertible_to` tests them).
-pub fn convertible(parents: &[Symbol], steps: usize, left: Unit, right: Unit) -> bool
+pub fn convertible(groups: Groups, left: Unit, right: Unit) -> bool
     requires { (formed places_max names_max (terms_of left) ≡ true) × (formed places_max names_max (terms_of right) ≡ true) }
-    ensures { result ≡ convertible names_max (walk steps parents.now) (terms_of left) (terms_of right) }
+    ensures { result ≡ convertible names_max (walk groups.entry.steps groups.entry.parents.now) (terms_of left) (terms_of right) }
 {
-    let a = group_sums(parents, steps, left);
-    let b = group_sums(parents, steps, right);
+    let a = group_sums(groups, left);
+    let b = group_sums(groups, right);
     a == b
 }
 
@@ -118,23 +120,15 @@ pub fn convertible(parents: &[Symbol], steps: usize, left: Unit, right: Unit) ->
 fn units_verdict(page: &[u8], names: Option<&[u8]>, a: Unit, b: Unit) -> Result<(), Refusal>
     ensures { result ≡ units_verdict page.now (option_copied names.entry) (a ∷ b ∷ []) }
 {
-    if pairs::is_broken(page, names) {
-        return Err(Refusal::Broken);
-    }
-    let n = names::in_use(names);
+    let n = pairs::opened(page, names)?;
     if !units::is_used(a, n) {
         return Err(Refusal::Unused);
     }
     if !units::is_used(b, n) {
         return Err(Refusal::Unused);
     }
-    if !units::is_formed(a) {
-        return Err(Refusal::BadUnit);
-    }
-    if !units::is_formed(b) {
-        return Err(Refusal::BadUnit);
-    }
-    Ok(())
+    units::unit_form(a)?;
+    units::unit_form(b)
 }
 
 // The group sums of a unit, over the pairs of a page: `canonicalize` of the source. A unit by itself is judged as if given twice.
@@ -143,10 +137,14 @@ pub fn canonicalize(page: &[u8], names: Option<&[u8]>, u: Unit) -> Result<Sums, 
 {
     units_verdict(page, names, u, u)?;
     let parents = pairs::parents_of(page);
-    Ok(group_sums(&parents, pages::count(page), u))
+    let groups = Groups {
+        parents: &parents,
+        steps: pages::count(page),
+    };
+    Ok(group_sums(groups, u))
 }
 
-// The unit, or the empty one where there is none. For crates above too.
+// The unit, or the empty one where there is none, for crates above, whose operands hold one or none.
 pub fn or_empty(m: Option<Unit>) -> Unit
     ensures { result ≡ or_empty m }
 {
@@ -166,5 +164,9 @@ pub fn is_convertible_to(
     let b = or_empty(right);
     units_verdict(page, names, a, b)?;
     let parents = pairs::parents_of(page);
-    Ok(convertible(&parents, pages::count(page), a, b))
+    let groups = Groups {
+        parents: &parents,
+        steps: pages::count(page),
+    };
+    Ok(convertible(groups, a, b))
 }

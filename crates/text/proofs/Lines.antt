@@ -1,5 +1,6 @@
 -- Both sides of the line: that they fit a text, and one law for each return of `write_line`. Assumes nothing.
 use mathlib.Core.Path.{◌≡◌, refl, ◌∙◌}
+use mathlib.Core.Logic.{∥∥₁_elim}
 use mathlib.Core.Bool.{Bool, true, false, cond, not}
 use mathlib.Core.List.{List, [], ◌∷◌, ◌++◌}
 use Prim.Native.Nat.{ℕ, suc, ◌+◌, ◌*◌, ◌≤◌}
@@ -7,6 +8,7 @@ use native.Mathlib.Omega.{arith}
 use native.Mathlib.Nat.{zero-add}
 use lib.ListN.{length, length-append}
 use lib.Signed.{non_neg}
+use Rattle.std.proofs.Props.{props}
 use Rattle.pages.specs.Bytes.{put}
 use Rattle.units.specs.Unit.{places_max, Term}
 use Rattle.units.specs.Calls.{terms_of}
@@ -17,6 +19,14 @@ use Rattle.names.specs.Table.{formed}
 use Rattle.text.specs.Text.{side, or_one, line_of}
 use Rattle.text.specs.Calls.{power_max, text_max, count_on, Writable}
 use Rattle.text.proofs.Sides.{Sound, side_short}
+
+-- what a line keeps of its unit, taken out
+pub writable_by : {page : List ℕ} {v : Unit} → ∥ Writable page v ∥₁ → Writable page v
+writable_by t = record {
+  few = ∥∥₁_elim t (hlevel props) (λ w. w.few);
+  used = ∥∥₁_elim t (hlevel props) (λ w. w.used);
+  inside = ∥∥₁_elim t (hlevel props) (λ w. w.inside);
+}
 
 -- every term stands on one side
 count_both : (xs : List Term) → count_on true xs + count_on false xs ≡ length xs

@@ -11,7 +11,7 @@ ghost use Rattle.text.specs.Text.{power, stands, separator, side, line_of};
 ghost use Rattle.text.specs.Calls.{exponent_digits, power_max, text_max, count_on, Writable, text_answer};
 
 use digits::push;
-use names::{Names, symbol_index};
+use names::Names;
 use pages::Padded;
 use refusals::Refusal;
 use units::{PLACES, Unit};
@@ -26,7 +26,8 @@ pub const EXPONENT_DIGITS: usize = 4;
 pub type Text = Padded<TEXT_BYTES>;
 
 // Whether a term with this exponent stands above the line or, with false, below it. The sides differ in this and in what leads them; a
-// closure for the one beside a slice for the other would be two parameters that travel together.
+// closure for the one beside a slice for the other would be two parameters that travel together. An enum of the two sides would be matched
+// where the flag is tested, no more shortly.
 fn is_on(e: i16, above: bool) -> bool
     ensures { result ≡ stands above e }
 {
@@ -69,45 +70,52 @@ fn write_separator(out: &mut [u8], start: usize, at: usize, above: bool) -> usiz
     push(out, at, b"*")
 }
 
-// Writes one side of the line.
-fn write_side(out: &mut [u8], start: usize, names: Names, v: Unit, above: bool) -> usize
-    requires { Writable names.page.now v × (start + power_max * count_on above (terms_of v) ≤ length out.old) }
-    ensures { (result ≡ start + length (side names.entry.page.now above (terms_of v))) × (out.new ≡ put out.old start (side names.entry.page.now above (terms_of v))) }
-{
-    let n = v.count;
-    let mut at = start;
-    for i in 0..n {
-        let e = v.exponents[i];
-        if !is_on(e, above) {
-            continue;
+// A unit whose terms, in the order of their places, can be written with the names of a table.
+#[derive(Clone, Copy)]
+struct Line<'a> {
+    names: Names<'a>,
+    unit: Unit,
+    ghost writable: { ∥ Writable names.page.now unit ∥₁ },
+}
+
+impl<'a> Line<'a> {
+    // Writes one side of the line.
+    fn write_side(self, out: &mut [u8], start: usize, above: bool) -> usize
+        requires { start + power_max * count_on above (terms_of self.unit) ≤ length out.old }
+        ensures { (result ≡ start + length (side self.entry.names.page.now above (terms_of self.entry.unit))) × (out.new ≡ put out.old start (side self.entry.names.page.now above (terms_of self.entry.unit))) }
+    {
+        let mut at = start;
+        for (s, e) in self.unit.terms() {
+            if is_on(e, above) {
+                let a = write_separator(out, start, at, above);
+                let name = self.names.name_of(usize::from(s));
+                at = write_power(out, a, name, size(e));
+            }
         }
-        let a = write_separator(out, start, at, above);
-        at = write_power(out, a, names.name_of(symbol_index(v.symbols[i])), size(e));
+        at
     }
-    at
-}
 
-// Writes both sides at the front of `out`, and answers how many bytes they have.
-fn write_line(out: &mut [u8], names: Names, v: Unit) -> usize
-    requires { Writable names.page.now v × (text_max ≤ length out.old) }
-    ensures { (result ≡ length (line_of names.entry.page.now (terms_of v))) × (out.new ≡ put out.old 0 (line_of names.entry.page.now (terms_of v))) }
-{
-    let a = write_side(out, 0, names, v, true);
-    if a == 0 {
-        let b = push(out, a, b"1");
-        return write_side(out, b, names, v, false);
+    // Writes both sides at the front of `out`, and answers how many bytes they have.
+    fn write(self, out: &mut [u8]) -> usize
+        requires { text_max ≤ length out.old }
+        ensures { (result ≡ length (line_of self.entry.names.page.now (terms_of self.entry.unit))) × (out.new ≡ put out.old 0 (line_of self.entry.names.page.now (terms_of self.entry.unit))) }
+    {
+        let a = self.write_side(out, 0, true);
+        if a == 0 {
+            let b = push(out, a, b"1");
+            return self.write_side(out, b, false);
+        }
+        self.write_side(out, a, false)
     }
-    write_side(out, a, names, v, false)
-}
 
-// The text of terms in order.
-fn written(names: Names, v: Unit) -> Text
-    requires { Writable names.page.now v }
-    ensures { result ≡ padded text_max (line_of names.entry.page.now (terms_of v)) }
-{
-    let mut bytes = [0u8; TEXT_BYTES];
-    let size = write_line(&mut bytes, names, v);
-    Padded { size, bytes }
+    // Its text.
+    fn text(self) -> Text
+        ensures { result ≡ padded text_max (line_of self.entry.names.page.now (terms_of self.entry.unit)) }
+    {
+        let mut bytes = [0u8; TEXT_BYTES];
+        let size = self.write(&mut bytes);
+        Padded { size, bytes }
+    }
 }
 
 // The text of a unit: its symbols in byte order of their names.
@@ -120,8 +128,8 @@ pub fn unit_text(page: &[u8], u: Unit) -> Result<Text, Refusal>
     if !units::is_used(u, names.count()) {
         return Err(Refusal::Unused);
     }
-    if !units::is_formed(u) {
-        return Err(Refusal::BadUnit);
-    }
-    Ok(written(names, order::by_name(names, u)))
+    units::unit_form(u)?;
+    let unit = order::by_name(names, u);
+    let line = Line { names, unit };
+    Ok(line.text())
 }

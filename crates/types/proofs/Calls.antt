@@ -13,7 +13,7 @@ use borrow.Author.Tests.{lt-ltb, le-ltb, ltb-false, le-leb, leb-true, leb-false,
 use Rattle.refusals.specs.Lowest.{Condition, ◌when◌, lowest, unless_refused}
 use Rattle.refusals.specs.declared.Refusal.{Refusal}
 use Rattle.refusals.specs.declared.Refusal.TheVariants.{Undefined, Broken, Unused, Width, Depth, Full}
-use Rattle.refusals.proofs.Lowest.{first_holds, passed_parts, answer_of_ok}
+use Rattle.refusals.proofs.Lowest.{first_holds, passed_parts, answer_of_ok, one_ok, one_err, verdict_err}
 use Rattle.pages.specs.Bytes.{within, count_bytes, count_of}
 use Rattle.pages.proofs.Quant.{and_true}
 use Rattle.names.specs.Calls.{lent_broken, used_of, is_used}
@@ -21,8 +21,8 @@ use Rattle.kinds.specs.Kinds.{fixed_max, children_max, kind_last, is_named, is_s
 use Rattle.types.specs.Store.{depth_max, equal_to, formed}
 use Rattle.types.specs.Types.{types_in, Measured}
 use Rattle.types.specs.Making.{entry_of, Enterable, Ready, is_made, depth_of, roomy, with_entry, enter_verdict, enter_answer, enter_page}
-use Rattle.types.specs.Calls.{store_broken, empty_verdict, empty_page, all_below, parts_used, is_new, make_verdict, make_answer, make_page}
-use Rattle.types.proofs.Types.{most_few}
+use Rattle.types.specs.Calls.{store_broken, form_verdict, opened_answer, empty_verdict, empty_page, all_below, parts_used, is_new, make_verdict, make_answer, make_page}
+use Rattle.types.proofs.Types.{whole, most_few}
 use Rattle.types.proofs.Again.{enter_used}
 use Rattle.types.proofs.Fresh.{zeros_formed}
 use Rattle.types.proofs.Entries.{entry_whole, entry_parts}
@@ -49,20 +49,11 @@ module _ (page : List ℕ) (names : Option (List ℕ)) where
   broken_names l = rw l
 
   module _ (l : lent_broken names ≡ false) where
-    pub broken_store : formed page (used_of names) ≡ false → store_broken page names ≡ true
-    unfolding store_broken
-    broken_store f = rw (l, f)
-
     pub unbroken : formed page (used_of names) ≡ true → store_broken page names ≡ false
     unfolding store_broken
     unbroken f = rw (l, f)
 
   -- where neither breaks its form
-  -- whether it is broken, once the names are not
-  pub broken_or_not : lent_broken names ≡ false → (n : ℕ) → n ≡ used_of names → (r : Bool) → r ≡ formed page n → store_broken page names ≡ not r
-  unfolding store_broken
-  broken_or_not l n is r e = rw (l, ← is, e) refl
-
   pub unbroken_both : store_broken page names ≡ false → (lent_broken names ≡ false) × (formed page (used_of names) ≡ true)
   unfolding store_broken
   unbroken_both e = go (lent_broken names) refl
@@ -70,6 +61,33 @@ module _ (page : List ℕ) (names : Option (List ℕ)) where
       go : (b : Bool) → lent_broken names ≡ b → (b ≡ false) × (formed page (used_of names) ≡ true)
       go true l = let z : ◌≡◌ {A = Bool} true false = rw l at e in absurd (subst T z tt)
       go false l = (refl, not-false (formed page (used_of names)) (rw l at e))
+
+  -- what an answer of `opened` says of names and store, and what a refusal does
+  pub opened_ok : (n : ℕ) → Ok n ≡ opened_answer page names → (store_broken page names ≡ false) × (n ≡ used_of names)
+  unfolding opened_answer
+  opened_ok n e = one_ok Broken (store_broken page names) (used_of names) n e
+
+  pub opened_err : (r : Refusal) → Err r ≡ opened_answer page names → (store_broken page names ≡ true) × (r ≡ Broken)
+  unfolding opened_answer
+  opened_err r e = one_err Broken (store_broken page names) (used_of names) r e
+
+  -- so where it answers, the page has a count
+  pub opened_two : (n : ℕ) → Ok n ≡ opened_answer page names → count_bytes ≤ length page
+  opened_two n e = (whole page (used_of names) (unbroken_both (opened_ok n e).0).1).two
+
+  -- its returns
+  pub opened_unnamed : lent_broken names ≡ true → Err Broken ≡ opened_answer page names
+  unfolding opened_answer
+  opened_unnamed l = rw (broken_names l)
+
+  module _ (l : lent_broken names ≡ false) (n : ℕ) (is : n ≡ used_of names) where
+    pub opened_unformed : (r : Refusal) → Err r ≡ form_verdict page n → Err r ≡ opened_answer page names
+    unfolding opened_answer form_verdict store_broken
+    opened_unformed r e = let k = verdict_err Broken (not (formed page n)) r e in rw (k.1, l, ← is, k.0)
+
+    pub opened_passed : Ok tt ≡ form_verdict page n → Ok n ≡ opened_answer page names
+    unfolding opened_answer form_verdict
+    opened_passed e = let k = passed_parts Broken (not (formed page n)) [] (sym e) in rw (unbroken l (rw (← is) (not-false (formed page n) k.0)), ← is)
 
 -- ---- the parts of a type
 
@@ -128,77 +146,71 @@ module _ (page : List ℕ) (names : Option (List ℕ)) (k : ℕ) (cs : List ℕ)
     unfolding make_verdict
     broken b = refused Broken (rw (le-ltb kind_last k d, b) (first_holds Broken unused refl))
 
-    pub make_unnamed : lent_broken names ≡ true → Makes (Err Broken) page
-    make_unnamed l = broken (broken_names page names l)
+    pub make_refused : (r : Refusal) → Err r ≡ opened_answer page names → Makes (Err r) page
+    make_refused r e = let o = opened_err page names r e in rw o.1 (broken o.0)
 
-    module _ (l : lent_broken names ≡ false) (n : ℕ) (is : n ≡ used_of names) where
-      pub make_unformed : formed page n ≡ false → Makes (Err Broken) page
-      make_unformed f = broken (broken_store page names l (rw (← is) f))
+    module _ (sound : store_broken page names ≡ false) (n : ℕ) (is : n ≡ used_of names) where
+      pub make_unused : parts_used page n k cs m ≡ false → Makes (Err Unused) page
+      unfolding make_verdict
+      make_unused u = refused Unused (rw (le-ltb kind_last k d, sound, ← is, u) (first_holds Unused wide refl))
 
-      module _ (f : formed page n ≡ true) where
-        sound : store_broken page names ≡ false
-        sound = unbroken page names l (rw (← is) f)
-
-        pub make_unused : parts_used page n k cs m ≡ false → Makes (Err Unused) page
+      module _ (u : parts_used page n k cs m ≡ true) where
+        pub make_miscounted : within (fewest k) (most k) (length cs) ≡ false → Makes (Err Width) page
         unfolding make_verdict
-        make_unused u = refused Unused (rw (le-ltb kind_last k d, sound, ← is, u) (first_holds Unused wide refl))
+        make_miscounted w = refused Width (rw (le-ltb kind_last k d, sound, ← is, u, w) (first_holds Width deep refl))
 
-        module _ (u : parts_used page n k cs m ≡ true) where
-          pub make_miscounted : within (fewest k) (most k) (length cs) ≡ false → Makes (Err Width) page
+        module _ (w : within (fewest k) (most k) (length cs) ≡ true) where
+          verdict_is : make_verdict page names k cs m ≡ lowest deep
           unfolding make_verdict
-          make_miscounted w = refused Width (rw (le-ltb kind_last k d, sound, ← is, u, w) (first_holds Width deep refl))
+          verdict_is = rw (le-ltb kind_last k d, sound, ← is, u, w)
 
-          module _ (w : within (fewest k) (most k) (length cs) ≡ true) where
-            verdict_is : make_verdict page names k cs m ≡ lowest deep
-            unfolding make_verdict
-            verdict_is = rw (le-ltb kind_last k d, sound, ← is, u, w)
+          pub make_fixed : is_stored k ≡ false → Makes (Ok k) page
+          unfolding make_answer make_page is_new
+          make_fixed s =
+              let v : make_verdict page names k cs m ≡ (Ok tt) = verdict_is ∙ rw s refl in
+              (rw (v, lt-ltb k fixed_max (unstored_fixed k d s)), rw (v, s))
 
-            pub make_fixed : is_stored k ≡ false → Makes (Ok k) page
-            unfolding make_answer make_page is_new
-            make_fixed s =
-                let v : make_verdict page names k cs m ≡ (Ok tt) = verdict_is ∙ rw s refl in
-                (rw (v, lt-ltb k fixed_max (unstored_fixed k d s)), rw (v, s))
+          module _ (s : is_stored k ≡ true) where
+            -- a kind that is stored is entered
+            new_is : is_new page k cs m ≡ not (is_made page (entry_of k cs m))
+            unfolding is_new
+            new_is = rw s
 
-            module _ (s : is_stored k ≡ true) where
-              -- a kind that is stored is entered
-              new_is : is_new page k cs m ≡ not (is_made page (entry_of k cs m))
-              unfolding is_new
-              new_is = rw s
+            entered : make_verdict page names k cs m ≡ enter_verdict page (entry_of k cs m)
+            unfolding enter_verdict
+            entered = verdict_is ∙ rw new_is
 
-              entered : make_verdict page names k cs m ≡ enter_verdict page (entry_of k cs m)
-              unfolding enter_verdict
-              entered = verdict_is ∙ rw new_is
+            pub make_entered : Makes (enter_answer page (entry_of k cs m)) (enter_page page (entry_of k cs m))
+            unfolding make_answer make_page enter_answer enter_page
+            make_entered =
+                let b : ltb k fixed_max ≡ false = le-ltb k fixed_max (leb-true fixed_max k (and_true (leb fixed_max k) (leb k kind_last) s).0) in (
+                  rw (entered, b),
+                  rw (entered, new_is) (ap (λ (x : List ℕ). unless_refused (enter_verdict page (entry_of k cs m)) x page) (turned (is_made page (entry_of k cs m)))),
+                )
+              where
+                turned : (b : Bool) → cond b page (with_entry page (entry_of k cs m)) ≡ cond (not b) (with_entry page (entry_of k cs m)) page
+                turned true = refl
+                turned false = refl
 
-              pub make_entered : Makes (enter_answer page (entry_of k cs m)) (enter_page page (entry_of k cs m))
-              unfolding make_answer make_page enter_answer enter_page
-              make_entered =
-                  let b : ltb k fixed_max ≡ false = le-ltb k fixed_max (leb-true fixed_max k (and_true (leb fixed_max k) (leb k kind_last) s).0) in (
-                    rw (entered, b),
-                    rw (entered, new_is) (ap (λ (x : List ℕ). unless_refused (enter_verdict page (entry_of k cs m)) x page) (turned (is_made page (entry_of k cs m)))),
-                  )
-                where
-                  turned : (b : Bool) → cond b page (with_entry page (entry_of k cs m)) ≡ cond (not b) (with_entry page (entry_of k cs m)) page
-                  turned true = refl
-                  turned false = refl
+            pub make_few : length cs ≤ children_max
+            make_few = omega (arith, leb-true (length cs) (most k) (and_true (leb (fewest k) (length cs)) (leb (length cs) (most k)) w).1, most_few k)
 
-              pub make_few : length cs ≤ children_max
-              make_few = omega (arith, leb-true (length cs) (most k) (and_true (leb (fewest k) (length cs)) (leb (length cs) (most k)) w).1, most_few k)
+            pub make_enterable : (f : formed page n ≡ true) → Enterable page (entry_of k cs m) (record { names = n; form = f })
+            unfolding parts_used
+            make_enterable f =
+                let p = and_true (all_below (types_in page) cs) (not (is_named k) || is_used n m) u in
+                record { whole = entry_whole k cs m; parts = entry_parts k cs m n (types_in page) s p.0 p.1 w }
 
-              pub make_enterable : Enterable page (entry_of k cs m) (record { names = n; form = f })
-              unfolding parts_used
-              make_enterable =
-                  let p = and_true (all_below (types_in page) cs) (not (is_named k) || is_used n m) u in
-                  record { whole = entry_whole k cs m; parts = entry_parts k cs m n (types_in page) s p.0 p.1 w }
-
-              pub make_ready : (os ds : List ℕ) → Measured page os ds → Ready page os ds (entry_of k cs m)
-              make_ready os ds g = record {
-                measured = record {
-                  held = record { sound = record { names = n; form = f }; size = g.held.size; places = g.held.places };
-                  size = g.size;
-                  known = g.known;
-                };
-                enterable = make_enterable;
-              }
+            pub make_ready : (os ds : List ℕ) → Measured page os ds → Ready page os ds (entry_of k cs m)
+            make_ready os ds g =
+                let f : formed page n ≡ true = rw is (unbroken_both page names sound).1 in record {
+                  measured = record {
+                    held = record { sound = record { names = n; form = f }; size = g.held.size; places = g.held.places };
+                    size = g.size;
+                    known = g.known;
+                  };
+                  enterable = make_enterable f;
+                }
 
   -- a type that was made is there
   pub made_is : (t : ℕ) → make_answer page names k cs m ≡ Ok t → t < types_in (make_page page names k cs m)
@@ -229,8 +241,8 @@ module _ (page : List ℕ) (names : Option (List ℕ)) (k : ℕ) (cs : List ℕ)
           let z = unbroken_both page names b.0 in
           let used = not-false (parts_used page (used_of names) k cs m) u.0 in
           let counted = not-false (within (fewest k) (most k) (length cs)) w.0 in
-          let r = make_entered known z.0 (used_of names) refl z.1 used counted s in
-          let e = make_enterable known z.0 (used_of names) refl z.1 used counted s in
+          let r = make_entered known b.0 (used_of names) refl used counted s in
+          let e = make_enterable known b.0 (used_of names) refl used counted s z.1 in
           rw (← r.1) (enter_used page (entry_of k cs m) (record { names = used_of names; form = z.1 }) e t (r.0 ∙ at))
       go false s =
           let l = unstored_fixed k known s in

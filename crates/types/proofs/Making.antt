@@ -17,6 +17,7 @@ use Rattle.pages.proofs.Quant.{first_le}
 use Rattle.kinds.specs.Kinds.{fixed_max}
 use Rattle.types.specs.Store.{entries_max, depth_max, head_bytes, child_bytes, children_at, children_below, size_at, offset, depth_at, depths, is_entry, equal_to}
 use Rattle.types.specs.Types.{types_in, Measured}
+use Rattle.types.specs.Survey.{Placed}
 use Rattle.types.specs.Making.{Ready, is_made, depth_of, roomy, with_entry, enter_verdict, enter_answer, enter_page}
 use Rattle.types.proofs.Placing.{size_head}
 use Rattle.types.proofs.Form.{parts_children, below_more, depth_known}
@@ -37,6 +38,13 @@ module _ (page os ds entry : List ℕ) (r : Ready page os ds entry) where
 
   pub enter_end : (n : ℕ) → n ≡ count_of page → offset page n ≤ length page
   enter_end n e = rw e (end_inside page r.measured.held.sound)
+
+  pub enter_placed : (n : ℕ) → n ≡ count_of page → Placed page os n
+  enter_placed n e = record {
+    inside = enter_end n e;
+    room = omega (arith, r.measured.held.size, enter_few, e);
+    places = λ i l. r.measured.held.places i (omega (arith, l, e));
+  }
 
   children : (head_bytes + child_bytes * children_at entry 0 ≤ size_at entry 0) × (children_below entry 0 (types_in page) ≡ true)
   children = parts_children entry r.measured.held.sound.names (types_in page) 0 r.enterable.parts

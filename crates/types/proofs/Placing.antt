@@ -7,8 +7,8 @@ use native.Mathlib.Numerals.{add-one}
 use native.Mathlib.Omega.{arith}
 use lib.Dec.{ltb}
 use lib.ListN.{get_or, take, drop}
-use borrow.Author.Tests.{lt-ltb, le-ltb, ltb-true, ltb-false, le-leb, lt-leb, eq-eqb, ne_eqb}
-use Rattle.pages.specs.Bytes.{count_bytes}
+use borrow.Author.Tests.{lt-ltb, le-ltb, ltb-true, ltb-false, eq-eqb, ne_eqb}
+use Rattle.pages.specs.Bytes.{within, count_bytes}
 use Rattle.pages.proofs.Quant.{all_at}
 use Rattle.names.specs.Calls.{is_used}
 use Rattle.kinds.specs.Kinds.{fixed_max, is_named, is_stored, fewest, most}
@@ -66,18 +66,13 @@ module _ (page : List ℕ) (n t o : ℕ) where
       parts_name h = rw (s, m, eq-eqb (children_at page o) 0 h)
 
     module _ (m : is_named (kind_at page o) ≡ false) where
-      pub parts_few : children_at page o < fewest (kind_at page o) → false ≡ parts_at page n t o
+      pub parts_uncounted : within (fewest (kind_at page o)) (most (kind_at page o)) (children_at page o) ≡ false → false ≡ parts_at page n t o
       unfolding parts_at
-      parts_few h = rw (s, m, lt-leb (fewest (kind_at page o)) (children_at page o) h)
+      parts_uncounted h = rw (s, m, h)
 
-      module _ (l : fewest (kind_at page o) ≤ children_at page o) where
-        pub parts_many : most (kind_at page o) < children_at page o → false ≡ parts_at page n t o
-        unfolding parts_at
-        parts_many h = rw (s, m, le-leb (fewest (kind_at page o)) (children_at page o) l, lt-leb (children_at page o) (most (kind_at page o)) h)
-
-        pub parts_rest : children_at page o ≤ most (kind_at page o) → children_below page o t ≡ parts_at page n t o
-        unfolding parts_at
-        parts_rest h = rw (s, m, le-leb (fewest (kind_at page o)) (children_at page o) l, le-leb (children_at page o) (most (kind_at page o)) h)
+      pub parts_counted : within (fewest (kind_at page o)) (most (kind_at page o)) (children_at page o) ≡ true → children_below page o t ≡ parts_at page n t o
+      unfolding parts_at
+      parts_counted h = rw (s, m, h)
 
 -- ---- depth
 

@@ -11,21 +11,21 @@ use lib.Dec.{ltb}
 use lib.ListN.{length, set, replicate}
 use borrow.Author.Tests.{lt-ltb, le-ltb}
 use Rattle.refusals.specs.Lowest.{◌when◌}
+use Rattle.refusals.specs.declared.Refusal.{Refusal}
 use Rattle.refusals.specs.declared.Refusal.TheVariants.{Broken, Unused}
 use Rattle.refusals.proofs.Lowest.{first_holds}
 use Rattle.pages.specs.Bytes.{count_of}
 use Rattle.pages.specs.Pad.{pad}
 use Rattle.pages.proofs.Pad.{pad_more, pad_none}
-use Rattle.names.specs.Calls.{lent_broken, used_of}
 use Rattle.kinds.specs.Kinds.{fixed_max}
-use Rattle.types.specs.Store.{depth_in, depths, formed}
+use Rattle.types.specs.Store.{depth_in, depths}
 use Rattle.types.specs.Types.{types_in, Measured}
-use Rattle.types.specs.Calls.{store_broken, list_to, type_at, read_verdict, read_answer}
+use Rattle.types.specs.Calls.{store_broken, opened_answer, list_to, type_at, read_verdict, read_answer}
 use Rattle.types.specs.declared.Shape.{Shape}
 use Rattle.types.proofs.Form.{depth_same}
 use Rattle.types.proofs.Filled.{list_length}
 use Rattle.types.proofs.Types.{whole}
-use Rattle.types.proofs.Calls.{broken_names, broken_store, unbroken}
+use Rattle.types.proofs.Calls.{opened_err}
 
 -- ---- numbers of types, one after another in n places
 
@@ -54,18 +54,14 @@ module _ (page : List ℕ) (names : Option (List ℕ)) (t : ℕ) where
   unfolding read_answer read_verdict
   broken b = rw (b, first_holds Broken ((Unused when not (ltb t (types_in page))) ∷ []) refl)
 
-  pub read_unnamed : lent_broken names ≡ true → Err Broken ≡ read_answer page names t
-  read_unnamed l = broken (broken_names page names l)
+  pub read_refused : (r : Refusal) → Err r ≡ opened_answer page names → Err r ≡ read_answer page names t
+  read_refused r e = let o = opened_err page names r e in rw o.1 (broken o.0)
 
-  module _ (l : lent_broken names ≡ false) (n : ℕ) (is : n ≡ used_of names) where
-    pub read_unformed : formed page n ≡ false → Err Broken ≡ read_answer page names t
-    read_unformed f = broken (broken_store page names l (rw (← is) f))
+  module _ (sound : store_broken page names ≡ false) where
+    pub read_unused : types_in page ≤ t → Err Unused ≡ read_answer page names t
+    unfolding read_answer read_verdict
+    read_unused h = rw (sound, le-ltb t (types_in page) h)
 
-    module _ (f : formed page n ≡ true) where
-      pub read_unused : types_in page ≤ t → Err Unused ≡ read_answer page names t
-      unfolding read_answer read_verdict
-      read_unused h = rw (unbroken page names l (rw (← is) f), le-ltb t (types_in page) h)
-
-      pub read_given : t < types_in page → (s : Shape) → s ≡ type_at page t → Ok s ≡ read_answer page names t
-      unfolding read_answer read_verdict
-      read_given h s e = rw (unbroken page names l (rw (← is) f), lt-ltb t (types_in page) h, e)
+    pub read_given : t < types_in page → (s : Shape) → s ≡ type_at page t → Ok s ≡ read_answer page names t
+    unfolding read_answer read_verdict
+    read_given h s e = rw (sound, lt-ltb t (types_in page) h, e)

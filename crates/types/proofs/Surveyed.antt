@@ -1,7 +1,8 @@
 -- The form of a store, one entry after another, and what is left in the tables. Assumes nothing.
-use Rattle.std.specs.Prelude.{Option}
+use Rattle.std.specs.Prelude.{Option, IfOk}
+use Rattle.std.proofs.Common.{Ok, Err}
 use mathlib.Core.Path.{◌≡◌, refl, sym, ◌∙◌, ap, subst}
-use mathlib.Core.Bool.{Bool, true, false, ◌&&◌, not}
+use mathlib.Core.Bool.{Bool, true, false, ◌&&◌, not, cond}
 use mathlib.Core.List.{List, ◌++◌}
 use Prim.Native.Nat.{ℕ, suc, ◌+◌, ◌<◌, ◌≤◌}
 use native.Mathlib.Numerals.{add-one}
@@ -10,6 +11,8 @@ use lib.Dec.{T}
 use lib.ListN.{length, get_or, take, drop, set, replicate, length-set}
 use lib.Seq.{take_at}
 use borrow.Author.Tests.{le-leb, lt-leb}
+use Rattle.refusals.specs.Numbers.{Verdict}
+use Rattle.refusals.specs.declared.Refusal.TheVariants.{Broken}
 use Rattle.pages.specs.Quant.{any_to, all_to, first_to}
 use Rattle.pages.specs.Bytes.{zeros, count_bytes, count_of}
 use Rattle.pages.proofs.Quant.{all_none, all_more, all_failed, any_none, any_more, first_none, first_at}
@@ -18,6 +21,7 @@ use Rattle.names.specs.Calls.{lent_broken, used_of}
 use Rattle.kinds.specs.Kinds.{fixed_max}
 use Rattle.types.specs.Store.{entries_max, depth_max, size_at, offset, depth_at, depths, parts_at, good_at, formed, Reached}
 use Rattle.types.specs.Types.{Measured}
+use Rattle.types.specs.Calls.{form_verdict}
 use Rattle.types.specs.Survey.{whole_at, new_at, Placed, Chained, counted, bad_at, good_to, filled, offsets_left, depths_left, opened_offsets, opened_depths}
 use Rattle.types.proofs.Placing.{offset_start, offset_next}
 use Rattle.types.proofs.Form.{good_both, depth_is, whole_parts}
@@ -25,25 +29,35 @@ use Rattle.types.proofs.Filled.{depths_length, places_next, depths_next, filled_
 use Rattle.types.proofs.Prints.{chained_none}
 
 -- what `survey` promises
-abbrev Surveyed : List ℕ → ℕ → List ℕ → List ℕ → Bool → List ℕ → List ℕ → Type 0
-Surveyed page n os₀ ds₀ r os ds = (r ≡ formed page n) × (r ≡ true → Measured page os ds) × (os ≡ offsets_left page n os₀) × (ds ≡ depths_left page n ds₀)
+abbrev Surveyed : List ℕ → ℕ → List ℕ → List ℕ → Verdict → List ℕ → List ℕ → Type 0
+Surveyed page n os₀ ds₀ r os ds =
+    (r ≡ form_verdict page n) × IfOk r (λ _. Measured page os ds) × (os ≡ offsets_left page n os₀) × (ds ≡ depths_left page n ds₀)
 
 -- a no promises nothing that a yes does
 no_more : {A : Type 0} → false ≡ true → A
 no_more h = absurd (subst T (sym h) tt)
 
+-- its verdict
+pub form_broken : (page : List ℕ) (n : ℕ) → formed page n ≡ false → Err Broken ≡ form_verdict page n
+unfolding form_verdict
+form_broken page n f = rw f
+
+pub form_passed : (page : List ℕ) (n : ℕ) → formed page n ≡ true → Ok tt ≡ form_verdict page n
+unfolding form_verdict
+form_passed page n f = rw f
+
 -- ---- a page whose entries are not looked at
 
 module _ (page : List ℕ) (n : ℕ) (os₀ ds₀ : List ℕ) where
-  unlooked : counted page ≡ false → false ≡ formed page n → Surveyed page n os₀ ds₀ false os₀ ds₀
+  unlooked : counted page ≡ false → false ≡ formed page n → Surveyed page n os₀ ds₀ (Err Broken) os₀ ds₀
   unfolding offsets_left depths_left
-  unlooked c f = (f, no_more, rw c, rw c)
+  unlooked c f = (form_broken page n (sym f), tt, rw c, rw c)
 
-  pub survey_short : length page < count_bytes → Surveyed page n os₀ ds₀ false os₀ ds₀
+  pub survey_short : length page < count_bytes → Surveyed page n os₀ ds₀ (Err Broken) os₀ ds₀
   unfolding formed counted
   survey_short h = unlooked (rw (lt-leb count_bytes (length page) h)) (rw (lt-leb count_bytes (length page) h))
 
-  pub survey_many : count_bytes ≤ length page → (k : ℕ) → k ≡ count_of page → entries_max < k → Surveyed page n os₀ ds₀ false os₀ ds₀
+  pub survey_many : count_bytes ≤ length page → (k : ℕ) → k ≡ count_of page → entries_max < k → Surveyed page n os₀ ds₀ (Err Broken) os₀ ds₀
   unfolding formed counted
   survey_many two k is h =
       unlooked (rw (le-leb count_bytes (length page) two, ← is, lt-leb k entries_max h))
@@ -126,12 +140,12 @@ module _ {page : List ℕ} {n k : ℕ} {os₀ ds₀ heads links os ds : List ℕ
     pub going_placed : Placed page (set os j o) j
     going_placed = record { inside = rw (← g.at) g.inside; room = omega (arith, length-set os j o, going_room); places = place_at }
 
-    failed : good_at page n j ≡ false → Surveyed page n os₀ ds₀ false (set os j o) ds
+    failed : good_at page n j ≡ false → Surveyed page n os₀ ds₀ (Err Broken) (set os j o) ds
     failed b =
         let l = left g.look n j (first_at (bad_at page n) k j h g.none_bad (ap not b)) in
-        (formed_rest g.look n false (all_failed (good_at page n) k j h b), no_more, placed_here ∙ l.0, g.known ∙ l.1)
+        (form_broken page n (sym (formed_rest g.look n false (all_failed (good_at page n) k j h b))), tt, placed_here ∙ l.0, g.known ∙ l.1)
 
-    pub going_broken : whole_at page n j ≡ false → Surveyed page n os₀ ds₀ false (set os j o) ds
+    pub going_broken : whole_at page n j ≡ false → Surveyed page n os₀ ds₀ (Err Broken) (set os j o) ds
     going_broken w = failed (rw (good_both page n j, w))
 
     module _ (w : whole_at page n j ≡ true) where
@@ -141,7 +155,7 @@ module _ {page : List ℕ} {n k : ℕ} {os₀ ds₀ heads links os ds : List ℕ
       pub going_in : offset page (suc j) ≤ length page
       going_in = rw (← add-one j, ← offset_next page j, ← g.at) going_parts.0
 
-      pub going_equal : new_at page j ≡ false → Surveyed page n os₀ ds₀ false (set os j o) ds
+      pub going_equal : new_at page j ≡ false → Surveyed page n os₀ ds₀ (Err Broken) (set os j o) ds
       going_equal b = failed (rw (good_both page n j, w, b))
 
       pub going_next : new_at page j ≡ true → (d p : ℕ) → d ≡ depth_at page ds o → p ≡ o + size_at page o
@@ -163,31 +177,43 @@ module _ {page : List ℕ} {n k : ℕ} {os₀ ds₀ heads links os ds : List ℕ
             none_bad = any_more (bad_at page n) j g.none_bad (rw (good_both page n j, w, b));
           }
 
-  pub going_end : k ≤ j → (b : Bool) → b ≡ zeros (drop o page) → Surveyed page n os₀ ds₀ b (set os k o) ds
-  going_end h b z = rw (← all) (f, measured, placed_here ∙ l.0, g.known ∙ l.1)
-    where
-      all : j ≡ k
-      all = omega (arith, g.within_k)
+  module _ (h : k ≤ j) where
+    all : j ≡ k
+    all = omega (arith, g.within_k)
 
-      l : (filled (offset page) (suc j) os₀ ≡ offsets_left page n os₀) × (depths page j ++ drop j ds₀ ≡ depths_left page n ds₀)
-      l = left g.look n j (rw (← all) (first_none (bad_at page n) j g.none_bad))
+    left_all : (filled (offset page) (suc j) os₀ ≡ offsets_left page n os₀) × (depths page j ++ drop j ds₀ ≡ depths_left page n ds₀)
+    left_all = left g.look n j (rw (← all) (first_none (bad_at page n) j g.none_bad))
 
-      f : b ≡ formed page n
-      f = z ∙ ap (λ (x : ℕ). zeros (drop x page)) (g.at ∙ ap (offset page) all) ∙ formed_rest g.look n true (rw all at g.good)
+    form_is : (b : Bool) → b ≡ zeros (drop o page) → b ≡ formed page n
+    form_is b z = z ∙ ap (λ (x : ℕ). zeros (drop x page)) (g.at ∙ ap (offset page) all) ∙ formed_rest g.look n true (rw all at g.good)
 
-      counted_all : j ≡ count_of page
-      counted_all = all ∙ g.look.is
+    going_dirty : false ≡ zeros (drop o page) → Surveyed page n os₀ ds₀ (Err Broken) (set os k o) ds
+    going_dirty z = rw (← all) (form_broken page n (sym (form_is false z)), tt, placed_here ∙ left_all.0, g.known ∙ left_all.1)
 
-      measured : b ≡ true → Measured page (set os j o) ds
-      measured t = record {
-        held = record {
-          sound = record { names = n; form = sym f ∙ t };
-          size = length-set os j o ∙ g.room;
-          places = λ i m. place_at i (omega (arith, counted_all));
-        };
-        size = g.size;
-        known = rw (← counted_all) depths_known;
-      }
+    going_clean : true ≡ zeros (drop o page) → Surveyed page n os₀ ds₀ (Ok tt) (set os k o) ds
+    going_clean z = rw (← all) (form_passed page n f, measured, placed_here ∙ left_all.0, g.known ∙ left_all.1)
+      where
+        f : formed page n ≡ true
+        f = sym (form_is true z)
+
+        counted_all : j ≡ count_of page
+        counted_all = all ∙ g.look.is
+
+        measured : Measured page (set os j o) ds
+        measured = record {
+          held = record {
+            sound = record { names = n; form = f };
+            size = length-set os j o ∙ g.room;
+            places = λ i m. place_at i (omega (arith, counted_all));
+          };
+          size = g.size;
+          known = rw (← counted_all) depths_known;
+        }
+
+    -- with all entries looked at, zeros behind the last decide
+    pub going_end : (b : Bool) → b ≡ zeros (drop o page) → Surveyed page n os₀ ds₀ (cond b (Ok tt) (Err Broken)) (set os k o) ds
+    going_end true z = going_clean z
+    going_end false z = going_dirty z
 
 -- ---- names and store
 

@@ -1,9 +1,11 @@
 -- The types of a store in form, by number: one law for each read. Assumes nothing.
 use mathlib.Core.Path.{◌≡◌, refl}
 use mathlib.Core.Logic.{◌⊎◌, inl, inr, ∥∥₁_elim}
+use Rattle.std.proofs.Math.Logic.{∥∥₁_map}
 use mathlib.Core.Bool.{Bool, true, false, ◌&&◌, cond, Bool-set}
 use mathlib.Core.List.{List}
 use Rattle.std.proofs.Math.Nat.{ℕ_set}
+use Rattle.std.proofs.Props.{props}
 use Prim.Native.Nat.{ℕ, zero, suc, ◌+◌, ◌-◌, ◌*◌, ◌<◌, ◌≤◌}
 use native.Mathlib.Omega.{arith}
 use lib.Dec.{ltb, leb, eqb}
@@ -17,7 +19,7 @@ use Rattle.names.specs.Table.{names_max}
 use Rattle.names.specs.Calls.{is_used}
 use Rattle.kinds.specs.Kinds.{fixed_max, children_max, is_named, is_stored, fewest, most}
 use Rattle.types.specs.Store.{types_max, entries_max, depth_max, head_bytes, child_bytes, name_bytes, children_at, kind_at, name_at, size_at, entry_at, offset, depth_at, depths, children_below, parts_at, equal_to, good_at, formed, Formed}
-use Rattle.types.specs.Types.{types_in, place_of, kind_of, arity, child_of, Held}
+use Rattle.types.specs.Types.{types_in, place_of, kind_of, arity, child_of, Held, Measured}
 use Rattle.types.proofs.Placing.{size_named, size_head, child_below}
 use Rattle.types.proofs.Form.{parts_children}
 
@@ -240,3 +242,15 @@ held_by {page} {offsets} t = record {
   size = ∥∥₁_elim t (ℕ_set _ _) (λ h. h.size);
   places = λ k l. ∥∥₁_elim t (ℕ_set _ _) (λ h. h.places k l);
 }
+
+-- and a store with its tables, which a maker keeps
+pub measured_by : {page offsets ds : List ℕ} → ∥ Measured page offsets ds ∥₁ → Measured page offsets ds
+measured_by {page} {offsets} {ds} t = record {
+  held = held_by (∥∥₁_map t (λ h. h.held));
+  size = ∥∥₁_elim t (ℕ_set _ _) (λ h. h.size);
+  known = ∥∥₁_elim t (hlevel props) (λ h. h.known);
+}
+
+-- so its page is a store in form
+pub formed_by : {page offsets ds : List ℕ} → ∥ Measured page offsets ds ∥₁ → Formed page
+formed_by t = (measured_by t).held.sound

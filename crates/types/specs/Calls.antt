@@ -17,6 +17,14 @@ use Rattle.types.specs.declared.Shape.{Shape}
 unfoldable pub store_broken : List ℕ → Option (List ℕ) → Bool
 store_broken page names = lent_broken names || not (formed page (used_of names))
 
+-- refused (2) is a page that is no store in form, with n name numbers in use
+unfoldable pub form_verdict : List ℕ → ℕ → Verdict
+form_verdict page n = lowest ((Broken when not (formed page n)) ∷ [])
+
+-- how many name numbers are in use, or 2 where names or store break their form
+unfoldable pub opened_answer : List ℕ → Option (List ℕ) → Result ℕ Refusal
+opened_answer page names = answer_of (lowest ((Broken when store_broken page names) ∷ [])) (used_of names)
+
 -- ---- making a store
 
 -- refused (2) is a page too short for the count; what else it holds does not matter yet

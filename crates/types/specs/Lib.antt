@@ -5,3 +5,4 @@ pub mod Making
 pub mod Calls
 pub mod Trees
 pub mod Survey
+pub mod Same

@@ -1,22 +1,24 @@
 // The store of types in a lent page (document 01, "Types").
 #![tactic(auto)]
 
-ghost use Rattle.std.specs.Prelude.{◌≡◌, true, cond, not, List, [], ◌∷◌, ℕ, suc, ◌+◌, ◌-◌, ◌*◌, ◌≤◌, ◌<◌, length, get_or, set, replicate, option_copied, MatchOption, Some, None};
+ghost use Rattle.std.specs.Prelude.{◌≡◌, true, cond, not, List, [], ◌∷◌, ℕ, suc, ◌+◌, ◌-◌, ◌*◌, ◌≤◌, ◌<◌, length, get_or, set, replicate, option_copied, MatchOption, IfOk, Some, None};
 ghost use Rattle.pages.specs.Quant.{any_to, all_to};
 ghost use Rattle.pages.specs.Bytes.{within, count_bytes};
 ghost use Rattle.pages.specs.Pad.{pad, padded};
 ghost use Rattle.chains.specs.Last.{last_below, Links};
-ghost use Rattle.chains.specs.Prints.{print_of};
+ghost use Rattle.chains.specs.Prints.{prints_max, print_of};
+ghost use Rattle.names.specs.Table.{names_max};
 ghost use Rattle.kinds.specs.Kinds.{fixed_max, children_max, is_named, fewest, most};
 ghost use Rattle.types.specs.Store.{entries_max, head_bytes, child_bytes, children_at, size_at, offset, depth_in, larger, depth_at, is_below, children_below, parts_at, is_entry, equal_to, formed, Reached};
 ghost use Rattle.types.specs.Types.{types_in, place_of, kind_of, arity, child_of, name_of, Held, Measured};
 ghost use Rattle.types.specs.Making.{entry_of, entry_max, Ready, enter_answer, enter_page, taken_back};
-ghost use Rattle.types.specs.Calls.{store_broken, empty_verdict, empty_page, all_below, parts_used, make_answer, make_page, list_to, type_at, read_answer, const_entry, const_answer, const_page};
+ghost use Rattle.types.specs.Calls.{form_verdict, opened_answer, empty_verdict, empty_page, all_below, parts_used, make_answer, make_page, list_to, type_at, read_answer, const_entry, const_answer, const_page};
 ghost use Rattle.types.specs.Survey.{whole_at, new_at, print_at, Placed, Chained, offsets_left, depths_left, opened_offsets, opened_depths};
 
+use chains::Chains;
 use kinds::{CHILDREN, FIXED, Kind};
-use names::{Symbol, symbol_index};
-use pages::{COUNT_BYTES, Padded, WORD_BYTES, Word, index};
+use names::Symbol;
+use pages::{COUNT_BYTES, Padded, WORD_BYTES, Word};
 use refusals::Refusal;
 
 // How many types there can be.
@@ -37,9 +39,7 @@ type Depths = [u8; ENTRIES];
 // Where each of the entries begins, and the last one ends.
 type Offsets = [usize; ENTRIES + 1];
 
-// What the test of a store writes down of its entries: where each begins, and how deep it is, in arrays, since there is no heap. A page
-// that is written goes beside them, not with them in a struct: through two `&mut` in one, contracts say `store.old.page.old` and no
-// plainer.
+// What the test of a store writes down of its entries: where each begins, and how deep it is, in arrays, since there is no heap.
 #[derive(Drop)]
 pub struct Tables {
     pub offsets: Offsets,
@@ -53,6 +53,14 @@ pub struct Store<'a> {
     pub page: &'a [u8],
     pub offsets: &'a [usize],
     pub ghost held: { ∥ Held page.now offsets.now ∥₁ },
+}
+
+// A store that is lent to be written, with the tables of its test: what is made enters both.
+#[derive(Drop)]
+pub struct Maker<'a> {
+    pub page: &'a mut [u8],
+    pub tables: &'a mut Tables,
+    pub ghost measured: { ∥ Measured page.now tables.now.offsets tables.now.depths ∥₁ },
 }
 
 // How many bytes of an entry stand before its children or its name.
@@ -84,7 +92,8 @@ pub struct Shape {
     pub name: Option<Symbol>,
 }
 
-// How many bytes the entry at o takes.
+// How many bytes the entry at o takes. What reads an entry takes the page and where the entry begins, not a slice from there, as the
+// definitions count from the page's front.
 #[tactic(auto, using(crate::proofs::Placing::size_named, crate::proofs::Placing::size_children, crate::proofs::Width::name_width))]
 fn entry_size(page: &[u8], o: usize) -> usize
     requires { o + head_bytes ≤ length page.now }
@@ -93,7 +102,7 @@ fn entry_size(page: &[u8], o: usize) -> usize
     if kinds::is_named(page[o + 1]) {
         return HEAD_BYTES + NAME_BYTES;
     }
-    HEAD_BYTES + CHILD_BYTES * index(page[o])
+    HEAD_BYTES + CHILD_BYTES * usize::from(page[o])
 }
 
 // Whether the first k children of the entry at o are numbered below t.
@@ -101,12 +110,7 @@ fn are_below(page: &[u8], o: usize, k: usize, t: usize) -> bool
     requires { (o + head_bytes + child_bytes * k ≤ length page.now) × (k < 256) }
     ensures { result ≡ all_to k (is_below page.now o t) }
 {
-    for i in 0..k {
-        if t <= pages::word_at(page, o + HEAD_BYTES + CHILD_BYTES * i) {
-            return false;
-        }
-    }
-    true
+    (0..k).all(|i| pages::word_at(page, o + HEAD_BYTES + CHILD_BYTES * i) < t)
 }
 
 // Whether the entry at o has a kind that is stored, with a name in use, of n, or with as many children as the kind takes, all below t.
@@ -115,39 +119,22 @@ fn has_parts(page: &[u8], n: usize, t: usize, o: usize) -> bool
     ensures { result ≡ parts_at page.now n t o }
 {
     let kind = page[o + 1];
-    let children = index(page[o]);
+    let children = usize::from(page[o]);
     if !kinds::is_stored(kind) {
         return false;
     }
     if kinds::is_named(kind) {
-        if children != 0 {
-            return false;
-        }
-        return names::is_used(n, index(page[o + HEAD_BYTES]));
+        return children == 0 && names::is_used(n, usize::from(page[o + HEAD_BYTES]));
     }
-    if children < kinds::fewest(kind) {
-        return false;
-    }
-    if kinds::most(kind) < children {
-        return false;
-    }
-    are_below(page, o, children, t)
+    is_counted(kind, children) && are_below(page, o, children, t)
 }
 
 // The first of the first j entries that has these bytes.
-fn find_entry(page: &[u8], j: usize, entry: &[u8]) -> Option<usize>
-    requires { offset page.now j ≤ length page.now }
+fn find_entry(page: &[u8], offsets: &[usize], j: usize, entry: &[u8]) -> Option<usize>
+    requires { Placed page.now offsets.now j }
     ensures { MatchOption result (equal_to page.now j entry.now ≡ j) (λ k. (k < j) × (k ≡ equal_to page.now j entry.now)) }
 {
-    let mut at = COUNT_BYTES;
-    for i in 0..j {
-        let next = at + entry_size(page, at);
-        if pages::same(&page[at..next], entry) {
-            return Some(i);
-        }
-        at = next;
-    }
-    None
+    (0..j).position(|k| pages::same(&page[offsets[k]..offsets[k + 1]], entry))
 }
 
 // The depth of a type, where depths has those of the entries.
@@ -159,7 +146,7 @@ fn depth_in(depths: &[u8], t: usize) -> usize
     if t < FIXED {
         return 1;
     }
-    index(depths[t - FIXED])
+    usize::from(depths[t - FIXED])
 }
 
 // The depth of the entry at o.
@@ -169,14 +156,15 @@ fn entry_depth(page: &[u8], depths: &[u8], o: usize) -> usize
     ensures { (result ≡ depth_at page.now depths.now o) × (result ≤ 256) }
 {
     let mut deepest = 0;
-    for i in 0..index(page[o]) {
+    for i in 0..usize::from(page[o]) {
         let child = pages::word_at(page, o + HEAD_BYTES + CHILD_BYTES * i);
         deepest = depth_in(depths, child).max(deepest);
     }
     deepest + 1
 }
 
-// Whether entry j, which begins at o, lies in the page, has its parts, and is not too deep.
+// Whether entry j, which begins at o, lies in the page, has its parts, and is not too deep. The depth is asked for again where it is
+// written down: a test that answered it would have the law of depths in its contract as well.
 fn is_whole(page: &[u8], n: usize, j: usize, o: usize, depths: &[u8]) -> bool
     requires { Reached page.now depths.now j o }
     ensures { result ≡ whole_at page.now n j }
@@ -194,36 +182,35 @@ fn is_whole(page: &[u8], n: usize, j: usize, o: usize, depths: &[u8]) -> bool
     entry_depth(page, depths, o) <= DEPTH
 }
 
-// Whether one of the first j entries has these bytes, where `head` is one more than the last of them with their print, or 0.
+// Whether one of the first j entries has these bytes, which have this print.
 fn is_among(
     page: &[u8],
     offsets: &[usize],
-    links: &[u16],
+    chains: &Chains<ENTRIES>,
     j: usize,
-    head: usize,
+    print: usize,
     entry: &[u8],
 ) -> bool
-    requires { Placed page.now offsets.now j × (j ≤ length links.now) × Links (print_at page.now) links.now j × (head ≡ last_below (print_at page.now) j (print_of entry.now)) }
+    requires { Placed page.now offsets.now j × (j ≤ length chains.now.links) × Links (print_at page.now) chains.now.links j × (print < prints_max) × (get_or chains.now.heads print 0 ≡ last_below (print_at page.now) j (print_of entry.now)) }
     ensures { result ≡ any_to j (is_entry page.now entry.now) }
 {
-    chains::any_linked(
-        &links[..j],
-        head,
+    chains.any_linked(
+        j,
+        print,
         |k| pages::same(&page[offsets[k]..offsets[k + 1]], entry),
     )
 }
 
 // Whether entry j, which lies in the page, is equal to none before it. It is put into the chain of its print.
-fn is_new(page: &[u8], offsets: &[usize], heads: &mut [u16], links: &mut [u16], j: usize) -> bool
-    requires { (j < entries_max) × (offset page.now (suc j) ≤ length page.now) × Placed page.now offsets.now j × Chained page.now heads.old links.old j }
-    ensures { (result ≡ new_at page.now j) × Chained page.now heads.new links.new (suc j) }
+fn is_new(page: &[u8], offsets: &[usize], chains: &mut Chains<ENTRIES>, j: usize) -> bool
+    requires { (j < entries_max) × (offset page.now (suc j) ≤ length page.now) × Placed page.now offsets.now j × Chained page.now chains.old.heads chains.old.links j }
+    ensures { (result ≡ new_at page.now j) × Chained page.now chains.new.heads chains.new.links (suc j) }
 {
     let start = offsets[j];
     let end = start + entry_size(page, start);
     let print = chains::print_of(&page[start..end]);
-    let head = pages::word_index(heads[print]);
-    let found = is_among(page, offsets, links, j, head, &page[start..end]);
-    chains::link(heads, links, print, j);
+    let found = is_among(page, offsets, chains, j, print, &page[start..end]);
+    chains.link(print, j);
     !found
 }
 
@@ -252,35 +239,48 @@ impl Tables {
 
 // Whether the page is a store in form, with n name numbers in use. The offsets and depths of its entries are written down, up to the
 // first that breaks it. Each entry is compared with those before it that have its print.
-pub fn survey(page: &[u8], n: usize, tables: &mut Tables) -> bool
-    ensures { (result ≡ formed page.now n) × (result ≡ true → Measured page.now tables.new.offsets tables.new.depths) × (tables.new.offsets ≡ offsets_left page.now n tables.old.offsets) × (tables.new.depths ≡ depths_left page.now n tables.old.depths) }
+pub fn survey(page: &[u8], n: usize, tables: &mut Tables) -> Result<(), Refusal>
+    ensures { (result ≡ form_verdict page.now n) × IfOk result (λ _. Measured page.now tables.new.offsets tables.new.depths) × (tables.new.offsets ≡ offsets_left page.now n tables.old.offsets) × (tables.new.depths ≡ depths_left page.now n tables.old.depths) }
 {
     if page.len() < COUNT_BYTES {
-        return false;
+        return Err(Refusal::Broken);
     }
     let k = pages::count(page);
     if ENTRIES < k {
-        return false;
+        return Err(Refusal::Broken);
     }
-    let mut heads = chains::no_heads();
-    let mut links = [0; ENTRIES];
+    let mut chains: Chains<ENTRIES> = Chains::new();
     let mut o = COUNT_BYTES;
     for j in 0..k {
         tables.offsets[j] = o;
         if !is_whole(page, n, j, o, &tables.depths) {
-            return false;
+            return Err(Refusal::Broken);
         }
-        if !is_new(page, &tables.offsets, &mut heads, &mut links, j) {
-            return false;
+        if !is_new(page, &tables.offsets, &mut chains, j) {
+            return Err(Refusal::Broken);
         }
         tables.depths[j] = entry_depth(page, &tables.depths, o) as u8;
         o += entry_size(page, o);
     }
     tables.offsets[k] = o;
-    pages::zeros_from(page, o)
+    if !pages::zeros_from(page, o) {
+        return Err(Refusal::Broken);
+    }
+    Ok(())
 }
 
-// How many types there are in a page, and so the next one's number.
+// How many name numbers are in use, where names, if they are lent, and store are in form; the tables are filled as `survey` does. Page
+// and names are two things that an entry call is lent, of which a struct would be made for this call alone.
+pub fn opened(page: &[u8], names: Option<&[u8]>, tables: &mut Tables) -> Result<usize, Refusal>
+    ensures { (result ≡ opened_answer page.now (option_copied names.entry)) × IfOk result (λ n. (n ≤ names_max) × Measured page.now tables.new.offsets tables.new.depths) × (tables.new.offsets ≡ opened_offsets page.now (option_copied names.entry) tables.old.offsets) × (tables.new.depths ≡ opened_depths page.now (option_copied names.entry) tables.old.depths) }
+{
+    let n = names::used_in(names)?;
+    survey(page, n, tables)?;
+    Ok(n)
+}
+
+// How many types there are in a page, and so the next one's number. Of a page, since what makes and reads types asks before it has a
+// `Store`.
 pub fn count(page: &[u8]) -> usize
     requires { count_bytes ≤ length page.now }
     ensures { result ≡ types_in page.now }
@@ -338,10 +338,11 @@ impl Store<'_> {
         if t < FIXED {
             return 0;
         }
-        index(self.page[self.place_of(t)])
+        usize::from(self.page[self.place_of(t)])
     }
 
-    // Child i of a type, numbered below it.
+    // Child i of a type, numbered below it. Children are asked for by number, as the definitions are: what goes over all of them is a `for`
+    // over numbers.
     pub fn child_of(self, t: usize, i: usize) -> usize
         requires { (t < types_in self.page.now) × (i < arity self.page.now t) }
         ensures { (result ≡ child_of self.entry.page.now t i) × (result < t) }
@@ -354,7 +355,7 @@ impl Store<'_> {
         requires { (t < types_in self.page.now) × (is_named (kind_of self.page.now t) ≡ true) }
         ensures { result ≡ name_of self.entry.page.now t }
     {
-        index(self.page[self.place_of(t) + HEAD_BYTES]) as Symbol
+        Symbol::from(self.page[self.place_of(t) + HEAD_BYTES])
     }
 
     // The children of a type, with zeros after them. A loop, since `pages::read_words` would need a test for a type without an entry.
@@ -394,12 +395,13 @@ impl Store<'_> {
 }
 
 // Enters an entry in a store that an entry call found in form: the number of its equal, else the next. The tables grow with it.
-pub fn enter(page: &mut [u8], tables: &mut Tables, entry: &[u8]) -> Result<usize, Refusal>
+// Apart from `Maker::enter`: a `Maker` says after each write that its page is in form, and between the entry and the count it is not.
+fn enter(page: &mut [u8], tables: &mut Tables, entry: &[u8]) -> Result<usize, Refusal>
     requires { Ready page.old tables.old.offsets tables.old.depths entry.now }
     ensures { (result ≡ enter_answer page.old entry.now) × (page.new ≡ enter_page page.old entry.now) × (Measured page.new tables.new.offsets tables.new.depths) }
 {
     let n = pages::count(page);
-    if let Some(k) = find_entry(page, n, entry) {
+    if let Some(k) = find_entry(page, &tables.offsets, n, entry) {
         return Ok(FIXED + k);
     }
     let depth = entry_depth(entry, &tables.depths, 0);
@@ -421,7 +423,8 @@ pub fn enter(page: &mut [u8], tables: &mut Tables, entry: &[u8]) -> Result<usize
     Ok(FIXED + n)
 }
 
-// Makes the page a store of the fixed types alone.
+// Makes the page a store of the fixed types alone. An empty page of names and an empty store are two tables of document 01, each with
+// its own definition, though both are a count of none.
 pub fn empty_types(page: &mut [u8]) -> Result<(), Refusal>
     ensures { (result ≡ empty_verdict page.old) × (page.new ≡ empty_page page.old) }
 {
@@ -433,6 +436,7 @@ pub fn empty_types(page: &mut [u8]) -> Result<(), Refusal>
 }
 
 // The entry of a type: of a kind with a name that name, of another kind its children. The number of a name in use fits its byte.
+// The kind says whether the name is looked at, as in `make_type`: an Option could say none for a kind that has one.
 #[tactic(auto, using(crate::proofs::Entries::named_made, crate::proofs::Entries::other_size, crate::proofs::Entries::other_made))]
 pub fn entry_of(kind: Kind, children: &[u16], name: Symbol) -> Entry
     requires { length children.now ≤ children_max }
@@ -452,27 +456,60 @@ pub fn entry_of(kind: Kind, children: &[u16], name: Symbol) -> Entry
     }
 }
 
-// Enters a type of this kind in such a store.
-pub fn enter_type(
-    page: &mut [u8],
-    tables: &mut Tables,
-    kind: Kind,
-    children: &[u16],
-    name: Symbol,
-) -> Result<usize, Refusal>
-    requires children_len_bound { length children.now ≤ children_max }
-    requires ready { Ready page.old tables.old.offsets tables.old.depths (entry_of kind children.now name) }
-    ensures { (result ≡ enter_answer page.old (entry_of kind children.now name)) × (page.new ≡ enter_page page.old (entry_of kind children.now name)) × (Measured page.new tables.new.offsets tables.new.depths) }
-{
-    let entry = entry_of(kind, children, name);
-    enter(page, tables, &entry.bytes[..entry.size])
+impl Maker<'_> {
+    ghost use Rattle.types.specs.Same.{Same};
+
+    // The store as it is.
+    pub fn store(&self) -> Store<'_>
+        ensures { (result.page.now ≡ self.now.page.now) × (result.offsets.now ≡ self.now.tables.now.offsets) }
+    {
+        self.tables.store(self.page)
+    }
+
+    // Enters an entry: the number of its equal, else the next.
+    pub fn enter(&mut self, entry: &[u8]) -> Result<usize, Refusal>
+        requires { Ready self.old.page.now self.old.tables.now.offsets self.old.tables.now.depths entry.now }
+        ensures value { (result ≡ enter_answer self.old.page.now entry.now) × (self.new.page.now ≡ enter_page self.old.page.now entry.now) }
+        ensures same { Same self.new self.old }
+    {
+        enter(self.page, self.tables, entry)
+    }
+
+    // Enters a type of this kind.
+    pub fn enter_type(
+        &mut self,
+        kind: Kind,
+        children: &[u16],
+        name: Symbol,
+    ) -> Result<usize, Refusal>
+        requires children_len_bound { length children.now ≤ children_max }
+        requires ready { Ready self.old.page.now self.old.tables.now.offsets self.old.tables.now.depths (entry_of kind children.now name) }
+        ensures value { (result ≡ enter_answer self.old.page.now (entry_of kind children.now name)) × (self.new.page.now ≡ enter_page self.old.page.now (entry_of kind children.now name)) }
+        ensures same { Same self.new self.old }
+    {
+        let entry = entry_of(kind, children, name);
+        self.enter(entry.as_slice())
+    }
+
+    // A type's const form: the number of its equal, else the next.
+    pub fn const_form(&mut self, t: usize) -> Result<usize, Refusal>
+        requires { t < types_in self.old.page.now }
+        ensures value { (result ≡ const_answer self.old.page.now t) × (self.new.page.now ≡ const_page self.old.page.now t) }
+        ensures same { Same self.new self.old }
+    {
+        if t < FIXED {
+            return Ok(usize::from(kinds::const_variant(t as u8)));
+        }
+        let entry = self.store().const_entry(t);
+        self.enter(entry.as_slice())
+    }
 }
 
 // Whether all of these numbers are below t.
 fn all_below(children: &[u16], t: usize) -> bool
     ensures { result ≡ all_below t children.now }
 {
-    children.iter().all(|child| pages::word_index(*child) < t)
+    children.iter().all(|child| usize::from(*child) < t)
 }
 
 // Whether the children of a type are in use and, if its kind has one, its name, of n.
@@ -485,7 +522,7 @@ fn parts_used(page: &[u8], n: usize, kind: Kind, children: &[u16], name: Symbol)
         return false;
     }
     if kinds::is_named(kind) {
-        return names::is_used(n, symbol_index(name));
+        return names::is_used(n, usize::from(name));
     }
     true
 }
@@ -510,14 +547,8 @@ pub fn make_type(
     if kinds::GENERIC < kind {
         return Err(Refusal::Undefined);
     }
-    if names::is_broken(names) {
-        return Err(Refusal::Broken);
-    }
-    let n = names::in_use(names);
     let mut tables = Tables::new();
-    if !survey(page, n, &mut tables) {
-        return Err(Refusal::Broken);
-    }
+    let n = opened(page, names, &mut tables)?;
     if !parts_used(page, n, kind, children, name) {
         return Err(Refusal::Unused);
     }
@@ -525,9 +556,13 @@ pub fn make_type(
         return Err(Refusal::Width);
     }
     if !kinds::is_stored(kind) {
-        return Ok(index(kind));
+        return Ok(usize::from(kind));
     }
-    enter_type(page, &mut tables, kind, children, name)
+    let mut maker = Maker {
+        page,
+        tables: &mut tables,
+    };
+    maker.enter_type(kind, children, name)
 }
 
 // A type by value.
@@ -550,35 +585,16 @@ fn shape_of(page: &[u8], tables: &Tables, t: usize) -> Shape
 pub fn read_type(page: &[u8], names: Option<&[u8]>, t: usize) -> Result<Shape, Refusal>
     ensures { result ≡ read_answer page.now (option_copied names.entry) t }
 {
-    if names::is_broken(names) {
-        return Err(Refusal::Broken);
-    }
-    let n = names::in_use(names);
     let mut tables = Tables::new();
-    if !survey(page, n, &mut tables) {
-        return Err(Refusal::Broken);
-    }
+    let n = opened(page, names, &mut tables)?;
     if count(page) <= t {
         return Err(Refusal::Unused);
     }
     Ok(shape_of(page, &tables, t))
 }
 
-// A type's const form, in a store that an entry call found in form (`checked::into_const` tests it): the number of its equal, else the
-// next. The tables grow with it.
-pub fn const_form(page: &mut [u8], tables: &mut Tables, t: usize) -> Result<usize, Refusal>
-    requires measured { Measured page.old tables.old.offsets tables.old.depths }
-    requires t_bound { t < types_in page.old }
-    ensures { (result ≡ const_answer page.old t) × (page.new ≡ const_page page.old t) × (Measured page.new tables.new.offsets tables.new.depths) }
-{
-    if t < FIXED {
-        return Ok(index(kinds::const_variant(t as u8)));
-    }
-    let entry = tables.store(page).const_entry(t);
-    enter(page, tables, &entry.bytes[..entry.size])
-}
-
-// Takes back the entries from index `end` on, the count's bytes having been these.
+// Takes back the entries from index `end` on, the count's bytes having been these. A caller reads both off the store before it grows, as
+// a page that has grown tells its new count and its new end alone: two numbers for one call, and no struct.
 #[tactic(auto, using(crate::proofs::Back::end_cleared), unfolding(crate::specs::Making::taken_back))]
 pub fn take_back(page: &mut [u8], count: Word, end: usize)
     requires { (count_bytes ≤ end) × (end ≤ length page.old) }
@@ -586,15 +602,4 @@ pub fn take_back(page: &mut [u8], count: Word, end: usize)
 {
     pages::clear(&mut page[end..]);
     pages::put_bytes(page, 0, &count);
-}
-
-// Whether names, where they are lent, and store are in form; the tables are filled as `survey` does.
-pub fn opened(page: &[u8], names: Option<&[u8]>, tables: &mut Tables) -> bool
-    ensures { (store_broken page.now (option_copied names.entry) ≡ not result) × (result ≡ true → Measured page.now tables.new.offsets tables.new.depths) × (tables.new.offsets ≡ opened_offsets page.now (option_copied names.entry) tables.old.offsets) × (tables.new.depths ≡ opened_depths page.now (option_copied names.entry) tables.old.depths) }
-{
-    if names::is_broken(names) {
-        return false;
-    }
-    let n = names::in_use(names);
-    survey(page, n, tables)
 }

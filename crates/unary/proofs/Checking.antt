@@ -11,17 +11,18 @@ use native.Mathlib.Numerals.{add-one}
 use native.Mathlib.Nat.{le_of_suc-le-suc, eq-or-lt_of_le}
 use native.Mathlib.Omega.{arith}
 use lib.Dec.{eqb}
-use lib.ListN.{length, take, set, length-set, replicate, length-replicate}
+use lib.Seq.{length-take-le}
+use lib.ListN.{length, get_or, take, set, length-set, replicate, length-replicate}
 use borrow.Author.Tests.{eq-eqb, ne_eqb}
 use Rattle.refusals.specs.declared.Refusal.{Refusal}
 use Rattle.kinds.specs.Kinds.{is_union}
 use Rattle.types.specs.Store.{types_max, Formed}
-use Rattle.types.specs.Types.{types_in, kind_of, Measured}
+use Rattle.types.specs.Types.{types_in, kind_of}
 use Rattle.types.specs.Making.{Grows}
 use Rattle.types.specs.Calls.{all_below}
 use Rattle.types.proofs.Filled.{found_none, found_more}
 use Rattle.types.proofs.Types.{types_few}
-use Rattle.types.proofs.Grown.{grows_trans}
+use Rattle.types.proofs.Grown.{grows_refl, grows_trans}
 use Rattle.matching.specs.declared.Checked.{Checked}
 use Rattle.operators.specs.Operators.{no_family, family_of}
 use Rattle.operators.specs.Outcome.{no_error, outcome, plain_unary, count_of}
@@ -53,42 +54,40 @@ remembered_grown p q done f g m = record {
 }
 
 -- what a working type came to, and what is promised of it
-abbrev pub Done : ℕ → List ℕ → List ℕ → List ℕ → List ℕ → List (Option ℕ) → Result ℕ Refusal → Type 0
-Done t page after os ds done r = (entered r after ≡ unary_result t page) × (Measured after os ds × Remembered after done)
+abbrev pub Done : ℕ → List ℕ → List ℕ → List (Option ℕ) → Result ℕ Refusal → Type 0
+Done t page after done r = (entered r after ≡ unary_result t page) × Remembered after done
 
-module _ {page os ds : List ℕ} {done : List (Option ℕ)} {op t : ℕ} (w : Working page os ds done op t) where
-  form : Formed page
-  form = w.measured.held.sound
-
-  passing : Passing op page t
+module _ {page : List ℕ} {done : List (Option ℕ)} {t : ℕ} (w : Working page done t) (form : Formed page) where
+  passing : Passing w.op page t
   passing = (form, w.used, w.passing)
 
   pub low : t < types_max
   low = omega (arith, w.used, types_few page form)
 
-  pub done_plain : {k r : ℕ} → k ≡ kind_of page t → is_union k ≡ false → r ≡ family_of k → Done t page page os ds done (Ok r)
-  done_plain is h e = (rw (e, is) (sym (answer_plain t page (rw is at h))), (w.measured, w.remembered))
+  pub done_plain : {k r : ℕ} → k ≡ kind_of page t → is_union k ≡ false → r ≡ family_of k → Done t page page done (Ok r)
+  done_plain is h e = (rw (e, is) (sym (answer_plain t page (rw is at h))), w.remembered)
 
-  module _ {after os' ds' : List ℕ} {done' : List (Option ℕ)} where
-    pub done_low : {m : Result ℕ Refusal} → Done t page after os' ds' done' m → {r : ℕ} → m ≡ Ok r → r < types_max
+  -- met before
+  pub done_before : {r : ℕ} → get_or done t None ≡ Some r → Done t page page done (Ok r)
+  done_before {r} e = (sym (w.remembered.right t r e page (grows_refl page) form), w.remembered)
+
+  module _ {after : List ℕ} {done' : List (Option ℕ)} where
+    pub done_low : {m : Result ℕ Refusal} → Done t page after done' m → {r : ℕ} → m ≡ Ok r → r < types_max
     done_low z {r} e =
-        let s = answer_sound op w.operator t page passing in
+        let s = answer_sound w.op w.operator t page passing in
         omega (arith, s.used r (sym (ap (λ (o : Entered). o.made) z.0) ∙ e), types_few (unary_result t page).store s.form)
 
     -- what it came to, remembered
-    pub done_noted : {r : ℕ} → Done t page after os' ds' done' (Ok r) → Done t page after os' ds' (set done' t (Some r)) (Ok r)
+    pub done_noted : {r : ℕ} → Done t page after done' (Ok r) → Done t page after (set done' t (Some r)) (Ok r)
     done_noted {r} z = (
       z.0,
-      (
-        z.1.0,
-        record {
-          size = length-set done' t (Some r) ∙ z.1.1.size;
-          right = λ u x e q g f.
-              ⊎_elim (λ h. rw (h.0, h.1) (answer_again op w.operator t page passing r (sym (ap (λ (o : Entered). o.made) z.0)) q (rw (← z.0) g) f))
-              (λ h. z.1.1.right u x h q g f)
-              (found_more done' t u r x (omega (arith, low, z.1.1.size)) e);
-        },
-      ),
+      record {
+        size = length-set done' t (Some r) ∙ z.1.size;
+        right = λ u x e q g f.
+            ⊎_elim (λ h. rw (h.0, h.1) (answer_again w.op w.operator t page passing r (sym (ap (λ (o : Entered). o.made) z.0)) q (rw (← z.0) g) f))
+            (λ h. z.1.right u x h q g f)
+            (found_more done' t u r x (omega (arith, low, z.1.size)) e);
+      },
     )
 
 -- ---- the members, one after another
@@ -103,21 +102,17 @@ results_stay rule page t i (suc n) q s l e =
     (eq-or-lt_of_le l)
 
 -- where the walk over the members of t stands: the first i are checked, their k distinct results stand in `results`, and the store is p
-pub record Trying (page : List ℕ) (t n i k : ℕ) (results p os ds : List ℕ) (done : List (Option ℕ)) : Type 0 where
+pub record Trying (page : List ℕ) (t n i k : ℕ) (results p : List ℕ) (done : List (Option ℕ)) : Type 0 where
   pub within_n : i ≤ n
   pub few : k ≤ i
   pub some : 0 < i → 0 < k
   pub places : length results ≡ members_max
   pub reached : results_to (under t) page t i ≡ so_far (take k results) p
-  pub measured : Measured p os ds
   pub remembered : Remembered p done
 
-module _ {page os₀ ds₀ : List ℕ} {done₀ : List (Option ℕ)} {op t : ℕ} (w : Working page os₀ ds₀ done₀ op t) (h : is_union (kind_of page t) ≡ true)
+module _ {page : List ℕ} {done₀ : List (Option ℕ)} {t : ℕ} (w : Working page done₀ t) (base : Formed page) (h : is_union (kind_of page t) ≡ true)
     {n : ℕ} (all : n ≡ size_of page t) where
-  base : Formed page
-  base = w.measured.held.sound
-
-  pub tried_none : (results : List ℕ) → length results ≡ members_max → Trying page t n 0 0 results page os₀ ds₀ done₀
+  pub tried_none : (results : List ℕ) → length results ≡ members_max → Trying page t n 0 0 results page done₀
   unfolding results_to
   tried_none results l = record {
     within_n = omega arith;
@@ -125,13 +120,12 @@ module _ {page os₀ ds₀ : List ℕ} {done₀ : List (Option ℕ)} {op t : ℕ
     some = λ x. x;
     places = l;
     reached = refl;
-    measured = w.measured;
     remembered = w.remembered;
   }
 
-  module _ {i k : ℕ} {results p os ds : List ℕ} {done : List (Option ℕ)} (z : Trying page t n i k results p os ds done) where
+  module _ {i k : ℕ} {results p : List ℕ} {done : List (Option ℕ)} (z : Trying page t n i k results p done) where
     sound : ResultsSound page (so_far (take k results) p)
-    sound = results_of op w.operator page t (passing w) h i (omega (arith, all, z.within_n)) (take k results) p z.reached
+    sound = results_of w.op w.operator page t (passing w base) h i (omega (arith, all, z.within_n)) (take k results) p z.reached
 
     module _ (l : i < n) {x : ℕ} (is : x ≡ member page t i) where
       here : i < size_of page t
@@ -141,11 +135,11 @@ module _ {page os₀ ds₀ : List ℕ} {done₀ : List (Option ℕ)} {op t : ℕ
       member_low = rw is (member_lower page base t w.used h i here)
 
       -- what its check asks for
-      pub member_works : Working p os ds done op x
+      pub member_works : Working p done x
       member_works =
-          let m = member_passes_lem op (passing w) h i here p sound.1 sound.0 in
+          let m = member_passes_lem w.op (passing w base) h i here p sound.1 sound.0 in
           record {
-            measured = z.measured;
+            op = w.op;
             used = rw is m.1;
             passing = rw is m.2;
             operator = w.operator;
@@ -156,26 +150,25 @@ module _ {page os₀ ds₀ : List ℕ} {done₀ : List (Option ℕ)} {op t : ℕ
       pub member_room : k < members_max
       member_room = omega (arith, z.few, here, size_few page base t w.used)
 
-      module _ {m : Result ℕ Refusal} {q os' ds' : List ℕ} {done' : List (Option ℕ)} (d : Done x p q os' ds' done' m) where
+      module _ {m : Result ℕ Refusal} {q : List ℕ} {done' : List (Option ℕ)} (d : Done x p q done' m) where
         next : results_to (under t) page t (suc i) ≡ one_more (take k results) m q
         unfolding results_to result_next
         next = rw (z.reached, ← is, under_is t x p member_low, ← d.0) refl
 
         pub tried_next : {r : ℕ} → m ≡ Ok r → {k' : ℕ} {results' : List ℕ} → Merges results results' k r k'
-            → Trying page t n (i + 1) k' results' q os' ds' done'
+            → length results' ≡ members_max → Trying page t n (i + 1) k' results' q done'
         unfolding one_more
-        tried_next {r} e c = record {
+        tried_next {r} e c all_places = record {
           within_n = omega arith;
           few = omega (arith, z.few, c.0);
-          some = λ y. omega (arith, c.3, merged_some r (take k results));
-          places = c.2;
+          some = λ y. omega (arith, c.2, merged_some r (take k results));
+          places = all_places;
           reached = rw (add-one i, c.1) (next ∙ rw e refl);
-          measured = d.1.0;
-          remembered = d.1.1;
+          remembered = d.1;
         }
 
         -- a refusal is that of the whole
-        pub tried_stop : {y : Refusal} → m ≡ Err y → Done t page q os' ds' done' m
+        pub tried_stop : {y : Refusal} → m ≡ Err y → Done t page q done' m
         unfolding together one_more
         tried_stop {y} e =
             let s : results_to (under t) page t (size_of page t) ≡ stopped y q =
@@ -187,41 +180,38 @@ module _ {page os₀ ds₀ : List ℕ} {done₀ : List (Option ℕ)} {op t : ℕ
       at_end : results_to (under t) page t (size_of page t) ≡ so_far (take k results) p
       at_end = let e : i ≡ n = omega (arith, z.within_n) in rw (← all, ← e) z.reached
 
-      pub union_asks : Measured p os ds × ((0 < k) × (k ≤ length results) × (all_below (types_in p) (take k results) ≡ true))
+      -- its results stand at the places that the array has
+      pub union_room : k ≤ length results
+      union_room = omega (arith, z.few, z.within_n, all, z.places, size_few page base t w.used)
+
+      pub union_asks : (0 < length (take k results)) × (all_below (types_in p) (take k results) ≡ true)
       union_asks = (
-        z.measured,
-        (
-          z.some (omega (arith, all, passing_some page op t w.passing base w.used h)),
-          omega (arith, z.few, z.within_n, all, z.places, size_few page base t w.used),
-          sound.2,
-        ),
+        omega (arith, length-take-le k results union_room, z.some (omega (arith, all, passing_some page w.op t w.passing base w.used h))),
+        sound.2,
       )
 
-      pub union_done : {r : Result ℕ Refusal} {q os' ds' : List ℕ} → entered r q ≡ union_of p (take k results) → Measured q os' ds'
-          → Done t page q os' ds' done r
+      pub union_done : {r : Result ℕ Refusal} {q : List ℕ} → entered r q ≡ union_of p (take k results) → Done t page q done r
       unfolding together
-      union_done {r} {q} e m =
+      union_done {r} {q} e =
           let g : Grows p q = rw (← e) at (union_sound p sound.1 (take k results) sound.2).grown in
-          (e ∙ sym (answer_union t page h ∙ rw at_end refl), (m, remembered_grown p q done sound.1 g z.remembered))
+          (e ∙ sym (answer_union t page h ∙ rw at_end refl), remembered_grown p q done sound.1 g z.remembered)
 
 -- ---- on a Known type, and on checked types
 
-module _ {page os ds : List ℕ} (m : Measured page os ds) {op t : ℕ} (o : 0 < op) (u : t < types_in page) {e : Errors}
-    (is : e ≡ unary_errors page op t) where
-  pub known_fails : (count_of e ≡ 0 → ⊥) → {f : Outcome} → f ≡ outcome Checked.Unknown e
-      → (concluded (Ok f) page ≡ check_unary page op (Checked.Known t)) × Measured page os ds
+module _ (page : List ℕ) (op t : ℕ) (o : 0 < op) (u : t < types_in page) {e : Errors} (is : e ≡ unary_errors page op t) where
+  pub known_fails : (count_of e ≡ 0 → ⊥) → {f : Outcome} → f ≡ outcome Checked.Unknown e → concluded (Ok f) page ≡ check_unary page op (Checked.Known t)
   unfolding check_unary
-  known_fails c d = (rw (d, ← is, ne_eqb (count_of e) 0 c) refl, m)
+  known_fails c d = rw (d, ← is, ne_eqb (count_of e) 0 c) refl
 
   module _ (c : count_of e ≡ 0) where
     none : eqb (count_of (unary_errors page op t)) 0 ≡ true
     none = rw (← is) (eq-eqb (count_of e) 0 c)
 
-    pub known_works : {done : List (Option ℕ)} → done ≡ replicate types_max None → Working page os ds done op t
-    known_works d = record {
-      measured = m;
+    pub known_works : Formed page → {done : List (Option ℕ)} → done ≡ replicate types_max None → Working page done t
+    known_works f d = record {
+      op = op;
       used = u;
-      passing = sym (errors_passes page op t m.held.sound u) ∙ none;
+      passing = sym (errors_passes page op t f u) ∙ none;
       operator = o;
       remembered = rw d (remembered_none page);
     }

@@ -5,16 +5,17 @@ use Rattle.pages.specs.Quant.{all_to}
 use Rattle.refusals.specs.declared.Refusal.{Refusal}
 use Rattle.kinds.specs.Kinds.{null, is_union}
 use Rattle.types.specs.Store.{types_max, Formed}
-use Rattle.types.specs.Types.{types_in, kind_of, Measured}
+use Rattle.types.specs.Types.{types_in, kind_of}
 use Rattle.types.specs.Making.{Grows}
 use Rattle.types.specs.Recur.{cov}
 use Rattle.matching.specs.declared.Checked.{Checked}
 use Rattle.matching.specs.declared.Checked.TheVariants.{Known, Unknown, Function}
 use Rattle.operators.specs.Operators.{no_family, family_of, taker_of}
 use Rattle.operators.specs.Outcome.{no_error, outcome, plain_unary, count_of}
+use Rattle.operators.specs.declared.Failing.{Failing}
 use Rattle.operators.specs.declared.Errors.{Errors}
 use Rattle.members.specs.Members.{size_of, member, merged, Entered, entered, union_of, Concluded, concluded, conclude}
-use Rattle.members.specs.Trials.{fold_to, Failures, no_failure, failed_at, errors_of}
+use Rattle.members.specs.Trials.{fold_to, no_failure, failing_count, failed_at, errors_of}
 
 -- ---- errors
 
@@ -29,14 +30,15 @@ unfoldable pub unary_passes : List ℕ → ℕ → ℕ → Bool
 unary_passes page op = cov false (λ t rule. pass_rule page op rule t)
 
 -- of the first n members of t those that fail
-unfoldable pub failing : List ℕ → ℕ → ℕ → ℕ → Failures
-failing page op t n = fold_to n (λ i f. cond (unary_passes page op (member page t i)) f (failed_at (member page t i) 0 f)) no_failure
+unfoldable pub failing : List ℕ → ℕ → ℕ → ℕ → Option Failing
+failing page op t n =
+    fold_to n (λ i f. cond (unary_passes page op (member page t i)) f (Some (failed_at (member page t i) None f))) no_failure
 
 -- the errors of the check of type t: where fewer members fail than there are, some member passes
 unfoldable pub unary_errors : List ℕ → ℕ → ℕ → Errors
 unary_errors page op t =
     cond (is_union (kind_of page t))
-    (errors_of (failing page op t (size_of page t)) (ltb (failing page op t (size_of page t)).count (size_of page t)))
+    (errors_of (failing page op t (size_of page t)) (ltb (failing_count (failing page op t (size_of page t))) (size_of page t)))
     (plain_unary op (kind_of page t)).errors
 
 -- ---- the type answered, where there is no error
@@ -80,9 +82,9 @@ pub record Remembered (page : List ℕ) (done : List (Option ℕ)) : Type 0 wher
   pub size : length done ≡ types_max
   pub right : (t r : ℕ) → get_or done t None ≡ Some r → (q : List ℕ) → Grows page q → Formed q → unary_result t q ≡ entered (Ok r) q
 
--- a type whose check passes, in a store with its tables
-pub record Working (page offsets ds : List ℕ) (done : List (Option ℕ)) (op t : ℕ) : Type 0 where
-  pub measured : Measured page offsets ds
+-- a type whose check passes, in a store: that of some operator, whose code no answer looks at
+pub record Working (page : List ℕ) (done : List (Option ℕ)) (t : ℕ) : Type 0 where
+  pub op : ℕ
   pub used : t < types_in page
   pub passing : unary_passes page op t ≡ true
   pub operator : 0 < op

@@ -7,9 +7,9 @@ ghost use Rattle.types.specs.Store.{types_max};
 ghost use Rattle.kinds.specs.Kinds.{is_array};
 ghost use Rattle.types.specs.Types.{types_in, Held};
 ghost use Rattle.matching.specs.Matching.{both, in_use};
-ghost use Rattle.marks.specs.Marks.{is_marked, marking, Noted};
+ghost use Rattle.marks.specs.Marks.{is_marked, Noted};
 ghost use Rattle.matching.specs.Memo.{Found};
-ghost use Rattle.unification.specs.Unification.{unified, generic_unify, is_adopted, is_alike, all_pairs, unify, unify_arg, seen_row, seen_column, SettledAt, Given};
+ghost use Rattle.unification.specs.Unification.{unified, generic_unify, is_adopted, is_alike, all_pairs, unify, unify_arg, Settled, seen_row, seen_column, SettledAt, Given};
 
 use bindings::{BINDINGS, Bindings};
 use kinds::{CALLBACK, GENERIC, Kind};
@@ -18,7 +18,7 @@ use names::Symbol;
 use refusals::Refusal;
 use types::{NULL, Store};
 
-// An answer, and the bindings beside it.
+// An answer, and the bindings beside it, those of a refusal too: document 01 has them handed in and back by value.
 #[derive(Clone, Copy)]
 pub struct Unified {
     pub answer: Result<bool, Refusal>,
@@ -43,14 +43,6 @@ fn column_of(e: usize, a: usize) -> usize
     2 * a + e % 2
 }
 
-// Keeps in mind that a pair was answered yes.
-fn settle(seen: &mut [u8], e: usize, a: usize)
-    requires { (e < types_max) × (a < types_max) }
-    ensures { seen.new ≡ marking seen.old (seen_row e) (seen_column e a) }
-{
-    marks::mark(seen, e / 2, column_of(e, a));
-}
-
 // Whether two kinds are both arrays, sets, results, maps or tuples.
 #[tactic(auto, unfolding(crate::specs::Unification::is_alike))]
 fn are_alike(k: Kind, m: Kind) -> bool
@@ -63,7 +55,7 @@ fn are_alike(k: Kind, m: Kind) -> bool
         || kinds::is_tuple(k) && kinds::is_tuple(m)
 }
 
-// Whether two types are both arrays.
+// Whether two types are both arrays. A function of its own for the reason beside `are_sequences` of matching.
 fn are_arrays(store: Store, e: usize, a: usize) -> bool
     requires { (e < types_in store.page.now) × (a < types_in store.page.now) }
     ensures { result ≡ both is_array store.entry.page.now e a }
@@ -95,6 +87,16 @@ impl Unifier<'_, '_> {
         ensures { result ≡ is_marked self.now.seen.now (seen_row e) (seen_column e a) }
     {
         marks::is_marked(self.seen, e / 2, column_of(e, a))
+    }
+
+    // Keeps in mind that a pair was answered yes.
+    fn settle(&mut self, e: usize, a: usize)
+        requires small { (e < types_max) × (a < types_max) }
+        requires fits { Settled self.old.matcher.store.page.now self.old.bindings e a }
+        ensures value { self.new.bindings ≡ self.old.bindings }
+        ensures same { Same self.new self.old }
+    {
+        marks::mark(self.seen, e / 2, column_of(e, a));
     }
 
     // An expected generic name: what it is bound to must match, and an unbound one is bound.
@@ -137,7 +139,7 @@ impl Unifier<'_, '_> {
         }
         let fits = self.unify_children(e, a)?;
         if fits {
-            settle(self.seen, e, a);
+            self.settle(e, a);
         }
         Ok(fits)
     }

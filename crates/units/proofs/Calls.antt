@@ -9,12 +9,12 @@ use native.Mathlib.Omega.{arith}
 use lib.Dec.{ltb, eqb}
 use lib.ListN.{length}
 use lib.IntN.{ℤ, pos, ◌+ℤ◌, +ℤ_idl}
-use borrow.Author.Tests.{lt-ltb, le-ltb, ltb-false, eq-eqb}
+use borrow.Author.Tests.{lt-ltb, le-ltb, ltb-false, eq-eqb, not-false, not-true}
 use Rattle.refusals.specs.Lowest.{◌when◌}
 use Rattle.refusals.specs.declared.Refusal.{Refusal}
 use Rattle.refusals.specs.declared.Refusal.TheVariants.{BadUnit, Exponent, Symbols}
 use Rattle.refusals.specs.Numbers.{Verdict}
-use Rattle.refusals.proofs.Lowest.{first_holds, passed_parts}
+use Rattle.refusals.proofs.Lowest.{first_holds, passed_parts, verdict_err}
 use Rattle.pages.specs.Quant.{any_to}
 use Rattle.pages.proofs.Quant.{or_false}
 use Rattle.names.specs.Table.{names_max}
@@ -26,6 +26,17 @@ use Rattle.units.specs.declared.Unit.{Unit}
 use Rattle.units.proofs.Form.{Places, sym_at, exp_at, terms_from, terms_in, length_terms, from_start, from_step, from_end, formed_count, formed_ordered}
 use Rattle.units.proofs.Order.{Asc, turned_none, ordered_asc, tail_of, first, part_other}
 use Rattle.units.proofs.Si.{merge_product}
+
+-- ---- what the answer of `unit_form` says of the unit
+
+module _ (u : Unit) where
+  pub form_ok : Ok tt ≡ form_verdict u → formed places_max names_max (terms_of u) ≡ true
+  unfolding form_verdict
+  form_ok e = not-false (formed places_max names_max (terms_of u)) (passed_parts BadUnit (not (formed places_max names_max (terms_of u))) [] (sym e)).0
+
+  pub form_err : (r : Refusal) → Err r ≡ form_verdict u → (formed places_max names_max (terms_of u) ≡ false) × (r ≡ BadUnit)
+  unfolding form_verdict
+  form_err r e = let v = verdict_err BadUnit (not (formed places_max names_max (terms_of u))) r e in (not-true (formed places_max names_max (terms_of u)) v.0, v.1)
 
 -- ---- the verdict on a product, for any number of places p and of symbols n
 
@@ -120,9 +131,9 @@ module _ (u : Unit) where
   unfolding form_verdict
   form_refused h = rw h
 
-  pub exponent_refused : (s : ℕ) → formed places_max names_max (terms_of u) ≡ false → Err BadUnit ≡ exponent_answer u s
+  pub exponent_refused : (s : ℕ) (r : Refusal) → Err r ≡ form_verdict u → Err r ≡ exponent_answer u s
   unfolding exponent_answer
-  exponent_refused s h = rw (form_refused h)
+  exponent_refused s r e = rw (← e)
 
   pub exponent_given : (s : ℕ) (e : ℤ) → formed places_max names_max (terms_of u) ≡ true → e ≡ exponent s (terms_of u) → Ok e ≡ exponent_answer u s
   unfolding exponent_answer

@@ -1,14 +1,15 @@
 // Units: products of powers of symbols (document 01, "Units and pairs"; `Unit` of the source's units.rs).
 #![tactic(auto)]
 
-ghost use Rattle.std.specs.Prelude.{◌≡◌, true, false, List, [], ◌∷◌, ◌++◌, ◌<◌, ◌≤◌, get_or, pos, MatchOption};
+ghost use Rattle.std.specs.Prelude.{◌≡◌, true, false, List, [], ◌∷◌, ◌++◌, ◌<◌, ◌≤◌, ◌+◌, ◌-◌, get_or, pos, MatchOption};
+ghost use Rattle.std.specs.Iterator.{at_most};
 ghost use Rattle.names.specs.Table.{names_max};
 ghost use Rattle.units.specs.Unit.{places_max, Term, term, is_zero, outside, formed, in_use};
 ghost use Rattle.units.specs.Product.{combine};
 ghost use Rattle.units.specs.Merge.{turn, turned, joined, merge};
 ghost use Rattle.units.specs.Calls.{terms_of, filled, present, unit_of, with_term, sum_of, form_verdict, product_answer, exponent_answer, unitless_answer};
 
-use names::{NAMES, Symbol, symbol_index};
+use names::{NAMES, Symbol};
 use refusals::Refusal;
 use std::cmp::Ordering;
 
@@ -27,13 +28,15 @@ pub struct Unit {
     pub exponents: [i16; PLACES],
 }
 
-// A product as far as it has come: the unit's count goes on past the places, and `wide` says that an exponent is outside its limits.
+// A product as far as it has come: the unit's count goes on past the places, and `wide` says that an exponent is outside its limits. A
+// flag and no Result, as both are judged at the end, and an exponent anywhere goes before a symbol too many.
 #[derive(Clone, Copy)]
 struct Sum {
     unit: Unit,
     wide: bool,
 }
 
+// Whether an exponent is 0, which no term of a unit in form has.
 #[tactic(auto, using(crate::proofs::Signed::bits_zero))]
 fn is_zero(e: i16) -> bool
     ensures { result ≡ is_zero e }
@@ -41,6 +44,7 @@ fn is_zero(e: i16) -> bool
     e == 0
 }
 
+// Whether an exponent is past the limit, either way.
 #[tactic(auto, using(crate::proofs::Signed::outside_is))]
 fn is_outside(e: i16) -> bool
     ensures { result ≡ outside e }
@@ -48,7 +52,8 @@ fn is_outside(e: i16) -> bool
     (e < -EXPONENT_MAX) | (EXPONENT_MAX < e)
 }
 
-// An exponent of the second unit, as a product or a quotient takes it.
+// An exponent of the second unit, as a product or a quotient takes it. The flag goes down to here, as document 01's call has it: a second
+// unit that is turned first would be gone over once more.
 #[tactic(auto, using(crate::proofs::Signed::neg_fits, crate::proofs::Signed::small))]
 fn turned_by(e: i16, quotient: bool) -> i16
     requires { outside e ≡ false }
@@ -121,18 +126,18 @@ pub fn with_term(u: Unit, s: Symbol, e: i16) -> Unit
     v
 }
 
-// Whether the unit is in form, for crates above (`unit_form` is the entry call).
+// Whether the unit is in form, for crates above (`unit_form` is the entry call). One in form is no type of its own: most calls take units
+// that are not, and an operand, which holds one or none, would need a second type as well. Nor is one of few enough places, `count ≤
+// places_max`: that is asked wherever terms are gone over, of units in form or not.
 pub fn is_formed(u: Unit) -> bool
     ensures { result ≡ formed places_max names_max (terms_of u) }
 {
-    let n = u.count;
-    if PLACES < n {
+    if PLACES < u.count {
         return false;
     }
     let mut lo: usize = 0;
-    for i in 0..n {
-        let s = u.symbols[i] as usize;
-        let e = u.exponents[i];
+    for (s, e) in u.terms() {
+        let s = usize::from(s);
         if s < lo {
             return false;
         }
@@ -163,7 +168,7 @@ pub fn is_used(u: Unit, n: usize) -> bool
 {
     u.symbols[..filled_in(u)]
         .iter()
-        .all(|s| names::is_used(n, symbol_index(*s)))
+        .all(|s| names::is_used(n, usize::from(*s)))
 }
 
 // The term at a place, where one stands there.
@@ -175,6 +180,46 @@ fn term_at(u: &Unit, i: usize) -> Option<(Symbol, i16)>
         return Some((u.symbols[i], u.exponents[i]));
     }
     None
+}
+
+// The terms of a unit from a place on, each a symbol with its exponent. An iterator of its own, which says at what place it is: of the
+// two arrays zipped, each loop's proof would have to tell which term it has.
+#[derive(Drop)]
+pub struct Terms<'a> {
+    pub unit: &'a Unit,
+    pub at: usize,
+}
+
+impl<'a> Iterator for Terms<'a> {
+    type Item = (Symbol, i16);
+
+    ghost can_next = { λ s. s.unit.now.count ≤ places_max };
+
+    ghost next_gives = { λ s item t. (t.unit ≡ s.unit) × MatchOption item (s.unit.now.count ≤ s.at) (λ x. (s.at < s.unit.now.count) × (x.0 ≡ get_or s.unit.now.symbols s.at 0) × (x.1 ≡ get_or s.unit.now.exponents s.at (pos 0)) × (t.at ≡ s.at + 1)) };
+
+    ghost remaining = { λ s. at_most (s.unit.now.count - s.at) };
+
+    fn next(&mut self) -> Option<(Symbol, i16)> {
+        let term = term_at(self.unit, self.at)?;
+        self.at += 1;
+        Some(term)
+    }
+}
+
+impl Unit {
+    // The terms, in the order of their places.
+    pub fn terms(&self) -> Terms<'_>
+        ensures { (result.unit ≡ self.entry) × (result.at ≡ 0) }
+    {
+        self.terms_from(0)
+    }
+
+    // Those from a place on.
+    pub fn terms_from(&self, at: usize) -> Terms<'_>
+        ensures { (result.unit ≡ self.entry) × (result.at ≡ at) }
+    {
+        Terms { unit: self, at }
+    }
 }
 
 // The terms of both units, in order of their symbols; those of one symbol are joined, and zero removes it. A `loop`, since a turn moves
@@ -231,16 +276,12 @@ pub fn unit_form(u: Unit) -> Result<(), Refusal>
 }
 
 // The product of two units or, with `quotient`, their quotient: `multiply` and `divide` of the source.
-#[tactic(auto, using(crate::proofs::Calls::product_left, crate::proofs::Calls::product_right, crate::proofs::Calls::product_large, crate::proofs::Calls::product_many, crate::proofs::Calls::product_done))]
+#[tactic(auto, using(crate::proofs::Calls::form_ok, crate::proofs::Calls::product_large, crate::proofs::Calls::product_many, crate::proofs::Calls::product_done))]
 pub fn product(a: Unit, b: Unit, quotient: bool) -> Result<Unit, Refusal>
     ensures { result ≡ product_answer quotient a b }
 {
-    if !is_formed(a) {
-        return Err(Refusal::BadUnit);
-    }
-    if !is_formed(b) {
-        return Err(Refusal::BadUnit);
-    }
+    unit_form(a)?;
+    unit_form(b)?;
     let w = merged(a, b, quotient);
     if w.wide {
         return Err(Refusal::Exponent);
@@ -255,9 +296,7 @@ pub fn product(a: Unit, b: Unit, quotient: bool) -> Result<Unit, Refusal>
 pub fn exponent(u: Unit, symbol: Symbol) -> Result<i16, Refusal>
     ensures { result ≡ exponent_answer u symbol }
 {
-    if !is_formed(u) {
-        return Err(Refusal::BadUnit);
-    }
+    unit_form(u)?;
     match u.symbols[..u.count].iter().position(|s| *s == symbol) {
         Some(i) => Ok(u.exponents[i]),
         None => Ok(0),

@@ -3,4 +3,5 @@ pub mod Sixteen
 pub mod Terms
 pub mod Calls
 pub mod Back
+pub mod Strides
 pub mod Used

@@ -1,9 +1,12 @@
 -- The terms of a unit read from bytes and written to them, one after another. Assumes nothing.
-use mathlib.Core.Path.{◌≡◌, refl, sym, ap, ◌∙◌}
+use mathlib.Core.Path.{◌≡◌, refl, sym, ap, ap₂, ◌∙◌}
 use mathlib.Core.List.{List, [], ◌∷◌, ◌++◌, append_assoc, append-nil}
 use Prim.Native.Nat.{ℕ, suc, ◌+◌, ◌-◌, ◌*◌, ◌%◌, ◌≤◌, ◌<◌}
 use native.Mathlib.Omega.{arith}
-use lib.ListN.{length, get_or, replicate, length-append, length-replicate}
+use lib.ListN.{length, get_or, drop, replicate, length-append, length-replicate}
+use Rattle.std.specs.Simd.{first_chunks}
+use Rattle.std.proofs.lemmas.List.{get_or-drop}
+use Rattle.pages.proofs.Blocks.{block_at}
 use Rattle.pages.specs.Bytes.{word_at, bytes_of, put}
 use Rattle.pages.specs.Pad.{pad}
 use Rattle.pages.proofs.Put.{put_none, put_append, put_length}
@@ -59,6 +62,17 @@ module _ (bytes : List ℕ) (n : ℕ) where
           place = omega arith;
           i_in = omega arith;
         }
+
+-- a term's bytes, where each term has them by itself
+module _ (bytes : List ℕ) (n : ℕ) (terms : List (List ℕ)) (is : terms ≡ first_chunks term_bytes n (drop 1 bytes)) (i : ℕ) (h : i < n) where
+  byte : (j : ℕ) → j < term_bytes → (p : ℕ) → 1 + (term_bytes * i + j) ≡ p → get_or (get_or terms i []) j 0 ≡ get_or bytes p 0
+  byte j m p e = rw is (block_at term_bytes n i j (drop 1 bytes) h m) ∙ get_or-drop 1 bytes (term_bytes * i + j) 0 ∙ ap (λ (q : ℕ). get_or bytes q 0) e
+
+  pub term_read : (get_or (get_or terms i []) 0 0 ≡ get_or bytes (1 + term_bytes * i) 0) × (get_or (get_or terms i []) 1 0 * 256 + get_or (get_or terms i []) 2 0 ≡ word_at bytes ((1 + term_bytes * i) + 1))
+  term_read = (
+    byte 0 (omega arith) (1 + term_bytes * i) (omega arith),
+    ap₂ (λ (a b : ℕ). a * 256 + b) (byte 1 (omega arith) ((1 + term_bytes * i) + 1) (omega arith)) (byte 2 (omega arith) ((1 + term_bytes * i) + 1 + 1) (omega arith)),
+  )
 
 -- ---- writing: the bytes that are out, with those of the terms still to come, are all
 

@@ -1,16 +1,20 @@
 -- The symbols of a value's bytes, looked up one after another. Assumes nothing.
 use mathlib.Core.Path.{◌≡◌, refl, sym, ◌∙◌, ap}
-use mathlib.Core.Bool.{Bool, true, false, ◌&&◌}
+use mathlib.Core.Bool.{Bool, true, false, ◌&&◌, ◌||◌}
 use mathlib.Core.List.{List}
 use Prim.Native.Nat.{ℕ, zero, suc, ◌+◌, ◌*◌, ◌<◌, ◌≤◌}
 use native.Mathlib.Omega.{arith}
 use lib.Dec.{eqb, leb, ltb}
-use lib.ListN.{length, get_or, get_or-eq_default}
+use lib.ListN.{length, get_or, get_or-eq_default, take, drop}
+use lib.Seq.{drop-cons, drop-drop}
+use Rattle.std.specs.List.{list_all}
+use Rattle.std.proofs.lemmas.List.{drop_all}
 use borrow.Author.Tests.{le-leb, lt-leb, leb-true, ltb-true, ltb-false, eq-eqb, eqb-true, ne_eqb}
 use Rattle.pages.specs.Quant.{all_to}
-use Rattle.pages.proofs.Quant.{all_failed, all_each, all_at, all_none, all_cong, all_front, and_true}
+use Rattle.pages.proofs.Quant.{all_each, all_none, all_cong, all_front, and_true}
 use Rattle.names.specs.Calls.{is_used}
 use Rattle.units.specs.Unit.{places_max, in_use}
+use Rattle.values.proofs.Strides.{strided, strided_drop}
 use Rattle.values.specs.Value.{none_count, term_bytes, terms_at, is_none, is_some, said_in, symbol_used, symbols_used}
 
 -- ---- how many symbols there are said to be
@@ -31,35 +35,44 @@ module _ (bytes : List ℕ) where
 -- ---- place by place
 
 module _ (n : ℕ) (bytes : List ℕ) (i : ℕ) where
-  past : length bytes ≤ 1 + term_bytes * i → symbol_used n bytes i ≡ true
-  unfolding symbol_used
-  past h = rw (le-leb (length bytes) (1 + term_bytes * i) h)
-
   -- a symbol that is there
   pub there : 1 + term_bytes * i < length bytes → symbol_used n bytes i ≡ is_used n (get_or bytes (1 + term_bytes * i) 0)
   unfolding symbol_used
   there h = rw (lt-leb (length bytes) (1 + term_bytes * i) h)
 
-  module _ (all : all_to i (symbol_used n bytes) ≡ true) where
-    -- where one is not there, none after it is
-    pub used_cut : length bytes ≤ 1 + term_bytes * i → true ≡ symbols_used n bytes
-    unfolding symbols_used
-    used_cut h = sym (all_each (said_in bytes) (symbol_used n bytes) each)
-      where
-        each : (j : ℕ) → j < said_in bytes → symbol_used n bytes j ≡ true
-        each j l = go (ltb j i) refl
-          where
-            go : (b : Bool) → ltb j i ≡ b → symbol_used n bytes j ≡ true
-            go true e = all_at (symbol_used n bytes) i j all (ltb-true j i e)
-            go false e = let b = ltb-false j i e in unfold symbol_used in (rw (le-leb (length bytes) (1 + term_bytes * j) (omega arith)))
+-- the bytes that stand a term's length apart, from index at on, are the symbols
+strided_used : (n k at : ℕ) (l : List ℕ) → list_all (is_used n) (take k (strided 2 0 (drop at l))) ≡ all_to k (λ i. leb (length l) (at + term_bytes * i) || is_used n (get_or l (at + term_bytes * i) 0))
+strided_used n zero at l = sym (all_none (λ i. leb (length l) (at + term_bytes * i) || is_used n (get_or l (at + term_bytes * i) 0)))
+strided_used n (suc k) at l = go (ltb at (length l)) refl (strided_used n k (at + term_bytes) l)
+  where
+    used : ℕ → Bool
+    used j = leb (length l) j || is_used n (get_or l j 0)
 
-    pub used_all : i ≡ said_in bytes → true ≡ symbols_used n bytes
-    unfolding symbols_used
-    used_all e = sym (rw e at all)
+    go : (b : Bool) → ltb at (length l) ≡ b
+        → list_all (is_used n) (take k (strided 2 0 (drop (at + term_bytes) l))) ≡ all_to k (λ i. used (at + term_bytes + term_bytes * i))
+        → list_all (is_used n) (take (suc k) (strided 2 0 (drop at l))) ≡ all_to (suc k) (λ i. used (at + term_bytes * i))
+    go true e rest =
+        let h : at < length l = ltb-true at (length l) e in
+        let first : at + term_bytes * 0 ≡ at = omega arith in
+        let there : used at ≡ is_used n (get_or l at 0) = rw (lt-leb (length l) at h) refl in
+        let here : is_used n (get_or l at 0) ≡ used (at + term_bytes * 0) = sym (ap used first ∙ there) in
+        let far : suc at + 2 ≡ at + term_bytes = omega arith in
+        let behind : strided 2 2 (drop (suc at) l) ≡ strided 2 0 (drop (at + term_bytes) l) =
+        strided_drop 2 2 (drop (suc at) l) ∙ ap (strided 2 0) (drop-drop 2 (suc at) l ∙ ap (λ (j : ℕ). drop j l) far) in
+        let next : (i : ℕ) → i < k → used (at + term_bytes + term_bytes * i) ≡ used (at + term_bytes * suc i) = λ i m. let e : at + term_bytes + term_bytes * i ≡ at + term_bytes * suc i = omega arith in ap used e in
+        ap (λ bs. list_all (is_used n) (take (suc k) (strided 2 0 bs))) (drop-cons l at 0 h)
+        ∙ ap (λ bs. is_used n (get_or l at 0) && list_all (is_used n) (take k bs)) behind
+        ∙ ap (λ (b : Bool). is_used n (get_or l at 0) && b)
+        (rest ∙ all_cong (λ i. used (at + term_bytes + term_bytes * i)) (λ i. used (at + term_bytes * suc i)) k next)
+        ∙ ap (λ (b : Bool). b && all_to k (λ i. used (at + term_bytes * suc i))) here ∙ sym (all_front k (λ i. used (at + term_bytes * i)))
+    go false e rest =
+        let h : length l ≤ at = ltb-false at (length l) e in
+        ap (λ bs. list_all (is_used n) (take (suc k) (strided 2 0 bs))) (drop_all at l h)
+        ∙ sym (all_each (suc k) (λ i. used (at + term_bytes * i)) (λ i m. rw (le-leb (length l) (at + term_bytes * i) (omega (arith, h))) refl))
 
-  pub unused_at : i < said_in bytes → 1 + term_bytes * i < length bytes → is_used n (get_or bytes (1 + term_bytes * i) 0) ≡ false → false ≡ symbols_used n bytes
-  unfolding symbols_used
-  unused_at l h u = sym (all_failed (symbol_used n bytes) (said_in bytes) i l (there h ∙ u))
+pub symbols_strided : (n : ℕ) (bytes : List ℕ) → list_all (is_used n) (take (said_in bytes) (strided 2 0 (drop 1 bytes))) ≡ symbols_used n bytes
+unfolding symbols_used symbol_used
+symbols_strided n bytes = strided_used n (said_in bytes) 1 bytes
 
 -- ---- bytes that say a unit, or none
 

@@ -1,7 +1,8 @@
 // The unit of a value node, in bytes (document 01, "Formulas and sheets").
 #![tactic(auto)]
 
-ghost use Rattle.std.specs.Prelude.{◌≡◌, true, false, [], ◌+◌, ◌*◌, ◌≤◌, ◌<◌, length};
+ghost use Rattle.std.specs.Prelude.{◌≡◌, true, false, [], ◌+◌, ◌*◌, ◌≤◌, ◌<◌, length, drop};
+ghost use Rattle.std.specs.Simd.{first_chunks};
 ghost use Rattle.pages.specs.Bytes.{put};
 ghost use Rattle.pages.specs.Pad.{pad};
 ghost use Rattle.units.specs.Unit.{places_max};
@@ -9,7 +10,6 @@ ghost use Rattle.units.specs.Calls.{terms_of, unit_of};
 ghost use Rattle.values.specs.Value.{term_bytes, unit_max, signed_of, terms_at, value_in, said_in, symbols_used, raw_of, bytes_in, unit_bytes};
 
 use names::Symbol;
-use pages::index;
 use refusals::Refusal;
 use units::{PLACES, Unit, with_term};
 
@@ -33,16 +33,23 @@ fn signed(high: u8, low: u8) -> i16
     i16::from_be_bytes([high, low])
 }
 
+// The bytes of the first n terms, each by itself.
+fn terms_in(bytes: &[u8], n: usize) -> &[[u8; TERM_BYTES]]
+    requires { 1 + term_bytes * n ≤ length bytes.now }
+    ensures { (result.now ≡ first_chunks term_bytes n (drop 1 bytes.now)) × (length result.now ≡ n) }
+{
+    let (terms, _) = bytes[1..1 + TERM_BYTES * n].as_chunks::<TERM_BYTES>();
+    terms
+}
+
 // The unit with n terms, from index 1 on.
 fn unit_at(bytes: &[u8], n: usize) -> Unit
     requires { (n ≤ places_max) × (1 + term_bytes * n ≤ length bytes.now) }
     ensures { result ≡ unit_of (terms_at bytes.now n 1) }
 {
     let mut u = units::dimensionless();
-    for i in 0..n {
-        let at = 1 + TERM_BYTES * i;
-        let symbol = index(bytes[at]) as Symbol;
-        u = with_term(u, symbol, signed(bytes[at + 1], bytes[at + 2]));
+    for term in terms_in(bytes, n) {
+        u = with_term(u, Symbol::from(term[0]), signed(term[1], term[2]));
     }
     u
 }
@@ -52,10 +59,10 @@ fn unit_at(bytes: &[u8], n: usize) -> Unit
 pub fn read_value(bytes: &[u8]) -> Result<Option<Unit>, Refusal>
     ensures { result ≡ value_in bytes.now }
 {
-    if bytes.len() < 1 {
+    let Some(count) = bytes.first() else {
         return Err(Refusal::BadUnit);
-    }
-    let n = index(bytes[0]);
+    };
+    let n = usize::from(*count);
     if n <= PLACES {
         if bytes.len() == 1 + TERM_BYTES * n {
             return Ok(Some(unit_at(bytes, n)));
@@ -72,13 +79,14 @@ pub fn read_value(bytes: &[u8]) -> Result<Option<Unit>, Refusal>
 }
 
 // How many symbols the bytes say that there are, all there or not.
+#[tactic(auto, using(crate::proofs::Used::said_nothing, crate::proofs::Used::said_none, crate::proofs::Used::said_some))]
 fn symbols_said(bytes: &[u8]) -> usize
     ensures { (result ≡ said_in bytes.now) × (result < 256) }
 {
-    if bytes.len() < 1 {
+    let Some(count) = bytes.first() else {
         return 0;
-    }
-    let n = index(bytes[0]);
+    };
+    let n = usize::from(*count);
     if n == NONE_COUNT {
         return 0;
     }
@@ -90,17 +98,12 @@ fn symbols_said(bytes: &[u8]) -> usize
 pub fn are_used(bytes: &[u8], n: usize) -> bool
     ensures { result ≡ symbols_used n bytes.now }
 {
-    let said = symbols_said(bytes);
-    for i in 0..said {
-        let at = 1 + TERM_BYTES * i;
-        if at >= bytes.len() {
-            return true;
-        }
-        if !names::is_used(n, index(bytes[at])) {
-            return false;
-        }
-    }
-    true
+    bytes
+        .iter()
+        .skip(1)
+        .step_by(TERM_BYTES)
+        .take(symbols_said(bytes))
+        .all(|symbol| names::is_used(n, usize::from(*symbol)))
 }
 
 // A signed number as sixteen bits.
@@ -116,11 +119,9 @@ fn write_terms(out: &mut [u8], u: Unit)
     requires { (u.count ≤ places_max) × (unit_max ≤ length out.old) }
     ensures { out.new ≡ put out.old 1 (bytes_in (terms_of u)) }
 {
-    let n = u.count;
-    for i in 0..n {
-        let word = pages::count_bytes(raw(u.exponents[i]));
-        let symbol = (u.symbols[i] % 256) as u8;
-        let entry = [symbol, word[0], word[1]];
+    for (i, (s, e)) in u.terms().enumerate() {
+        let word = pages::count_bytes(raw(e));
+        let entry = [(s % 256) as u8, word[0], word[1]];
         pages::put_bytes(out, 1 + TERM_BYTES * i, &entry);
     }
 }

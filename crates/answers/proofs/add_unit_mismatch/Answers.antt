@@ -22,6 +22,6 @@ convertible-requires c =
 
 pub returns : goal.returns
 returns c =
-    clash_by (walk c.args.steps c.args.parents.now) c.args.left.unit c.args.right.unit
+    clash_by (walk c.args.groups.steps c.args.groups.parents.now) c.args.left.unit c.args.right.unit
     (sym c.is_dimensionless.ensures ∙ c.if-is_dimensionless.false) (sym c.is_dimensionless-2.ensures ∙ c.if-is_dimensionless-2.false) c.convertible.result
     (rw (c.or_empty-a.ensures, c.or_empty-b.ensures) at c.convertible.ensures)

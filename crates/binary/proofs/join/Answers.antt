@@ -14,4 +14,4 @@ returns-in-Some c =
 pub returns-in-None : goal.returns-in-None
 returns-in-None c =
     let a = c.args in
-    ((λ q e. rw c.or-in-None.ensures (fails_on a.x a.y a.o a.tally q e (none_cond _ (number_of a.o.checked) c.in-None.ensures))), search rules)
+    ((λ q e. rw c.failed_at.ensures.0 (fails_on a.x a.y a.o a.tally q e (none_cond _ (number_of a.o.checked) c.in-None.ensures))), search rules)

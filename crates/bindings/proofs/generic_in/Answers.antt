@@ -1,6 +1,10 @@
-use Rattle.std.proofs.Common.{◌≡◌, sym, ◌∙◌, true, false, arith}
-use Rattle.pages.proofs.Quant.{any_none, any_more, any_found}
-use Rattle.types.specs.Types.{arity, child_of}
+use Rattle.std.proofs.Common.{rules, tests, arith, ◌≡◌, sym, ◌∙◌, refl, ℕ, Bool}
+use Rattle.std.specs.List.{range_with_len, list_any}
+use Rattle.std.proofs.iter.Serving.{serving}
+use Rattle.std.proofs.lemmas.Iterator.{YieldsList-from_range, serves_from_Range}
+use Rattle.std.proofs.lemmas.Iterator.Search.{any_from_yields_List}
+use Rattle.pages.proofs.Ranges.{any_ranged}
+use Rattle.types.specs.Types.{child_of}
 use Rattle.types.proofs.Types.{held_by}
 use Rattle.bindings.specs.Generics.{has_generic}
 use Rattle.bindings.proofs.Generics.{generic_itself, generic_closed, generic_inside}
@@ -17,36 +21,16 @@ returns-then-not-is_entered c =
     generic_closed a.store.page.now (held_by a.store.held).sound a.t c.requires.0 c.kind_of-kind.result c.kind_of-kind.ensures
     c.if-kind-eq-GENERIC.false (sym c.is_entered.ensures ∙ c.if-not-is_entered.true)
 
-pub loop-i-init : goal.loop-i-init
-loop-i-init c = any_none _
-
-pub bounds-found-child_of : goal.bounds-found-child_of
-bounds-found-child_of c = omega (arith, c.child_of.ensures.1, c.requires.1)
-
-pub returns-then-found-child_of : goal.returns-then-found-child_of
-returns-then-found-child_of c =
-    let a = c.args in
-    let page = a.store.page.now in
-    let i = c.loop-i.i in
-    let hit : has_generic page (child_of page a.t i) ≡ true =
-    rw (← c.child_of.ensures.0) (sym (c.requires.2 c.child_of.result c.child_of.ensures.1) ∙ c.if-found-child_of.true) in
-    generic_inside page (held_by a.store.held).sound a.t c.requires.0 c.kind_of-kind.result c.kind_of-kind.ensures c.if-kind-eq-GENERIC.false
-    (sym c.is_entered.ensures ∙ c.if-not-is_entered.false) true
-    (any_found (λ j. has_generic page (child_of page a.t j)) (arity page a.t) i (rw (← c.arity-i-end.ensures.0) c.loop-i-test.true) hit)
-
-pub loop-i-preserved : goal.loop-i-preserved
-loop-i-preserved c =
-    let a = c.args in
-    let page = a.store.page.now in
-    let i = c.loop-i.i in
-    let miss : has_generic page (child_of page a.t i) ≡ false =
-    rw (← c.child_of.ensures.0) (sym (c.requires.2 c.child_of.result c.child_of.ensures.1) ∙ c.if-found-child_of.false) in
-    any_more (λ j. has_generic page (child_of page a.t j)) i c.loop-i.invariant miss
+pub any-requires-clause-callable : goal.any-requires-clause-callable
+any-requires-clause-callable c =
+    serves_from_Range (λ i q h. search (rules, tests)) (λ i low high. search (rules, serving))
 
 pub returns : goal.returns
 returns c =
     let a = c.args in
     let page = a.store.page.now in
-    let e : c.loop-i.i ≡ arity page a.t = omega (arith, c.arity-i-end.ensures.0, c.loop-i.auto.i-end, c.loop-i-test.false) in
+    let n = c.arity.result in
+    let test : ℕ → Bool = λ i. has_generic page (child_of page a.t i) in
+    let any : c.any.result ≡ list_any test (range_with_len 0 n) = any_from_yields_List test _ _ _ c.any.ensures.ran (YieldsList-from_range 0 n n refl (omega arith)) (λ x b q h. search (rules, tests)) in
     generic_inside page (held_by a.store.held).sound a.t c.requires.0 c.kind_of-kind.result c.kind_of-kind.ensures c.if-kind-eq-GENERIC.false
-    (sym c.is_entered.ensures ∙ c.if-not-is_entered.false) false (rw e at c.loop-i.invariant)
+    (sym c.is_entered.ensures ∙ c.if-not-is_entered.false) c.any.result (rw c.arity.ensures.0 at (sym (any ∙ any_ranged test n)))

@@ -1,28 +1,25 @@
-use Rattle.std.proofs.Common.{◌≡◌, sym, ◌∙◌, true, false, arith}
-use Rattle.pages.proofs.Quant.{all_none, all_more, all_failed}
-use Rattle.bindings.specs.Bindings.{good_binding}
+use Rattle.std.proofs.Common.{rules, tests, arith, ◌≡◌, ◌<◌, sym, ◌∙◌, refl}
+use Rattle.std.specs.List.{range_with_len, list_all}
+use Rattle.std.proofs.lemmas.Iterator.{YieldsList-from_range, serves_from_Range}
+use Rattle.std.proofs.lemmas.Iterator.Search.{all_from_yields_List}
+use Rattle.pages.proofs.Ranges.{all_ranged}
+use borrow.Author.Tests.{lt-leb}
+use Rattle.bindings.specs.Bindings.{bindings_max, good_binding}
 use Rattle.bindings.proofs.Bound.{formed_many, formed_rest}
 use Rattle.bindings.proofs.is_formed.Goals as goal
 
-pub returns-then-bindings-gt-BINDINGS : goal.returns-then-bindings-gt-BINDINGS
-returns-then-bindings-gt-BINDINGS c = formed_many c.args.n c.args.t c.args.bindings c.if-bindings-gt-BINDINGS.true
+pub all-requires-clause-callable : goal.all-requires-clause-callable
+all-requires-clause-callable c =
+    serves_from_Range (λ i q h. search (rules, tests)) (λ i low high. let few : i < bindings_max = omega (arith, high, c.if-bindings-le-BINDINGS.true) in search few)
 
-pub loop-i-init : goal.loop-i-init
-loop-i-init c = all_none _
-
-pub returns-then-not-is_good : goal.returns-then-not-is_good
-returns-then-not-is_good c =
+pub returns-then-bindings-le-BINDINGS : goal.returns-then-bindings-le-BINDINGS
+returns-then-bindings-le-BINDINGS c =
     let a = c.args in
-    formed_rest a.n a.t a.bindings c.if-bindings-gt-BINDINGS.false false
-    (all_failed (good_binding a.n a.t a.bindings) a.bindings.count c.loop-i.i c.loop-i-test.true (sym c.is_good.ensures ∙ c.if-not-is_good.true))
+    let test = good_binding a.n a.t a.bindings in
+    let all : c.all.result ≡ list_all test (range_with_len 0 a.bindings.count) = all_from_yields_List test _ _ _ c.all.ensures.ran (YieldsList-from_range 0 a.bindings.count a.bindings.count refl (omega arith)) (λ x b q h. search (rules, tests)) in
+    formed_rest a.n a.t a.bindings c.if-bindings-le-BINDINGS.true c.all.result (sym (all ∙ all_ranged test a.bindings.count))
 
-pub loop-i-preserved : goal.loop-i-preserved
-loop-i-preserved c =
+pub returns-else-bindings-le-BINDINGS : goal.returns-else-bindings-le-BINDINGS
+returns-else-bindings-le-BINDINGS c =
     let a = c.args in
-    all_more (good_binding a.n a.t a.bindings) c.loop-i.i c.loop-i.invariant (sym c.is_good.ensures ∙ c.if-not-is_good.false)
-
-pub returns : goal.returns
-returns c =
-    let a = c.args in
-    let e : c.loop-i.i ≡ a.bindings.count = omega (arith, c.loop-i.auto.i-end, c.loop-i-test.false) in
-    formed_rest a.n a.t a.bindings c.if-bindings-gt-BINDINGS.false true (rw e at c.loop-i.invariant)
+    lt-leb a.bindings.count bindings_max c.if-bindings-le-BINDINGS.false ∙ formed_many a.n a.t a.bindings c.if-bindings-le-BINDINGS.false

@@ -18,8 +18,8 @@ returns c =
     let types : length (replicate {A = ℕ} bindings_max 0) ≡ bindings_max = refl in
     let e = c.read_bytes.ensures ∙ ap (λ (k : ℕ). take k (drop 1 p)) names in
     let f = c.read_words.ensures ∙ ap (λ (k : ℕ). words_at p types_from k) types in (
-      rw (c.index.ensures.0, e, f) refl,
-      c.index.ensures.1,
+      rw (c.from.ensures, e, f) refl,
+      search rules,
       ap length e ∙ names_length p n,
       ap length f ∙ read_length p types_from bindings_max,
     )

@@ -2,9 +2,12 @@ use Rattle.std.specs.Prelude.{option_copied}
 use mathlib.Core.Path.{◌≡◌, sym, ap, ◌∙◌}
 use Rattle.calls.specs.Types.{checked_of}
 use Rattle.calls.specs.Answers.{operand_of, answered_code, out_after_answer}
-use Rattle.calls.proofs.Bytes.{units_read, unary_alike}
+use Rattle.calls.proofs.Bytes.{value_some, value_none, unary_alike}
 use Rattle.calls.proofs.Answers.{unary_few}
 use Rattle.calls.proofs.riddlepoppy_check_unary_operator.Goals as goal
+
+pub unread_unary-requires : goal.unread_unary-requires
+unread_unary-requires c = (value_none c.args.unit.now _ (sym c.read_value.ensures ∙ c.in_default.is)).0
 
 pub written_down-requires : goal.written_down-requires
 written_down-requires c =
@@ -16,8 +19,8 @@ pub returns-clause-value : goal.returns-clause-value
 returns-clause-value c =
     let a = c.args in
     let names = option_copied c.lent_names-names.result in
-    let u = units_read a.unit.now a.unit.now _ (sym c.units_in.ensures ∙ c.in-Some.is) in
-    let x : c.operand_of-x.result ≡ operand_of a.operand a.unit.now = c.operand_of-x.ensures ∙ ap (λ p. record { checked = checked_of a.operand; unit = p.0 }) u.1 in
+    let u = value_some a.unit.now _ (sym c.read_value.ensures ∙ c.in-Ok.is) in
+    let x : c.operand_of-x.result ≡ operand_of a.operand a.unit.now = c.operand_of-x.ensures ∙ ap (λ m. record { checked = checked_of a.operand; unit = m }) u.1 in
     let e = rw x at c.check_unary_operator-answer.ensures in
     let f = e.0 ∙ (unary_alike a.page.now names a.op a.operand a.unit.now u.0).0 in
     let w = c.written_down.ensures in
@@ -27,7 +30,7 @@ pub returns-clause-page_after : goal.returns-clause-page_after
 returns-clause-page_after c =
     let a = c.args in
     let names = option_copied c.lent_names-names.result in
-    let u = units_read a.unit.now a.unit.now _ (sym c.units_in.ensures ∙ c.in-Some.is) in
-    let x : c.operand_of-x.result ≡ operand_of a.operand a.unit.now = c.operand_of-x.ensures ∙ ap (λ p. record { checked = checked_of a.operand; unit = p.0 }) u.1 in
+    let u = value_some a.unit.now _ (sym c.read_value.ensures ∙ c.in-Ok.is) in
+    let x : c.operand_of-x.result ≡ operand_of a.operand a.unit.now = c.operand_of-x.ensures ∙ ap (λ m. record { checked = checked_of a.operand; unit = m }) u.1 in
     let e = rw x at c.check_unary_operator-answer.ensures in
     rw (← c.lent_names-names.ensures) (e.1 ∙ (unary_alike a.page.now names a.op a.operand a.unit.now u.0).1)

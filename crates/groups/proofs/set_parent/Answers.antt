@@ -4,4 +4,4 @@ use Rattle.groups.proofs.set_parent.Goals as goal
 
 pub returns-else-i-parents : goal.returns-else-i-parents
 returns-else-i-parents c =
-    sym (set_out c.args.parents.now c.args.symbol c.args.parent (rw c.symbol_index-i.ensures.0 at c.if-i-parents.false))
+    sym (set_out c.args.parents.now c.args.symbol c.args.parent (rw c.from-i.ensures at c.if-i-parents.false))

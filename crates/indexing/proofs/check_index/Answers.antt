@@ -1,4 +1,4 @@
-use mathlib.Core.Path.{ap, sym, ◌∙◌}
+use mathlib.Core.Path.{refl, ap, sym, ◌∙◌}
 use borrow.Author.Rules.{rules}
 use Rattle.types.specs.declared.Store.{Store}
 use Rattle.indexing.proofs.Trying.{noted_end}
@@ -11,14 +11,14 @@ kind_of-requires c =
     let a = c.args in
     let pre = c.requires in
     let t = c.in-Known.is in
-    rw c.store.ensures.0 (known_in_use a.page.now _ (rw t at pre.target_value.0))
+    rw c.store.ensures.0 (known_in_use a.maker.now.page.now _ (rw t at pre.target_value.0))
 
 pub check_index_any-requires : goal.check_index_any-requires
 check_index_any-requires c =
     let a = c.args in
     let pre = c.requires in
     let t = c.in-Known.is in
-    record { measured = pre.measured; t_bound = (known_in_use a.page.now _ (rw t at pre.target_value.0), pre.target_value.1); noted = pre.noted }
+    record { t_bound = (known_in_use a.maker.now.page.now _ (rw t at pre.target_value.0), pre.target_value.1); noted = pre.noted }
 
 pub returns-then-is_union : goal.returns-then-is_union
 returns-then-is_union c =
@@ -26,26 +26,26 @@ returns-then-is_union c =
     let t = c.in-Known.is in
     let u = rw (c.kind_of.ensures, c.store.ensures.0) at (sym c.is_union.ensures ∙ c.if-is_union.true) in
     let any = c.check_index_any.ensures in
-    record { page_after = rw t (any.page_after ∙ index_union a.page.now a.key _ u); measured_2 = any.measured_2; noted_2 = any.noted_2 }
+    record { page_after = rw t (any.page_after ∙ index_union a.maker.now.page.now a.key _ u); same = any.same; noted_2 = any.noted_2 }
 
 pub check_index_target-requires : goal.check_index_target-requires
 check_index_target-requires c =
     let a = c.args in
     let pre = c.requires in
     let t = c.in-Known.is in
-    rw c.store-in-Known.ensures.0 (known_in_use a.page.now _ (rw t at pre.target_value.0), pre.target_value.1)
+    rw c.store-in-Known.ensures.0 (known_in_use a.maker.now.page.now _ (rw t at pre.target_value.0), pre.target_value.1)
 
 pub returns-in-Unknown : goal.returns-in-Unknown
 returns-in-Unknown c =
     let a = c.args in
-    let same = index_unknown a.page.now a.key in
-    record { page_after = rw (c.in-Unknown.is, c.unknown.ensures) same; measured_2 = c.requires.measured; noted_2 = c.requires.noted }
+    let same = index_unknown a.maker.now.page.now a.key in
+    record { page_after = rw (c.in-Unknown.is, c.unknown.ensures) same; same = (refl, refl); noted_2 = c.requires.noted }
 
 pub returns-in-Function : goal.returns-in-Function
 returns-in-Function c =
     let a = c.args in
-    let same = index_function a.page.now a.key _ in
-    record { page_after = rw (c.in-Function.is, c.unknown-in-Function.ensures) same; measured_2 = c.requires.measured; noted_2 = c.requires.noted }
+    let same = index_function a.maker.now.page.now a.key _ in
+    record { page_after = rw (c.in-Function.is, c.unknown-in-Function.ensures) same; same = (refl, refl); noted_2 = c.requires.noted }
 
 pub returns-else-is_union : goal.returns-else-is_union
 returns-else-is_union c =
@@ -55,5 +55,5 @@ returns-else-is_union c =
     let u = rw (c.kind_of.ensures, c.store.ensures.0) at (sym c.is_union.ensures ∙ c.if-is_union.false) in
     let index = c.check_index_target in
     let e = rw c.store-in-Known.ensures.0 at index.ensures.value.0 in
-    let noted = noted_end index.new.matcher a.page.now (ap (λ (s : Store). s.page.now) index.ensures.same.0 ∙ c.store-in-Known.ensures.0) _ (search rules) in
-    record { page_after = rw (t, e) (index_other a.page.now a.key _ u); measured_2 = pre.measured; noted_2 = noted }
+    let noted = noted_end index.new.matcher a.maker.now.page.now (ap (λ (s : Store). s.page.now) index.ensures.same.0 ∙ c.store-in-Known.ensures.0) _ (search rules) in
+    record { page_after = rw (t, e) (index_other a.maker.now.page.now a.key _ u); same = (refl, refl); noted_2 = noted }

@@ -87,7 +87,7 @@ returns-then-is_map c =
     let h = rw c.child_of-wanted.ensures.0 at (sym matched.value ∙ c.if-matches.false) in
     let v = target_value store.page.now a.key a.t e m false h in record {
       value = target_is store.page.now (held_by store.held).sound a.t pre.0 a.key _
-          (rw c.child_of-value.ensures.0 v);
+          (c.known_with.ensures ∙ rw c.child_of-value.ensures.0 v);
       same = matched.same;
     }
 

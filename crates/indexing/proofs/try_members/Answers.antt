@@ -13,10 +13,8 @@ loop-x-init c =
       (refl, refl),
       record {
         so_far = none_tried a.matcher.now.store.page.now a.key a.t a.results.now;
-        size = c.requires.t_bound.2;
         few = omega arith;
         few_fail = omega arith;
-        first = refl;
       },
     )
 
@@ -40,7 +38,7 @@ join-trials-requires c =
     let h = rw (as_many store.page.now c.args.t flat.result _ flat.ensures) at c.loop-x-test.true in
     let few = types_few store.page.now (held_by store.held).sound in
     let target = rw c.loop-x.invariant.0.0 at c.check_index_target-o.ensures.value in
-    record { results_len = (going.size, omega (arith, going.few, n, h)); failing_lt_members_max = (omega (arith, going.few_fail, n, h), omega (arith, few, target.1)); first = going.first }
+    record { merged_lt_members_max = omega (arith, going.few, n, h); failing_lt_members_max = (omega (arith, going.few_fail, n, h), omega (arith, few, target.1)) }
 
 pub loop-x-preserved : goal.loop-x-preserved
 loop-x-preserved c =
@@ -60,10 +58,8 @@ loop-x-preserved c =
       (same.0 ∙ loop.invariant.0.0, same.1 ∙ loop.invariant.0.1),
       record {
         so_far = join.result_after ∙ more;
-        size = join.results_len_2.0;
-        few = omega (arith, join.results_len_2.1, going.few);
-        few_fail = omega (arith, join.results_len_2.2, going.few_fail);
-        first = join.first_2;
+        few = omega (arith, join.merged_bound.0, going.few);
+        few_fail = omega (arith, join.merged_bound.1, going.few_fail);
       },
     )
 
@@ -76,4 +72,4 @@ returns c =
     let flat = c.flatten-n.ensures in
     let many = as_many page a.t c.flatten-n.result _ flat in
     let all : loop.x-index ≡ size_of page a.t = omega (arith, loop.auto.x-index-end, c.loop-x-test.false, flat.0, many) in
-    record { result_after = going.so_far ∙ ap (members_tried page a.key a.t) all; results_len = (going.size, omega (arith, going.few, loop.auto.x-index-end, flat.1, many)); first = going.first; same = loop.invariant.0 }
+    record { result_after = going.so_far ∙ ap (members_tried page a.key a.t) all; merged_bound = omega (arith, going.few, loop.auto.x-index-end, flat.1, many); same = loop.invariant.0 }

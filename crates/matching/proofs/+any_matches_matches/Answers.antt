@@ -1,4 +1,4 @@
-use mathlib.Core.Path.{◌≡◌, sym, ◌∙◌}
+use mathlib.Core.Path.{◌≡◌, refl, sym, ◌∙◌}
 use mathlib.Core.Bool.{true, false}
 use Prim.Native.Nat.{ℕ, ◌<◌}
 use native.Mathlib.Omega.{arith}
@@ -24,8 +24,8 @@ any_matches-returns-then-not-is_union t c =
 pub any_matches-members-init : goal.any_matches-members-init
 any_matches-members-init t c = (c.requires.noted, all_none _)
 
-pub any_matches-recalls-requires : goal.any_matches-recalls-requires
-any_matches-recalls-requires t c =
+pub any_matches-recalled-requires : goal.any_matches-recalled-requires
+any_matches-recalled-requires t c =
     let um : c.member_of-m.result < types_in c.args.store.page.now = omega (arith, c.member_of-m.ensures.1, c.requires.a_bound.0) in
     let small = stored_small c.args.store.held in
     (small c.member_of-m.result um, small c.args.b c.requires.a_bound.1)
@@ -53,25 +53,19 @@ any_matches-matches-requires t c =
       (((in_use_known page c.member_of-m.result um, in_use_known page e.result used), c.loop-j.invariant.0)),
     )
 
-pub any_matches-members-preserved-then-recalls : goal.any_matches-members-preserved-then-recalls
-any_matches-members-preserved-then-recalls t c =
+pub any_matches-members-preserved-in-Some-true : goal.any_matches-members-preserved-in-Some-true
+any_matches-members-preserved-in-Some-true t c =
     let page = c.args.store.page.now in
     let a = c.args.a in
     let b = c.args.b in
     let s = c.members in
     let m = c.member_of-m.result in
     let ub : is_union (kind_of page b) ≡ true = (rw (← c.kind_of.ensures) (sym c.is_union.ensures ∙ c.if-not-is_union.false)) in
-    let r = recalled page s.memo s.invariant.0 m b true c.recalls.result c.recalls.ensures c.if-recalls.true in
+    let r = recalled page s.memo s.invariant.0 m b c.in-Some-true.field-0 true (sym c.in-Some-true.ensures) refl ∙ c.in-Some-true.field-0-test in
     (s.invariant.0, all_more (λ k. has_partner page (member_of page a k) b) s.i s.invariant.1 (rw (← c.member_of-m.ensures.0) (sym (found_union page m b ub) ∙ r)))
 
-pub any_matches-recalls-requires-in-members : goal.any_matches-recalls-requires-in-members
-any_matches-recalls-requires-in-members t c =
-    let um : c.member_of-m.result < types_in c.args.store.page.now = omega (arith, c.member_of-m.ensures.1, c.requires.a_bound.0) in
-    let small = stored_small c.args.store.held in
-    (small c.member_of-m.result um, small c.args.b c.requires.a_bound.1)
-
-pub any_matches-returns-then-recalls-2 : goal.any_matches-returns-then-recalls-2
-any_matches-returns-then-recalls-2 t c =
+pub any_matches-returns-in-Some-false : goal.any_matches-returns-in-Some-false
+any_matches-returns-in-Some-false t c =
     let page = c.args.store.page.now in
     let a = c.args.a in
     let b = c.args.b in
@@ -79,7 +73,7 @@ any_matches-returns-then-recalls-2 t c =
     let n = c.members_of-i-end in
     let m = c.member_of-m.result in
     let ub : is_union (kind_of page b) ≡ true = (rw (← c.kind_of.ensures) (sym c.is_union.ensures ∙ c.if-not-is_union.false)) in
-    let r = recalled page s.memo s.invariant.0 m b false c.recalls-in-members.result c.recalls-in-members.ensures c.if-recalls-2.true in
+    let r = recalled page s.memo s.invariant.0 m b c.in-Some-false.field-0 true (sym c.in-Some-false.ensures) refl ∙ c.in-Some-false.field-0-test in
     (one_alone page a b ub n.result n.ensures s.i c.members-test.true (rw (← c.member_of-m.ensures.0) (sym (found_union page m b ub) ∙ r)), s.invariant.0)
 
 pub any_matches-members-preserved : goal.any_matches-members-preserved

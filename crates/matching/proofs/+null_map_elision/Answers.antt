@@ -1,4 +1,4 @@
-use mathlib.Core.Path.{◌≡◌, sym, ◌∙◌}
+use mathlib.Core.Path.{◌≡◌, refl, sym, ◌∙◌}
 use mathlib.Core.Bool.{true, false}
 use native.Mathlib.Omega.{arith}
 use Rattle.kinds.specs.Kinds.{is_map}
@@ -17,27 +17,15 @@ pub returns-then-not-are_maps-clause-value : goal.returns-then-not-are_maps-clau
 returns-then-not-are_maps-clause-value t c =
     map_unlike c.args.store.page.now (held_by c.args.store.held).sound c.args.a c.requires.a_bound.0 c.args.b (sym c.are_maps.ensures ∙ c.if-not-are_maps.true)
 
-pub recalls-requires : goal.recalls-requires
-recalls-requires t c =
+pub recalled-requires : goal.recalled-requires
+recalled-requires t c =
     let small = stored_small c.args.store.held in
     (small c.args.a c.requires.a_bound.0, small c.args.b c.requires.a_bound.1)
 
-pub returns-then-recalls-clause-value : goal.returns-then-recalls-clause-value
-returns-then-recalls-clause-value t c =
+pub returns-in-Some-clause-value : goal.returns-in-Some-clause-value
+returns-in-Some-clause-value t c =
     let page = c.args.store.page.now in
-    let r = recalled page c.args.memo.now c.requires.noted c.args.a c.args.b true c.recalls.result c.recalls.ensures c.if-recalls.true in
-    sym r ∙ found_maps page c.args.a c.args.b (sym c.are_maps.ensures ∙ c.if-not-are_maps.false)
-
-pub recalls-requires-2 : goal.recalls-requires-2
-recalls-requires-2 t c =
-    let small = stored_small c.args.store.held in
-    (small c.args.a c.requires.a_bound.0, small c.args.b c.requires.a_bound.1)
-
-pub returns-then-recalls-2-clause-value : goal.returns-then-recalls-2-clause-value
-returns-then-recalls-2-clause-value t c =
-    let page = c.args.store.page.now in
-    let r = recalled page c.args.memo.now c.requires.noted c.args.a c.args.b false c.recalls-2.result c.recalls-2.ensures c.if-recalls-2.true in
-    sym r ∙ found_maps page c.args.a c.args.b (sym c.are_maps.ensures ∙ c.if-not-are_maps.false)
+    sym (recalled page c.args.memo.now c.requires.noted c.args.a c.args.b c.in-Some.answer true (sym c.in-Some.ensures) refl) ∙ found_maps page c.args.a c.args.b (sym c.are_maps.ensures ∙ c.if-not-are_maps.false)
 
 pub loop-i-init : goal.loop-i-init
 loop-i-init t c = (c.requires.noted, all_none _)

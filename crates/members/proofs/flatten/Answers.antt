@@ -10,14 +10,14 @@ use Rattle.members.proofs.flatten.Goals as goal
 
 pub overflow_cast-types : goal.overflow_cast-types
 overflow_cast-types c =
-    grind (arith, c.requires.0, types_few c.args.store.page.now (held_by c.args.store.held).sound)
+    grind (arith, c.requires, types_few c.args.store.page.now (held_by c.args.store.held).sound)
 
 pub returns-then-not-is_union : goal.returns-then-not-is_union
 returns-then-not-is_union c =
     let a = c.args in
     let pre = c.requires in
     let u = rw c.kind_of.ensures at (sym c.is_union.ensures ∙ c.if-not-is_union.true) in
-    flat_itself a.store.page.now (held_by c.args.store.held).sound a.t pre.0 a.types.now pre.1 u
+    flat_itself a.store.page.now (held_by c.args.store.held).sound a.t pre a.types.now c.told-types u
 
 pub loop-i-init : goal.loop-i-init
 unfolding gather
@@ -32,9 +32,9 @@ add_share-n-requires c =
     let loop = c.loop-i in
     let u = rw c.kind_of.ensures at (sym c.is_union.ensures ∙ c.if-not-is_union.false) in
     let h : loop.i < arity a.store.page.now a.t = omega (arith, c.arity-i-end.ensures.0, c.loop-i-test.true) in record {
-      x_bound = omega (arith, c.child_of.ensures.1, pre.0);
+      x_bound = omega (arith, c.child_of.ensures.1, pre);
       x_in_bounds = rw (c.child_of.ensures.0, loop.invariant.1)
-          (flat_room a.store.page.now (held_by c.args.store.held).sound a.t pre.0 a.types.now pre.1
+          (flat_room a.store.page.now (held_by c.args.store.held).sound a.t pre a.types.now c.told-types
           u loop.i loop.n loop.invariant.0 h);
     }
 
@@ -45,22 +45,11 @@ loop-i-preserved c =
     let loop = c.loop-i in
     let u = rw c.kind_of.ensures at (sym c.is_union.ensures ∙ c.if-not-is_union.false) in
     let h : loop.i < arity a.store.page.now a.t = omega (arith, c.arity-i-end.ensures.0, c.loop-i-test.true) in
-    let m = flat_more a.store.page.now (held_by c.args.store.held).sound a.t pre.0 a.types.now pre.1
+    let m = flat_more a.store.page.now (held_by c.args.store.held).sound a.t pre a.types.now c.told-types
     u loop.i loop.n loop.invariant.0 h in (
       c.add_share-n.ensures.0 ∙ rw c.child_of.ensures.0 m.0,
       c.add_share-n.ensures.1 ∙ rw (c.child_of.ensures.0, loop.invariant.1) m.1,
     )
-
-pub shape_of-types : goal.shape_of-types
-shape_of-types c =
-    let a = c.args in
-    let pre = c.requires in
-    let loop = c.loop-i in
-    let u = rw c.kind_of.ensures at (sym c.is_union.ensures ∙ c.if-not-is_union.false) in
-    let e : loop.i ≡ arity a.store.page.now a.t = omega (arith, loop.auto.i-end, c.loop-i-test.false, c.arity-i-end.ensures.0) in
-    rw loop.invariant.1
-    ((flat_all a.store.page.now (held_by c.args.store.held).sound a.t pre.0 a.types.now pre.1
-    u loop.i loop.n loop.invariant.0 e).3 ∙ sym pre.1)
 
 pub returns : goal.returns
 returns c =
@@ -70,4 +59,4 @@ returns c =
     let u = rw c.kind_of.ensures at (sym c.is_union.ensures ∙ c.if-not-is_union.false) in
     let e : loop.i ≡ arity a.store.page.now a.t = omega (arith, loop.auto.i-end, c.loop-i-test.false, c.arity-i-end.ensures.0) in
     rw loop.invariant.1
-    (flat_all a.store.page.now (held_by c.args.store.held).sound a.t pre.0 a.types.now pre.1 u loop.i loop.n loop.invariant.0 e)
+    (flat_all a.store.page.now (held_by c.args.store.held).sound a.t pre a.types.now c.told-types u loop.i loop.n loop.invariant.0 e)

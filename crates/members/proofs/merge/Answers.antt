@@ -5,4 +5,4 @@ use Rattle.members.proofs.merge.Goals as goal
 pub returns : goal.returns
 returns c =
     let a = c.args in
-    merge_new a.types.now a.n a.t c.requires.0 c.requires.1 (sym c.contains.ensures.value ∙ c.if-contains.false)
+    merge_new a.types.now a.n a.t c.told-types c.requires.0 (sym c.contains.ensures.value ∙ c.if-contains.false)

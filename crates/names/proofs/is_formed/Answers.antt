@@ -1,6 +1,6 @@
 use mathlib.Core.Path.{◌≡◌, refl, sym, ◌∙◌}
 use native.Mathlib.Omega.{arith}
-use Rattle.names.proofs.Table.{bad_past, bad_long, bad_name, unformed_short, unformed_many, unformed_at, formed_when}
+use Rattle.names.proofs.Table.{name_there, bad_past, bad_long, bad_name, unformed_short, unformed_many, unformed_at, formed_when}
 use Rattle.names.proofs.Prints.{tables_none, tables_more, head_is, known_name}
 use Rattle.names.proofs.is_formed.Goals as goal
 
@@ -16,8 +16,7 @@ returns-then-n-gt-NAMES c =
 pub loop-i-init : goal.loop-i-init
 loop-i-init c =
     let if1 = c.if-page-lt-COUNT_BYTES in
-    let no-heads = c.no_heads-heads in
-    (omega arith, omega (arith, if1.false), tables_none c.args.page.now _ _ _ if1.false no-heads.ensures refl refl)
+    (omega arith, omega (arith, if1.false), tables_none c.args.page.now _ _ _ if1.false c.new-chains.ensures.0 c.new-chains.ensures.1 refl)
 
 pub returns-then-at-page : goal.returns-then-at-page
 returns-then-at-page c =
@@ -36,9 +35,9 @@ returns-then-end-page c =
     let if2 = c.if-n-gt-NAMES in
     let loop = c.loop-i in
     let loop-test = c.loop-i-test in
-    let index = c.index in
+    let end = c.name_end-end in
     (unformed_at c.args.page.now _ count.ensures.0 if1.false if2.false loop.i loop-test.true)
-    (bad_long c.args.page.now loop.i loop.at index.result loop.invariant.2.stands index.ensures.0 c.if-end-page.true)
+    (bad_long c.args.page.now loop.i loop.at end.result loop.invariant.2.stands end.ensures c.if-end-page.true)
 
 pub returns-then-not-is_name : goal.returns-then-not-is_name
 returns-then-not-is_name c =
@@ -47,32 +46,26 @@ returns-then-not-is_name c =
     let if2 = c.if-n-gt-NAMES in
     let loop = c.loop-i in
     let loop-test = c.loop-i-test in
-    let index = c.index in
+    let end = c.name_end-end in
     let if4 = c.if-end-page in
     let is_name = c.is_name in
     (unformed_at c.args.page.now _ count.ensures.0 if1.false if2.false loop.i loop-test.true)
-    (bad_name c.args.page.now loop.i loop.at index.result loop.invariant.2.stands index.ensures.0 if4.false (sym is_name.ensures ∙ c.if-not-is_name.true))
+    (bad_name c.args.page.now loop.i loop.at end.result loop.invariant.2.stands end.ensures if4.false _ (c.name_from-name.ensures ∙ name_there c.args.page.now loop.i loop.at loop.invariant.2.stands) (sym is_name.ensures ∙ c.if-not-is_name.true))
 
 pub slice_bounds-is_among-end : goal.slice_bounds-is_among-end
 slice_bounds-is_among-end c =
     let loop = c.loop-i in
     sym loop.invariant.2.notes
 
-pub slice_bounds-is_among-end-in-loop-i : goal.slice_bounds-is_among-end-in-loop-i
-slice_bounds-is_among-end-in-loop-i c =
-    let loop = c.loop-i in
-    sym loop.invariant.2.places
-
 pub is_among-requires : goal.is_among-requires
 is_among-requires c =
     let loop = c.loop-i in
-    let index = c.index in
+    let end = c.name_end-end in
     let if4 = c.if-end-page in
     let is_name = c.is_name in
     let if5 = c.if-not-is_name in
     let print-of = c.print_of-print in
-    let word-index = c.word_index-head in
-    (loop.invariant.2.chain, head_is c.args.page.now loop.i loop.at index.result loop.heads loop.links loop.offsets loop.invariant.2 index.ensures.0 if4.false (sym is_name.ensures ∙ if5.false) print-of.result print-of.ensures.0 print-of.ensures.1 word-index.result word-index.ensures.0)
+    (loop.invariant.2.chain, print-of.ensures.1, head_is c.args.page.now loop.i loop.at end.result loop.chains.heads loop.chains.links loop.offsets loop.invariant.2 end.ensures if4.false _ (c.name_from-name.ensures ∙ name_there c.args.page.now loop.i loop.at loop.invariant.2.stands) (sym is_name.ensures ∙ if5.false) print-of.result print-of.ensures.0 print-of.ensures.1 _ refl)
 
 pub returns-then-is_among : goal.returns-then-is_among
 returns-then-is_among c =
@@ -81,40 +74,23 @@ returns-then-is_among c =
     let if2 = c.if-n-gt-NAMES in
     let loop = c.loop-i in
     let loop-test = c.loop-i-test in
-    let index = c.index in
+    let end = c.name_end-end in
     let if4 = c.if-end-page in
     let is_name = c.is_name in
     let if5 = c.if-not-is_name in
     let is_among = c.is_among in
     (unformed_at c.args.page.now _ count.ensures.0 if1.false if2.false loop.i loop-test.true)
-    (known_name c.args.page.now loop.i loop.at index.result loop.heads loop.links loop.offsets loop.invariant.2 index.ensures.0 if4.false (sym is_name.ensures ∙ if5.false) is_among.result is_among.ensures c.if-is_among.true)
-
-pub slice_bounds-link-end : goal.slice_bounds-link-end
-slice_bounds-link-end c =
-    let loop = c.loop-i in
-    sym loop.invariant.2.prints
-
-pub slice_bounds-link-end-in-loop-i : goal.slice_bounds-link-end-in-loop-i
-slice_bounds-link-end-in-loop-i c =
-    let loop = c.loop-i in
-    sym loop.invariant.2.places
+    (known_name c.args.page.now loop.i loop.at end.result loop.chains.heads loop.chains.links loop.offsets loop.invariant.2 end.ensures if4.false _ (c.name_from-name.ensures ∙ name_there c.args.page.now loop.i loop.at loop.invariant.2.stands) (sym is_name.ensures ∙ if5.false) is_among.result is_among.ensures c.if-is_among.true)
 
 pub link-requires : goal.link-requires
-link-requires c =
-    let if2 = c.if-n-gt-NAMES in
-    let loop = c.loop-i in
-    let loop-test = c.loop-i-test in
-    let print-of = c.print_of-print in
-    let more = loop-test.true in
-    let few = if2.false in
-    (omega (arith, loop.invariant.2.prints, print-of.ensures.1), omega (arith, loop.invariant.2.places), omega arith)
+link-requires c = (omega arith, (c.print_of-print.ensures.1, omega (arith, c.loop-i-test.true, c.if-n-gt-NAMES.false), omega (arith, c.loop-i-test.true, c.if-n-gt-NAMES.false)))
 
 pub loop-i-preserved : goal.loop-i-preserved
 loop-i-preserved c =
     let if2 = c.if-n-gt-NAMES in
     let loop = c.loop-i in
     let loop-test = c.loop-i-test in
-    let index = c.index in
+    let end = c.name_end-end in
     let if4 = c.if-end-page in
     let is_name = c.is_name in
     let if5 = c.if-not-is_name in
@@ -122,7 +98,7 @@ loop-i-preserved c =
     let is_among = c.is_among in
     let if6 = c.if-is_among in
     let link = c.link in
-    (omega (arith, loop-test.true), if4.false, tables_more c.args.page.now loop.i loop.at index.result loop.heads loop.links loop.offsets loop.invariant.2 index.ensures.0 if4.false (sym is_name.ensures ∙ if5.false) print-of.result print-of.ensures.0 print-of.ensures.1 is_among.result is_among.ensures if6.false (omega (arith, loop-test.true, if2.false)) _ _ _ link.ensures.0 link.ensures.1 refl)
+    (omega (arith, loop-test.true), if4.false, tables_more c.args.page.now loop.i loop.at end.result loop.chains.heads loop.chains.links loop.offsets loop.invariant.2 end.ensures if4.false _ (c.name_from-name.ensures ∙ name_there c.args.page.now loop.i loop.at loop.invariant.2.stands) (sym is_name.ensures ∙ if5.false) print-of.result print-of.ensures.0 print-of.ensures.1 is_among.result is_among.ensures if6.false (omega (arith, loop-test.true, if2.false)) _ _ _ link.ensures.0 link.ensures.1 refl)
 
 pub returns : goal.returns
 returns c =

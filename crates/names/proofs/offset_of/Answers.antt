@@ -1,4 +1,4 @@
-use mathlib.Core.Path.{◌≡◌, refl}
+use mathlib.Core.Path.{◌≡◌, refl, ◌∙◌}
 use native.Mathlib.Omega.{arith}
 use Rattle.names.proofs.Table.{offset_ge, step_in, step_at}
 use Rattle.names.specs.Table.{offset}
@@ -9,27 +9,18 @@ unfolding offset
 loop-i-init c =
     (omega arith, refl, let z = offset_ge c.args.page.now c.args.n in omega (arith, c.requires))
 
-pub overflow_add-at : goal.overflow_add-at
-overflow_add-at c =
+pub name_end-at-requires : goal.name_end-at-requires
+name_end-at-requires c =
     let loop = c.loop-i in
     let z = step_in c.args.page.now loop.i loop.at c.args.n loop.invariant.1 c.loop-i-test.true c.requires in omega arith
-
-pub bounds-page-at : goal.bounds-page-at
-bounds-page-at c =
-    let loop = c.loop-i in
-    let z = step_in c.args.page.now loop.i loop.at c.args.n loop.invariant.1 c.loop-i-test.true c.requires in omega arith
-
-pub overflow_add-at-in-loop-i : goal.overflow_add-at-in-loop-i
-overflow_add-at-in-loop-i c =
-    let loop = c.loop-i in
-    let loop-test = c.loop-i-test in
-    let z = step_in c.args.page.now loop.i loop.at c.args.n loop.invariant.1 loop-test.true c.requires in omega arith
 
 pub loop-i-preserved : goal.loop-i-preserved
 loop-i-preserved c =
     let loop = c.loop-i in
     let loop-test = c.loop-i-test in
-    (omega arith, step_at c.args.page.now loop.i loop.at c.args.n loop.invariant.1 loop-test.true c.requires _ c.index.ensures.0, let z = step_in c.args.page.now loop.i loop.at c.args.n loop.invariant.1 loop-test.true c.requires in omega arith)
+    let end = c.name_end-at.ensures in
+    let z = step_in c.args.page.now loop.i loop.at c.args.n loop.invariant.1 loop-test.true c.requires in
+    (omega arith, end ∙ step_at c.args.page.now loop.i loop.at c.args.n loop.invariant.1 loop-test.true c.requires, omega (arith, end, z))
 
 pub returns : goal.returns
 returns c =

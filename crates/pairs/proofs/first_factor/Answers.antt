@@ -3,6 +3,7 @@ use Rattle.std.proofs.lemmas.Result.{err_from_is_err_and}
 use mathlib.Core.Path.{sym, ◌∙◌}
 use native.Mathlib.Omega.{arith}
 use Rattle.names.specs.Calls.{used_of}
+use Rattle.pairs.proofs.Bodies.{first_said}
 use Rattle.pairs.proofs.Page.{formed_held}
 use Rattle.pairs.proofs.Calls.{passed_formed, factor_refused, bodies_read, factor_given}
 use Rattle.pairs.proofs.first_factor.Goals as goal
@@ -26,8 +27,8 @@ parents_at-requires c =
     let h = formed_held a.page.now (used_of (option_copied a.names)) (passed_formed a.page.now (option_copied a.names) a.symbol v) in
     omega (arith, h.few, c.count-k.ensures.0)
 
-pub slice_bounds-bodies-end : goal.slice_bounds-bodies-end
-slice_bounds-bodies-end c =
+pub slice_bounds-bodies_of-end : goal.slice_bounds-bodies_of-end
+slice_bounds-bodies_of-end c =
     let a = c.args in
     let v = sym c.in_ok-symbol_verdict.was ∙ c.symbol_verdict.ensures in
     let h = formed_held a.page.now (used_of (option_copied a.names)) (passed_formed a.page.now (option_copied a.names) a.symbol v) in
@@ -37,6 +38,8 @@ pub returns : goal.returns
 returns c =
     let a = c.args in
     let count = c.count-k in
+    let bodies = c.bodies_of-bodies in
     let v = sym c.in_ok-symbol_verdict.was ∙ c.symbol_verdict.ensures in
     let e = bodies_read a.page.now count.result c.parents_at.result count.ensures.0 c.parents_at.ensures in
-    rw (c.factor_in.ensures, e) (factor_given a.page.now (option_copied a.names) a.symbol v count.result count.ensures.0)
+    let first = c.factor_in.ensures ∙ first_said count.result _ bodies.result.now bodies.ensures.0 a.symbol in
+    rw (first, e) (factor_given a.page.now (option_copied a.names) a.symbol v count.result count.ensures.0)

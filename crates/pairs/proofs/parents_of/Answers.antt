@@ -1,9 +1,9 @@
 use mathlib.Core.Path.{◌≡◌, ap, ◌∙◌}
+use borrow.Author.Rules.{rules}
 use lib.ListN.{length}
 use native.Mathlib.Omega.{arith}
 use Rattle.names.specs.Table.{names_max}
 use Rattle.groups.proofs.UnionFind.{length_selves}
-use Rattle.pairs.proofs.Page.{parents_read}
 use Rattle.pairs.proofs.parents_of.Goals as goal
 
 pub read_bytes-requires : goal.read_bytes-requires
@@ -14,4 +14,4 @@ read_bytes-requires c =
 pub returns : goal.returns
 returns c =
     let size : length c.own_parents-parents.result ≡ names_max = ap length c.own_parents-parents.ensures ∙ length_selves 0 names_max in
-    parents_read c.args.page.now c.parents_at-at.result c.requires (c.parents_at-at.ensures ∙ rw c.count.ensures.0) _ (c.read_bytes.ensures ∙ rw size)
+    (c.read_bytes.ensures ∙ rw (size, c.parents_at-at.ensures, c.count.ensures.0), search rules)

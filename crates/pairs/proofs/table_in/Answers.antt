@@ -1,4 +1,3 @@
-use mathlib.Core.Path.{◌∙◌}
 use Rattle.pairs.proofs.Page.{table_read}
 use Rattle.pairs.proofs.table_in.Goals as goal
 
@@ -9,4 +8,4 @@ returns c =
     c.parents_at-at.ensures
     (rw k.ensures.0 c.requires.few)
     (rw k.ensures.0 c.requires.room) _ _
-    (c.put_bytes.ensures ∙ rw c.no_bodies-pairs.ensures) c.parents_of-parents.ensures.0
+    c.put_bytes.ensures c.parents_of-parents.ensures.0

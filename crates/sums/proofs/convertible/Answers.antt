@@ -9,7 +9,7 @@ use Rattle.sums.proofs.convertible.Goals as goal
 pub returns : goal.returns
 returns c =
     let g = c.args in
-    let root = walk g.steps g.parents.now in
+    let root = walk g.groups.steps g.groups.parents.now in
     same_from_decides _ _
     (equal_sums root g.left g.right c.requires.0 c.requires.1 _ _ c.group_sums-a.ensures c.group_sums-b.ensures _ c.eq.ensures)
     (convertible_sums names_max root (terms_of g.left) (terms_of g.right))

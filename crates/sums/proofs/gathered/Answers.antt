@@ -10,6 +10,7 @@ use mir.Val.{of_z}
 use borrow.Author.Tests.{eq-eqb, ne_eqb}
 use Rattle.units.specs.Unit.{is_zero}
 use Rattle.units.proofs.Signed.{back, bits_zero}
+use Rattle.sums.specs.Sums.{sums_from}
 use Rattle.sums.proofs.Gather.{gathering_in, gathering_room, gathering_none, gathering_next, gathering_end}
 use Rattle.sums.proofs.gathered.Goals as goal
 use Rattle.sums.proofs.gathered.Goals.{then-e-ne0, else-e-ne0}
@@ -26,12 +27,12 @@ with_term-w-requires c =
 pub loop-s-smaller : goal.loop-s-smaller
 loop-s-smaller c =
     let g = gathering_in c.args.u (search rules) c.requires.0 c.loop-s.w c.loop-s.lo c.loop-s.invariant c.in-Some.s (sym c.in-Some.ensures) in
-    omega (arith, g.0, g.1, c.symbol_index-lo.ensures.0)
+    omega (arith, g.0, g.1, c.from-lo.ensures)
 
 pub loop-s-preserved : goal.loop-s-preserved
 loop-s-preserved c =
     let t = tested c.sum_of-e.result _ c.sum_of-e.type_inv c.sum_of-e.ensures in
-    rw c.symbol_index-lo.ensures.0
+    rw c.from-lo.ensures
     (elim c.if-e-ne0.branch [
       | then-e-ne0 w ↦
           rw (w.w-is, w.with_term-w.ensures, back c.sum_of-e.result c.sum_of-e.type_inv, c.sum_of-e.ensures)
@@ -42,4 +43,5 @@ loop-s-preserved c =
     ])
 
 pub returns : goal.returns
-returns c = rw (gathering_end c.args.u (search rules) c.requires.0 c.loop-s.w c.loop-s.lo c.loop-s.invariant (sym c.in_default.ensures))
+returns c =
+    c.from.ensures ∙ ap sums_from (gathering_end c.args.u (search rules) c.requires.0 c.loop-s.w c.loop-s.lo c.loop-s.invariant (sym c.in_default.ensures))

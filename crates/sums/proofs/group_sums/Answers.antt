@@ -14,7 +14,7 @@ rooted-requires c =
 pub gathered-requires : goal.gathered-requires
 gathered-requires c =
     let g = c.args in
-    let root = walk g.steps g.parents.now in (
+    let root = walk g.groups.steps g.groups.parents.now in (
       roots_count root g.u c.rooted.result c.requires c.rooted.ensures,
       roots_inside root g.u c.rooted.result c.requires c.rooted.ensures,
     )
@@ -23,4 +23,4 @@ pub returns : goal.returns
 returns c =
     let rooted = c.rooted in
     let g = c.args in
-    c.gathered.ensures ∙ roots_sums (walk g.steps g.parents.now) g.u rooted.result c.requires rooted.ensures
+    c.gathered.ensures ∙ roots_sums (walk g.groups.steps g.groups.parents.now) g.u rooted.result c.requires rooted.ensures

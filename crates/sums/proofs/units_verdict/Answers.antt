@@ -1,97 +1,47 @@
 use Rattle.std.specs.Prelude.{option_copied}
+use Rattle.std.proofs.lemmas.Result.{err_from_is_err_and}
 use mathlib.Core.Path.{sym, ◌∙◌}
-use Rattle.pairs.proofs.Calls.{unbroken}
-use Rattle.sums.proofs.Calls.{units_broken, left_unused, right_unused, left_bad, right_bad, units_passed}
+use Rattle.units.proofs.Calls.{form_ok, form_err}
+use Rattle.pairs.proofs.Calls.{opened_ok}
+use Rattle.sums.proofs.Calls.{units_unopened, left_unused, right_unused, left_bad, right_judged}
 use Rattle.sums.proofs.units_verdict.Goals as goal
 
-pub returns-then-is_broken : goal.returns-then-is_broken
-returns-then-is_broken c =
+pub returns-in_err-n : goal.returns-in_err-n
+returns-in_err-n c =
     let g = c.args in
-    units_broken g.page.now (option_copied g.names) g.a g.b (sym c.is_broken.ensures ∙ c.if-is_broken.true)
-
-pub in_use-n-requires : goal.in_use-n-requires
-in_use-n-requires c =
-    let g = c.args in
-    (unbroken g.page.now (option_copied g.names) (sym c.is_broken.ensures ∙ c.if-is_broken.false)).0
+    let p = err_from_is_err_and c.from_residual.result c.from_residual.ensures.1 in
+    rw (p.1, p.2) (units_unopened g.page.now (option_copied g.names) g.a g.b _ (sym c.in_err-n.was ∙ c.opened.ensures.0))
 
 pub returns-then-not-is_used : goal.returns-then-not-is_used
 returns-then-not-is_used c =
-    let is-broken = c.is_broken in
-    let is-used = c.is_used in
     let g = c.args in
-    let t = sym is-broken.ensures ∙ c.if-is_broken.false in
-    let u = sym is-used.ensures ∙ c.if-not-is_used.true in
-    left_unused g.page.now (option_copied g.names) g.a g.b t (rw c.in_use-n.ensures.0 at u)
+    let o = opened_ok g.page.now (option_copied g.names) c.in_ok-n.n (sym c.in_ok-n.was ∙ c.opened.ensures.0) in
+    let u = rw o.1 at (sym c.is_used.ensures ∙ c.if-not-is_used.true) in
+    left_unused g.page.now (option_copied g.names) g.a g.b o.0 u
 
 pub returns-then-not-is_used-2 : goal.returns-then-not-is_used-2
 returns-then-not-is_used-2 c =
-    let is-broken = c.is_broken in
-    let if1 = c.if-is_broken in
-    let is-used = c.is_used in
-    let is-used2 = c.is_used-2 in
-    let in_use = c.in_use-n in
     let g = c.args in
-    let t = sym is-broken.ensures ∙ if1.false in
-    let u = sym is-used.ensures ∙ c.if-not-is_used.false in
-    let w = sym is-used2.ensures ∙ c.if-not-is_used-2.true in
-    right_unused g.page.now (option_copied g.names) g.a g.b t (rw in_use.ensures.0 at u)
-    (rw in_use.ensures.0 at w)
+    let o = opened_ok g.page.now (option_copied g.names) c.in_ok-n.n (sym c.in_ok-n.was ∙ c.opened.ensures.0) in
+    let u = rw o.1 at (sym c.is_used.ensures ∙ c.if-not-is_used.false) in
+    let w = rw o.1 at (sym c.is_used-2.ensures ∙ c.if-not-is_used-2.true) in
+    right_unused g.page.now (option_copied g.names) g.a g.b o.0 u w
 
-pub returns-then-not-is_formed : goal.returns-then-not-is_formed
-returns-then-not-is_formed c =
-    let is-broken = c.is_broken in
-    let if1 = c.if-is_broken in
-    let is-used = c.is_used in
-    let if2 = c.if-not-is_used in
-    let is-used2 = c.is_used-2 in
-    let is-formed = c.is_formed in
-    let in_use = c.in_use-n in
+pub returns-in_err-unit_form : goal.returns-in_err-unit_form
+returns-in_err-unit_form c =
     let g = c.args in
-    let t = sym is-broken.ensures ∙ if1.false in
-    let u = sym is-used.ensures ∙ if2.false in
-    let w = sym is-used2.ensures ∙ c.if-not-is_used-2.false in
-    let x = sym is-formed.ensures ∙ c.if-not-is_formed.true in
-    left_bad g.page.now (option_copied g.names) g.a g.b t (rw in_use.ensures.0 at u)
-    (rw in_use.ensures.0 at w) x
-
-pub returns-then-not-is_formed-2 : goal.returns-then-not-is_formed-2
-returns-then-not-is_formed-2 c =
-    let is-broken = c.is_broken in
-    let if1 = c.if-is_broken in
-    let is-used = c.is_used in
-    let if2 = c.if-not-is_used in
-    let is-used2 = c.is_used-2 in
-    let if3 = c.if-not-is_used-2 in
-    let is-formed = c.is_formed in
-    let is-formed2 = c.is_formed-2 in
-    let in_use = c.in_use-n in
-    let g = c.args in
-    let t = sym is-broken.ensures ∙ if1.false in
-    let u = sym is-used.ensures ∙ if2.false in
-    let w = sym is-used2.ensures ∙ if3.false in
-    let x = sym is-formed.ensures ∙ c.if-not-is_formed.false in
-    let y = sym is-formed2.ensures ∙ c.if-not-is_formed-2.true in
-    right_bad g.page.now (option_copied g.names) g.a g.b t
-    (rw in_use.ensures.0 at u)
-    (rw in_use.ensures.0 at w) x y
+    let o = opened_ok g.page.now (option_copied g.names) c.in_ok-n.n (sym c.in_ok-n.was ∙ c.opened.ensures.0) in
+    let u = rw o.1 at (sym c.is_used.ensures ∙ c.if-not-is_used.false) in
+    let w = rw o.1 at (sym c.is_used-2.ensures ∙ c.if-not-is_used-2.false) in
+    let p = err_from_is_err_and c.from_residual-in_err-unit_form.result c.from_residual-in_err-unit_form.ensures.1 in
+    let x = form_err g.a _ (sym c.in_err-unit_form.was ∙ c.unit_form.ensures) in
+    rw (p.1, p.2, x.1) (left_bad g.page.now (option_copied g.names) g.a g.b o.0 u w x.0)
 
 pub returns : goal.returns
 returns c =
-    let is-broken = c.is_broken in
-    let if1 = c.if-is_broken in
-    let is-used = c.is_used in
-    let if2 = c.if-not-is_used in
-    let is-used2 = c.is_used-2 in
-    let if3 = c.if-not-is_used-2 in
-    let is-formed = c.is_formed in
-    let is-formed2 = c.is_formed-2 in
-    let in_use = c.in_use-n in
     let g = c.args in
-    let t = sym is-broken.ensures ∙ if1.false in
-    let u = sym is-used.ensures ∙ if2.false in
-    let w = sym is-used2.ensures ∙ if3.false in
-    let x = sym is-formed.ensures ∙ c.if-not-is_formed.false in
-    let y = sym is-formed2.ensures ∙ c.if-not-is_formed-2.false in
-    units_passed g.page.now (option_copied g.names) g.a g.b t
-    (rw in_use.ensures.0 at u)
-    (rw in_use.ensures.0 at w) x y
+    let o = opened_ok g.page.now (option_copied g.names) c.in_ok-n.n (sym c.in_ok-n.was ∙ c.opened.ensures.0) in
+    let u = rw o.1 at (sym c.is_used.ensures ∙ c.if-not-is_used.false) in
+    let w = rw o.1 at (sym c.is_used-2.ensures ∙ c.if-not-is_used-2.false) in
+    let x = form_ok g.a (sym c.in_ok-unit_form.was ∙ c.unit_form.ensures) in
+    c.unit_form-2.ensures ∙ right_judged g.page.now (option_copied g.names) g.a g.b o.0 u w x

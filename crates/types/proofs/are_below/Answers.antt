@@ -1,18 +1,19 @@
-use Rattle.std.proofs.Common.{sym}
-use borrow.Author.Tests.{le-ltb, lt-ltb}
-use Rattle.pages.proofs.Quant.{all_none, all_more, all_failed}
+use Rattle.std.proofs.Common.{rules, tests, arith, ◌≡◌, ◌∙◌, refl}
+use Rattle.std.specs.List.{range_with_len, list_all}
+use Rattle.std.proofs.iter.Serving.{serving}
+use Rattle.std.proofs.lemmas.Iterator.{YieldsList-from_range, serves_from_Range}
+use Rattle.std.proofs.lemmas.Iterator.Search.{all_from_yields_List}
+use Rattle.pages.proofs.Ranges.{all_ranged}
 use Rattle.types.specs.Store.{is_below}
 use Rattle.types.proofs.are_below.Goals as goal
 
-pub loop-i-init : goal.loop-i-init
-loop-i-init c = all_none (is_below c.args.page.now c.args.o c.args.t)
+pub all-requires-clause-callable : goal.all-requires-clause-callable
+all-requires-clause-callable c =
+    serves_from_Range (λ i q h. search (rules, tests)) (λ i low high. search (rules, serving))
 
-pub returns-then-t-word_at : goal.returns-then-t-word_at
-returns-then-t-word_at c =
+pub returns : goal.returns
+returns c =
     let a = c.args in
-    sym (all_failed (is_below a.page.now a.o a.t) a.k c.loop-i.i c.loop-i-test.true (le-ltb _ _ (rw c.word_at.ensures.0 at c.if-t-word_at.true)))
-
-pub loop-i-preserved : goal.loop-i-preserved
-loop-i-preserved c =
-    let a = c.args in
-    all_more (is_below a.page.now a.o a.t) c.loop-i.i c.loop-i.invariant (lt-ltb _ _ (rw c.word_at.ensures.0 at c.if-t-word_at.false))
+    let test = is_below a.page.now a.o a.t in
+    let all : c.all.result ≡ list_all test (range_with_len 0 a.k) = all_from_yields_List test _ _ _ c.all.ensures.ran (YieldsList-from_range 0 a.k a.k refl (omega arith)) (λ x b q h. search (rules, tests)) in
+    all ∙ all_ranged test a.k

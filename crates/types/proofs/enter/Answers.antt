@@ -1,5 +1,5 @@
 use Rattle.std.proofs.Common.{◌≡◌, refl, ℕ, ◌≤◌, arith}
-use Rattle.types.proofs.Making.{enter_two, enter_end, enter_asks, enter_depth, enter_place, enter_known, enter_deep, enter_many, enter_short, enter_new}
+use Rattle.types.proofs.Making.{enter_two, enter_end, enter_placed, enter_asks, enter_depth, enter_place, enter_known, enter_deep, enter_many, enter_short, enter_new}
 use borrow.Author.Rules.{rules}
 use Rattle.types.proofs.enter.Goals as goal
 
@@ -10,7 +10,7 @@ count-n-requires c =
 pub find_entry-requires : goal.find_entry-requires
 find_entry-requires c =
     let count = c.count-n in
-    enter_end c.args.page.now _ _ _ c.requires count.result count.ensures.0
+    enter_placed c.args.page.now _ _ _ c.requires count.result count.ensures.0
 
 pub returns-in-Some : goal.returns-in-Some
 returns-in-Some c =

@@ -1,51 +1,30 @@
-use Rattle.std.proofs.Common.{arith, rules, ◌≡◌, ◌+◌, sym, ◌∙◌, ap, true, false, List, ℕ}
+use Rattle.std.proofs.Common.{rules, tests, arith, ◌-◌, ◌+◌, ◌≤◌, ◌<◌, ℕ, Bool, refl, length, get_or}
+use lib.ListN.{take, drop}
+use Rattle.std.proofs.iter.Serving.{serving}
+use Rattle.std.proofs.lemmas.Iterator.{YieldsList-from_range, serves_from_Range}
+use Rattle.std.proofs.lemmas.Iterator.Search.{position_from_yields_List}
 use Rattle.pages.specs.Bytes.{eqs}
-use Rattle.pages.proofs.Quant.{any_none, any_more, first_none, first_at}
-use Rattle.types.specs.Store.{size_at, offset, is_entry}
-use Rattle.types.proofs.Placing.{size_head, offset_start, offset_next, offset_in, entry_part}
+use Rattle.pages.proofs.Quant.{first_cong}
+use Rattle.pages.proofs.Ranges.{found_ranged}
+use Rattle.types.specs.Store.{is_entry}
+use Rattle.types.proofs.Prints.{part_ordered, part_in, compared}
 use Rattle.types.proofs.find_entry.Goals as goal
 
-pub loop-i-init : goal.loop-i-init
-loop-i-init c = (offset_start c.args.page.now, any_none (is_entry c.args.page.now c.args.entry.now))
-
-pub entry_size-requires : goal.entry_size-requires
-entry_size-requires c =
+pub position-requires-clause-callable : goal.position-requires-clause-callable
+position-requires-clause-callable c =
+    serves_from_Range (λ k q h. search (rules, tests)) (λ k low high.
     let page = c.args.page.now in
-    let in-page = offset_in page c.loop-i.i c.args.j _ c.loop-i-test.true c.requires in
-    rw c.loop-i.invariant.0 (omega (arith, in-page, size_head page (offset page c.loop-i.i)))
-
-pub overflow_add-next : goal.overflow_add-next
-overflow_add-next c =
-    let in-page = offset_in c.args.page.now c.loop-i.i c.args.j _ c.loop-i-test.true c.requires in
-    search (rules, in-page, c.loop-i.invariant.0, c.entry_size.ensures.0)
-
-pub slice_bounds-same-end : goal.slice_bounds-same-end
-slice_bounds-same-end c =
-    let page = c.args.page.now in
-    let in-page = offset_in page c.loop-i.i c.args.j _ c.loop-i-test.true c.requires in
-    let e : c.loop-i.at ≡ offset page c.loop-i.i = c.loop-i.invariant.0 in
-    let s : c.entry_size.result ≡ size_at page c.loop-i.at = c.entry_size.ensures.0 in
-    rw (s, e) in-page
-
-pub returns-then-same : goal.returns-then-same
-returns-then-same c =
-    let page = c.args.page.now in
-    let entry = c.args.entry.now in
-    let l = c.loop-i in
-    let left = entry_part page l.at _ (ap (λ (x : ℕ). l.at + x) c.entry_size.ensures.0) in
-    let hit : is_entry page entry l.i ≡ true = rw (← l.invariant.0) (sym (ap (λ (x : List ℕ). eqs x entry) left) ∙ sym c.same.ensures ∙ c.if-same.true) in
-    (c.loop-i-test.true, sym (first_at (is_entry page entry) c.args.j l.i c.loop-i-test.true l.invariant.1 hit))
-
-pub loop-i-preserved : goal.loop-i-preserved
-loop-i-preserved c =
-    let page = c.args.page.now in
-    let entry = c.args.entry.now in
-    let l = c.loop-i in
-    let left = entry_part page l.at _ (ap (λ (x : ℕ). l.at + x) c.entry_size.ensures.0) in
-    let miss : is_entry page entry l.i ≡ false = rw (← l.invariant.0) (sym (ap (λ (x : List ℕ). eqs x entry) left) ∙ sym c.same.ensures ∙ c.if-same.false) in
-    (rw (c.entry_size.ensures.0, l.invariant.0) (offset_next page l.i), any_more (is_entry page entry) l.i l.invariant.1 miss)
+    let offsets = c.args.offsets.now in
+    let room : k + 1 < length offsets = omega (arith, c.requires.room) in
+    let ordered : get_or offsets k 0 ≤ get_or offsets (k + 1) 0 = part_ordered page offsets c.args.j k c.requires high in
+    let inside : get_or offsets (k + 1) 0 ≤ length page = part_in page offsets c.args.j k c.requires high in
+    search (rules, serving))
 
 pub returns : goal.returns
 returns c =
-    let e : c.loop-i.i ≡ c.args.j = omega arith in
-    first_none (is_entry c.args.page.now c.args.entry.now) c.args.j (rw e at c.loop-i.invariant.1)
+    let page = c.args.page.now in
+    let offsets = c.args.offsets.now in
+    let entry = c.args.entry.now in
+    let part : ℕ → Bool = λ k. eqs (take (get_or offsets (k + 1) 0 - get_or offsets k 0) (drop (get_or offsets k 0) page)) entry in
+    let place = position_from_yields_List part _ _ _ c.position.ensures.ran (YieldsList-from_range 0 c.args.j c.args.j refl (omega arith)) (λ x b q h. search (rules, tests)) in
+    rw (first_cong part (is_entry page entry) c.args.j (λ k l. compared page offsets c.args.j k c.requires l entry)) at (found_ranged part c.args.j c.position.result place)

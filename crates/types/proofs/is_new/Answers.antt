@@ -1,4 +1,4 @@
-use mathlib.Core.Path.{◌∙◌, ap}
+use mathlib.Core.Path.{refl, ◌∙◌, ap}
 use native.Mathlib.Omega.{arith}
 use lib.ListN.{get_or}
 use borrow.Author.Rules.{rules}
@@ -28,15 +28,18 @@ pub is_among-found-requires : goal.is_among-found-requires
 is_among-found-requires c =
     let entry-size = c.entry_size in
     let print-of = c.print_of-print in
-    let word-index = c.word_index-head in
     let page = c.args.page.now in
     let e = entry_is page c.args.offsets.now c.args.j c.requires.2 entry-size.result entry-size.ensures.0 in
     let t = c.requires.3 in (
       c.requires.2,
       omega (arith, t.linked, c.requires.0),
       t.link_at,
-      head_is page c.args.heads.now c.args.links.now c.args.j t print-of.result (print-of.ensures.0 ∙ ap print_of e) print-of.ensures.1 _ print-of.ensures.0 word-index.result word-index.ensures.0,
+      print-of.ensures.1,
+      head_is page c.args.chains.now.heads c.args.chains.now.links c.args.j t print-of.result (print-of.ensures.0 ∙ ap print_of e) print-of.ensures.1 _ print-of.ensures.0 _ refl,
     )
+
+pub link-requires : goal.link-requires
+link-requires c = (omega arith, (c.print_of-print.ensures.1, c.requires.0, omega (arith, c.requires.0)))
 
 pub returns : goal.returns
 returns c =
@@ -47,5 +50,5 @@ returns c =
     let page = c.args.page.now in
     let e = entry_is page c.args.offsets.now c.args.j c.requires.2 entry-size.result entry-size.ensures.0 in (
       new_is page c.args.j _ e is_among.result is_among.ensures,
-      chained_more page c.args.heads.now c.args.links.now c.args.j c.requires.3 print-of.result (print-of.ensures.0 ∙ ap print_of e) print-of.ensures.1 c.requires.0 _ _ link.ensures.0 link.ensures.1,
+      chained_more page c.args.chains.now.heads c.args.chains.now.links c.args.j c.requires.3 print-of.result (print-of.ensures.0 ∙ ap print_of e) print-of.ensures.1 c.requires.0 _ _ link.ensures.0 link.ensures.1,
     )

@@ -1,7 +1,8 @@
 use Rattle.std.specs.Prelude.{option_copied}
+use Rattle.std.proofs.lemmas.Result.{err_from_is_err_and}
 use mathlib.Core.Path.{sym, ◌∙◌}
-use Rattle.types.proofs.Types.{whole}
-use Rattle.types.proofs.Calls.{make_undefined, make_unnamed, make_unformed, make_unused, make_miscounted, make_fixed, make_few, make_ready, make_entered}
+use Rattle.types.proofs.Calls.{opened_ok, opened_two, make_undefined, make_refused, make_unused, make_miscounted, make_fixed, make_few, make_ready, make_entered}
+use borrow.Author.Rules.{rules}
 use Rattle.types.proofs.make_type.Goals as goal
 
 pub returns-then-kind-gt-GENERIC : goal.returns-then-kind-gt-GENERIC
@@ -9,147 +10,59 @@ returns-then-kind-gt-GENERIC c =
     let a = c.args in
     make_undefined a.page.now (option_copied a.names) a.kind a.children.now a.name c.if-kind-gt-GENERIC.true
 
-pub returns-then-is_broken : goal.returns-then-is_broken
-returns-then-is_broken c =
-    let if1 = c.if-kind-gt-GENERIC in
-    let is-broken = c.is_broken in
+pub returns-in_err-n : goal.returns-in_err-n
+returns-in_err-n c =
     let a = c.args in
-    make_unnamed a.page.now (option_copied a.names) a.kind a.children.now a.name if1.false
-    (sym is-broken.ensures ∙ c.if-is_broken.true)
-
-pub in_use-n-requires : goal.in_use-n-requires
-in_use-n-requires c = sym c.is_broken.ensures ∙ c.if-is_broken.false
-
-pub returns-then-not-survey : goal.returns-then-not-survey
-returns-then-not-survey c =
-    let is-broken = c.is_broken in
-    let if2 = c.if-is_broken in
-    let survey = c.survey in
-    let if1 = c.if-kind-gt-GENERIC in
-    let in_use = c.in_use-n in
-    let a = c.args in
-    let l = sym is-broken.ensures ∙ if2.false in
-    let f = sym survey.ensures.0 ∙ c.if-not-survey.true in
-    make_unformed a.page.now (option_copied a.names) a.kind a.children.now a.name if1.false l in_use.result
-    in_use.ensures.0 f
+    let p = err_from_is_err_and c.from_residual.result c.from_residual.ensures.1 in
+    rw (p.1, p.2) (make_refused a.page.now (option_copied a.names) a.kind a.children.now a.name c.if-kind-gt-GENERIC.false _ (sym c.in_err-n.was ∙ c.opened.ensures.0))
 
 pub parts_used-requires : goal.parts_used-requires
-parts_used-requires c =
-    let in_use = c.in_use-n in
-    let survey = c.survey in
-    let if3 = c.if-not-survey in
-    (whole c.args.page.now in_use.result (sym survey.ensures.0 ∙ if3.false)).two
+parts_used-requires c = opened_two c.args.page.now (option_copied c.args.names) c.in_ok-n.n (sym c.in_ok-n.was ∙ c.opened.ensures.0)
 
 pub returns-then-not-parts_used : goal.returns-then-not-parts_used
 returns-then-not-parts_used c =
-    let is-broken = c.is_broken in
-    let if2 = c.if-is_broken in
-    let survey = c.survey in
-    let if3 = c.if-not-survey in
-    let parts-used = c.parts_used in
-    let if1 = c.if-kind-gt-GENERIC in
-    let in_use = c.in_use-n in
     let a = c.args in
-    let l = sym is-broken.ensures ∙ if2.false in
-    let f = sym survey.ensures.0 ∙ if3.false in
-    let u = sym parts-used.ensures ∙ c.if-not-parts_used.true in
-    make_unused a.page.now (option_copied a.names) a.kind a.children.now a.name if1.false l in_use.result
-    in_use.ensures.0 f u
+    let n = c.in_ok-n.n in
+    let k = opened_ok a.page.now (option_copied a.names) n (sym c.in_ok-n.was ∙ c.opened.ensures.0) in
+    make_unused a.page.now (option_copied a.names) a.kind a.children.now a.name c.if-kind-gt-GENERIC.false k.0 n k.1
+    (sym c.parts_used.ensures ∙ c.if-not-parts_used.true)
 
 pub returns-then-not-is_counted : goal.returns-then-not-is_counted
 returns-then-not-is_counted c =
-    let is-broken = c.is_broken in
-    let if2 = c.if-is_broken in
-    let survey = c.survey in
-    let if3 = c.if-not-survey in
-    let parts-used = c.parts_used in
-    let if4 = c.if-not-parts_used in
-    let is-counted = c.is_counted in
-    let if1 = c.if-kind-gt-GENERIC in
-    let in_use = c.in_use-n in
     let a = c.args in
-    let l = sym is-broken.ensures ∙ if2.false in
-    let f = sym survey.ensures.0 ∙ if3.false in
-    let u = sym parts-used.ensures ∙ if4.false in
-    let w = sym is-counted.ensures ∙ c.if-not-is_counted.true in
-    make_miscounted a.page.now (option_copied a.names) a.kind a.children.now a.name if1.false l
-    in_use.result in_use.ensures.0 f u w
+    let n = c.in_ok-n.n in
+    let k = opened_ok a.page.now (option_copied a.names) n (sym c.in_ok-n.was ∙ c.opened.ensures.0) in
+    make_miscounted a.page.now (option_copied a.names) a.kind a.children.now a.name c.if-kind-gt-GENERIC.false k.0 n k.1
+    (sym c.parts_used.ensures ∙ c.if-not-parts_used.false) (sym c.is_counted.ensures ∙ c.if-not-is_counted.true)
 
 pub returns-then-not-is_stored : goal.returns-then-not-is_stored
 returns-then-not-is_stored c =
-    let is-broken = c.is_broken in
-    let if2 = c.if-is_broken in
-    let survey = c.survey in
-    let if3 = c.if-not-survey in
-    let parts-used = c.parts_used in
-    let if4 = c.if-not-parts_used in
-    let is-counted = c.is_counted in
-    let if5 = c.if-not-is_counted in
-    let is-stored = c.is_stored in
-    let if6 = c.if-not-is_stored in
-    let if1 = c.if-kind-gt-GENERIC in
-    let in_use = c.in_use-n in
     let a = c.args in
-    let l = sym is-broken.ensures ∙ if2.false in
-    let f = sym survey.ensures.0 ∙ if3.false in
-    let u = sym parts-used.ensures ∙ if4.false in
-    let w = sym is-counted.ensures ∙ if5.false in
-    let s = sym is-stored.ensures ∙ if6.true in
-    rw c.index.ensures.0 (make_fixed a.page.now (option_copied a.names) a.kind a.children.now a.name
-    if1.false l in_use.result in_use.ensures.0 f u w s)
+    let n = c.in_ok-n.n in
+    let k = opened_ok a.page.now (option_copied a.names) n (sym c.in_ok-n.was ∙ c.opened.ensures.0) in
+    rw c.from.ensures (make_fixed a.page.now (option_copied a.names) a.kind a.children.now a.name c.if-kind-gt-GENERIC.false k.0 n k.1
+    (sym c.parts_used.ensures ∙ c.if-not-parts_used.false) (sym c.is_counted.ensures ∙ c.if-not-is_counted.false)
+    (sym c.is_stored.ensures ∙ c.if-not-is_stored.true))
 
 pub enter_type-requires : goal.enter_type-requires
 enter_type-requires c =
-    let is-broken = c.is_broken in
-    let if2 = c.if-is_broken in
-    let survey = c.survey in
-    let if3 = c.if-not-survey in
-    let parts-used = c.parts_used in
-    let if4 = c.if-not-parts_used in
-    let is-counted = c.is_counted in
-    let if5 = c.if-not-is_counted in
-    let is-stored = c.is_stored in
-    let if6 = c.if-not-is_stored in
-    let if1 = c.if-kind-gt-GENERIC in
-    let in_use = c.in_use-n in
     let a = c.args in
-    let l = sym is-broken.ensures ∙ if2.false in
-    let f = sym survey.ensures.0 ∙ if3.false in
-    let u = sym parts-used.ensures ∙ if4.false in
-    let w = sym is-counted.ensures ∙ if5.false in
-    let s = sym is-stored.ensures ∙ if6.false in
-    let g = survey.ensures.1 if3.false in record {
-      children_len_bound = make_few a.page.now (option_copied a.names) a.kind a.children.now a.name if1.false l in_use.result
-          in_use.ensures.0 f u w s;
-      ready = make_ready a.page.now (option_copied a.names) a.kind a.children.now a.name
-          if1.false l in_use.result in_use.ensures.0 f u w s _ _ g;
+    let n = c.in_ok-n.n in
+    let k = opened_ok a.page.now (option_copied a.names) n (sym c.in_ok-n.was ∙ c.opened.ensures.0) in
+    let g = (rw c.in_ok-n.was at c.opened.ensures.1).1 in
+    let u = sym c.parts_used.ensures ∙ c.if-not-parts_used.false in
+    let w = sym c.is_counted.ensures ∙ c.if-not-is_counted.false in
+    let s = sym c.is_stored.ensures ∙ c.if-not-is_stored.false in record {
+      children_len_bound = make_few a.page.now (option_copied a.names) a.kind a.children.now a.name c.if-kind-gt-GENERIC.false k.0 n k.1 u w s;
+      ready = make_ready a.page.now (option_copied a.names) a.kind a.children.now a.name c.if-kind-gt-GENERIC.false k.0 n k.1 u w s _ _ g;
     }
 
 pub returns : goal.returns
 returns c =
-    let start =
-    c
-    in
-    let is-broken = c.is_broken in
-    let if2 = c.if-is_broken in
-    let survey = c.survey in
-    let if3 = c.if-not-survey in
-    let parts-used = c.parts_used in
-    let if4 = c.if-not-parts_used in
-    let is-counted = c.is_counted in
-    let if5 = c.if-not-is_counted in
-    let is-stored = c.is_stored in
-    let if6 = c.if-not-is_stored in
-    let if1 = c.if-kind-gt-GENERIC in
-    let in_use = c.in_use-n in
-    let enter-type = c.enter_type in
     let a = c.args in
-    let l = sym is-broken.ensures ∙ if2.false in
-    let f = sym survey.ensures.0 ∙ if3.false in
-    let u = sym parts-used.ensures ∙ if4.false in
-    let w = sym is-counted.ensures ∙ if5.false in
-    let s = sym is-stored.ensures ∙ if6.false in
-    let z =
-    make_entered a.page.now (option_copied a.names) a.kind a.children.now a.name if1.false l in_use.result
-    in_use.ensures.0 f u w s in
-    (enter-type.ensures.0 ∙ z.0, enter-type.ensures.1 ∙ z.1)
+    let n = c.in_ok-n.n in
+    let k = opened_ok a.page.now (option_copied a.names) n (sym c.in_ok-n.was ∙ c.opened.ensures.0) in
+    let z = make_entered a.page.now (option_copied a.names) a.kind a.children.now a.name c.if-kind-gt-GENERIC.false k.0 n k.1
+    (sym c.parts_used.ensures ∙ c.if-not-parts_used.false) (sym c.is_counted.ensures ∙ c.if-not-is_counted.false)
+    (sym c.is_stored.ensures ∙ c.if-not-is_stored.false) in
+    (c.enter_type.ensures.value.0 ∙ z.0, search (rules, c.enter_type.ensures.value.1 ∙ z.1))

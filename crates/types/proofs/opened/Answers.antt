@@ -1,32 +1,36 @@
 use Rattle.std.specs.Prelude.{option_copied}
-use mathlib.Core.Path.{sym, ◌∙◌, subst}
-use lib.Dec.{T}
-use Rattle.types.proofs.Calls.{broken_names, broken_or_not}
+use Rattle.std.proofs.lemmas.Result.{err_from_is_err_and}
+use mathlib.Core.Path.{sym, ◌∙◌}
+use Rattle.names.proofs.Calls.{used_ok, used_err}
+use Rattle.types.proofs.Calls.{opened_unnamed, opened_unformed, opened_passed}
 use Rattle.types.proofs.Surveyed.{unopened, opened_is}
 use Rattle.types.proofs.opened.Goals as goal
 
-pub returns-then-is_broken : goal.returns-then-is_broken
-returns-then-is_broken c =
-    let a = c.args in
-    let is-broken = c.is_broken in
-    let l = sym is-broken.ensures ∙ c.if-is_broken.true in
-    let u = unopened a.page.now (option_copied a.names) a.tables.now.offsets a.tables.now.depths l in
-    (broken_names a.page.now (option_copied a.names) l, λ h. absurd (subst T (sym h) tt), u.0, u.1)
+pub returns-in_err-n : goal.returns-in_err-n
+returns-in_err-n c =
+    let page = c.args.page.now in
+    let names = option_copied c.args.names in
+    let p = err_from_is_err_and c.from_residual.result c.from_residual.ensures.1 in
+    let b = used_err names _ (sym c.in_err-n.was ∙ c.used_in.ensures.0) in
+    let u = unopened page names c.args.tables.now.offsets c.args.tables.now.depths b.0 in
+    rw (p.1, p.2, b.1) (opened_unnamed page names b.0, tt, u.0, u.1)
 
-pub in_use-n-requires : goal.in_use-n-requires
-in_use-n-requires c = sym c.is_broken.ensures ∙ c.if-is_broken.false
+pub returns-in_err-survey : goal.returns-in_err-survey
+returns-in_err-survey c =
+    let page = c.args.page.now in
+    let names = option_copied c.args.names in
+    let p = err_from_is_err_and c.from_residual-in_err-survey.result c.from_residual-in_err-survey.ensures.1 in
+    let k = used_ok names c.in_ok-n.n (sym c.in_ok-n.was ∙ c.used_in.ensures.0) in
+    let u = opened_is page names c.args.tables.now.offsets c.args.tables.now.depths k.0 c.in_ok-n.n k.1 in
+    let s = c.survey.ensures in
+    rw (p.1, p.2) (opened_unformed page names k.0 c.in_ok-n.n k.1 _ (sym c.in_err-survey.was ∙ s.0), tt, s.2 ∙ u.0, s.3 ∙ u.1)
 
 pub returns : goal.returns
 returns c =
-    let a = c.args in
-    let is-broken = c.is_broken in
-    let if1 = c.if-is_broken in
-    let in_use = c.in_use-n in
-    let survey = c.survey in
-    let l = sym is-broken.ensures ∙ if1.false in
-    let u = opened_is a.page.now (option_copied a.names) a.tables.now.offsets a.tables.now.depths l in_use.result in_use.ensures.0 in (
-      broken_or_not a.page.now (option_copied a.names) l in_use.result in_use.ensures.0 survey.result survey.ensures.0,
-      survey.ensures.1,
-      survey.ensures.2 ∙ u.0,
-      survey.ensures.3 ∙ u.1,
-    )
+    let page = c.args.page.now in
+    let names = option_copied c.args.names in
+    let k = used_ok names c.in_ok-n.n (sym c.in_ok-n.was ∙ c.used_in.ensures.0) in
+    let u = opened_is page names c.args.tables.now.offsets c.args.tables.now.depths k.0 c.in_ok-n.n k.1 in
+    let s = rw c.in_ok-survey.was at c.survey.ensures in
+    let few = rw c.in_ok-n.was at c.used_in.ensures.1 in
+    (opened_passed page names k.0 c.in_ok-n.n k.1 s.0, (few, s.1), s.2 ∙ u.0, s.3 ∙ u.1)

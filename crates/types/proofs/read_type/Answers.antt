@@ -1,68 +1,32 @@
 use Rattle.std.specs.Prelude.{option_copied}
+use Rattle.std.proofs.lemmas.Result.{err_from_is_err_and}
 use mathlib.Core.Path.{sym, ◌∙◌}
-use Rattle.types.proofs.Types.{whole}
-use Rattle.types.proofs.Reading.{read_unnamed, read_unformed, read_unused, read_given}
+use Rattle.types.proofs.Calls.{opened_ok, opened_two}
+use Rattle.types.proofs.Reading.{read_refused, read_unused, read_given}
 use Rattle.types.proofs.read_type.Goals as goal
 
-pub returns-then-is_broken : goal.returns-then-is_broken
-returns-then-is_broken c =
-    let is-broken = c.is_broken in
+pub returns-in_err-n : goal.returns-in_err-n
+returns-in_err-n c =
     let a = c.args in
-    read_unnamed a.page.now (option_copied a.names) a.t (sym is-broken.ensures ∙ c.if-is_broken.true)
-
-pub in_use-n-requires : goal.in_use-n-requires
-in_use-n-requires c = sym c.is_broken.ensures ∙ c.if-is_broken.false
-
-pub returns-then-not-survey : goal.returns-then-not-survey
-returns-then-not-survey c =
-    let is-broken = c.is_broken in
-    let if1 = c.if-is_broken in
-    let in_use = c.in_use-n in
-    let survey = c.survey in
-    let a = c.args in
-    let l = sym is-broken.ensures ∙ if1.false in
-    let f = sym survey.ensures.0 ∙ c.if-not-survey.true in
-    read_unformed a.page.now (option_copied a.names) a.t l in_use.result in_use.ensures.0 f
+    let p = err_from_is_err_and c.from_residual.result c.from_residual.ensures.1 in
+    rw (p.1, p.2) (read_refused a.page.now (option_copied a.names) a.t _ (sym c.in_err-n.was ∙ c.opened.ensures.0))
 
 pub count-requires : goal.count-requires
-count-requires c =
-    let in_use = c.in_use-n in
-    let survey = c.survey in
-    (whole c.args.page.now in_use.result (sym survey.ensures.0 ∙ c.if-not-survey.false)).two
+count-requires c = opened_two c.args.page.now (option_copied c.args.names) c.in_ok-n.n (sym c.in_ok-n.was ∙ c.opened.ensures.0)
 
 pub returns-then-count-t : goal.returns-then-count-t
 returns-then-count-t c =
-    let is-broken = c.is_broken in
-    let if1 = c.if-is_broken in
-    let in_use = c.in_use-n in
-    let survey = c.survey in
-    let if2 = c.if-not-survey in
-    let count = c.count in
     let a = c.args in
-    let l = sym is-broken.ensures ∙ if1.false in
-    let f = sym survey.ensures.0 ∙ if2.false in
-    let h = rw count.ensures at c.if-count-t.true in
-    read_unused a.page.now (option_copied a.names) a.t l in_use.result in_use.ensures.0 f h
+    let k = opened_ok a.page.now (option_copied a.names) c.in_ok-n.n (sym c.in_ok-n.was ∙ c.opened.ensures.0) in
+    read_unused a.page.now (option_copied a.names) a.t k.0 (rw c.count.ensures at c.if-count-t.true)
 
 pub shape_of-requires : goal.shape_of-requires
 shape_of-requires c =
-    let survey = c.survey in
-    let if2 = c.if-not-survey in
-    let count = c.count in
-    let if3 = c.if-count-t in
-    record { measured = survey.ensures.1 if2.false; t_bound = rw count.ensures at if3.false }
+    let o = rw c.in_ok-n.was at c.opened.ensures.1 in
+    record { measured = o.1; t_bound = rw c.count.ensures at c.if-count-t.false }
 
 pub returns : goal.returns
 returns c =
-    let is-broken = c.is_broken in
-    let if1 = c.if-is_broken in
-    let in_use = c.in_use-n in
-    let survey = c.survey in
-    let if2 = c.if-not-survey in
-    let count = c.count in
-    let if3 = c.if-count-t in
     let a = c.args in
-    let l = sym is-broken.ensures ∙ if1.false in
-    let f = sym survey.ensures.0 ∙ if2.false in
-    let h = rw count.ensures at if3.false in
-    read_given a.page.now (option_copied a.names) a.t l in_use.result in_use.ensures.0 f h c.shape_of.result c.shape_of.ensures
+    let k = opened_ok a.page.now (option_copied a.names) c.in_ok-n.n (sym c.in_ok-n.was ∙ c.opened.ensures.0) in
+    read_given a.page.now (option_copied a.names) a.t k.0 (rw c.count.ensures at c.if-count-t.false) c.shape_of.result c.shape_of.ensures

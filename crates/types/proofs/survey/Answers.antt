@@ -1,4 +1,5 @@
-use mathlib.Core.Path.{sym, refl, ◌∙◌, ap}
+use mathlib.Core.Bool.{true, false}
+use mathlib.Core.Path.{sym, ◌∙◌, ap}
 use Prim.Native.Nat.{ℕ, ◌+◌}
 use native.Mathlib.Omega.{arith}
 use borrow.Author.Rules.{rules}
@@ -22,10 +23,9 @@ loop-j-init c =
     let if1 = c.if-page-lt-COUNT_BYTES in
     let count = c.count-k in
     let if2 = c.if-k-gt-ENTRIES in
-    let no-heads = c.no_heads-heads in
     let look : Looked c.args.page.now count.result c.args.tables.now.offsets c.args.tables.now.depths =
     record { two = if1.false; is = count.ensures.0; few = if2.false; room = search rules; size = search rules } in
-    going_start look c.args.n _ _ no-heads.ensures refl
+    going_start look c.args.n _ _ c.new-chains.ensures.0 c.new-chains.ensures.1
 
 pub returns-then-not-is_whole : goal.returns-then-not-is_whole
 returns-then-not-is_whole c =
@@ -105,8 +105,10 @@ loop-j-preserved c =
     (going_next loop.invariant loop-test.true w b entry-depth.result _ entry-depth.ensures.0
     (ap (λ (x : ℕ). loop.o + x) c.entry_size-o.ensures.0) _ _ is_new_lem.ensures.1)
 
+pub returns-then-not-zeros_from : goal.returns-then-not-zeros_from
+returns-then-not-zeros_from c =
+    going_end c.loop-j.invariant c.loop-j-test.false false (sym c.if-not-zeros_from.true ∙ c.zeros_from.ensures)
+
 pub returns : goal.returns
 returns c =
-    let loop = c.loop-j in
-    let loop-test = c.loop-j-test in
-    (going_end loop.invariant loop-test.false _ c.zeros_from.ensures)
+    going_end c.loop-j.invariant c.loop-j-test.false true (sym c.if-not-zeros_from.false ∙ c.zeros_from.ensures)

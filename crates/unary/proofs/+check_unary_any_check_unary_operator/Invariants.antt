@@ -1,4 +1,5 @@
 use Prim.Native.Nat.{◌+◌, ◌*◌}
+use Rattle.types.specs.Same.{Same}
 use Rattle.unary.proofs.Checking.{Trying}
 use Rattle.unary.proofs.+check_unary_any_check_unary_operator.Given as goal
 
@@ -9,4 +10,4 @@ abbrev pub decreases-check_unary_operator : goal.decreases-check_unary_operator
 decreases-check_unary_operator l = 2 * l.t + 1
 
 abbrev pub invariant-check_unary_any-loop-x : goal.invariant-check_unary_any-loop-x
-invariant-check_unary_any-loop-x l = Trying l.initial.page l.t l.n l.x-index l.k l.results l.page l.tables.offsets l.tables.depths l.done
+invariant-check_unary_any-loop-x l = Same l.maker l.initial.maker × Trying l.initial.maker.page.now l.t l.n l.x-index l.k l.results l.maker.page.now l.done

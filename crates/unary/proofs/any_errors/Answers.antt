@@ -3,7 +3,7 @@ use native.Mathlib.Omega.{arith}
 use Rattle.members.specs.Members.{size_of}
 use Rattle.members.proofs.Members.{member_used}
 use Rattle.members.proofs.Flattening.{as_many, place_read, member_is}
-use Rattle.unary.proofs.Failing.{counted_none, passed_more, failed_more, errors_empty, errors_none, errors_some}
+use Rattle.unary.proofs.Failing.{failing_none, passed_more, failed_more, errors_empty, errors_none, errors_some}
 use Rattle.types.proofs.Types.{held_by}
 use Rattle.unary.proofs.any_errors.Goals as goal
 use Rattle.unary.proofs.any_errors.Goals.{then-not-does_pass, else-not-does_pass}
@@ -17,7 +17,7 @@ returns-then-size-eq0 c =
 pub loop-x-init : goal.loop-x-init
 loop-x-init c =
     let a = c.args in
-    (omega arith, counted_none a.leafed.store.page.now a.op a.t)
+    (failing_none a.leafed.store.page.now a.op a.t, omega arith)
 
 pub does_pass-requires : goal.does_pass-requires
 does_pass-requires c =
@@ -31,12 +31,12 @@ does_pass-requires c =
     let used = member_used page (held_by c.args.leafed.store.held).sound t c.requires.1 i (omega (arith, read.0, flatten.ensures.0)) in
     (c.requires.0, omega (arith, is, used))
 
-pub overflow_add-count : goal.overflow_add-count
-overflow_add-count c =
+pub failed_at-requires : goal.failed_at-requires
+failed_at-requires c =
     let inv = c.loop-x.invariant in
     let flat = c.flatten-size in
     let many = as_many c.args.leafed.store.page.now c.args.t flat.result _ flat.ensures in
-    omega (arith, inv.0, c.loop-x.auto.x-index-end, flat.ensures.1, many)
+    omega (arith, inv.1, c.loop-x.auto.x-index-end, c.loop-x-test.true, flat.ensures.1, many)
 
 pub loop-x-preserved : goal.loop-x-preserved
 loop-x-preserved c =
@@ -49,20 +49,16 @@ loop-x-preserved c =
     let x = c.from-x.result in
     let read = place_read page t flatten.result _ flatten.ensures l.x-index x c.loop-x-test.true c.from-x.ensures in
     let passes = c.does_pass in
-    let is = member_is page t flatten.result _ flatten.ensures l.x-index x read.0 read.1 in (
-      elim c.if-not-does_pass.branch [
-        | then-not-does_pass w ↦ omega (arith, w.count-is, l.invariant.0)
-        | else-not-does_pass w ↦ omega (arith, w.count-is, l.invariant.0)
-      ],
-      elim c.if-not-does_pass.branch [
-        | then-not-does_pass w ↦
-            let fails = sym passes.ensures ∙ w.if-not-does_pass.true in
-            rw (w.count-is, w.first-is, w.or-first.ensures) (failed_more page op t l.x-index l.count l.first l.invariant.1 x is fails)
-        | else-not-does_pass w ↦
-            let p = sym passes.ensures ∙ w.if-not-does_pass.false in
-            rw (w.count-is, w.first-is) (passed_more page op t l.x-index l.count l.first l.invariant.1 x is p)
-      ],
-    )
+    let is = member_is page t flatten.result _ flatten.ensures l.x-index x read.0 read.1 in
+    elim c.if-not-does_pass.branch [
+      | then-not-does_pass w ↦
+          let fails = sym passes.ensures ∙ w.if-not-does_pass.true in
+          let f = w.failed_at.ensures in
+          (rw (w.failing-is, f.0) (failed_more page op t l.x-index l.failing l.invariant.0 x is fails), rw w.failing-is (omega (arith, f.1, l.invariant.1)))
+      | else-not-does_pass w ↦
+          let p = sym passes.ensures ∙ w.if-not-does_pass.false in
+          (rw w.failing-is (passed_more page op t l.x-index l.failing l.invariant.0 x is p), rw w.failing-is (omega (arith, l.invariant.1)))
+    ]
 
 pub returns-in-None : goal.returns-in-None
 returns-in-None c =
@@ -72,7 +68,7 @@ returns-in-None c =
     let many = as_many page c.args.t c.flatten-size.result _ c.flatten-size.ensures in
     let n : l.x-index ≡ size_of page c.args.t = omega (arith, l.auto.x-index-end, c.loop-x-test.false, size, many) in
     let some : size_of page c.args.t ≡ 0 → ⊥ = λ z. c.if-size-eq0.false (size ∙ z) in
-    errors_none page c.args.op c.args.t c.requires.2 l.count l.first (rw n at l.invariant.1) some c.in-None.is
+    errors_none page c.args.op c.args.t c.requires.2 some (rw (n, c.in-None.is) at l.invariant.0)
 
 pub returns-in-Some : goal.returns-in-Some
 returns-in-Some c =
@@ -80,4 +76,4 @@ returns-in-Some c =
     let l = c.loop-x in
     let many = as_many page c.args.t c.flatten-size.result _ c.flatten-size.ensures in
     let n : l.x-index ≡ size_of page c.args.t = omega (arith, l.auto.x-index-end, c.loop-x-test.false, c.flatten-size.ensures.0, many) in
-    c.some_fail.ensures ∙ errors_some page c.args.op c.args.t c.requires.2 l.count l.first (rw n at l.invariant.1) c.in-Some.x c.in-Some.is
+    errors_some page c.args.op c.args.t c.requires.2 _ (rw (n, c.in-Some.is) at l.invariant.0)

@@ -1,6 +1,8 @@
+use mathlib.Core.Path.{◌≡◌}
 use Prim.Native.Nat.{◌≤◌}
-use Rattle.unary.proofs.Failing.{Counted}
+use Rattle.members.specs.Trials.{failing_count}
+use Rattle.unary.specs.Unary.{failing}
 use Rattle.unary.proofs.any_errors.Given as goal
 
 abbrev pub invariant-loop-x : goal.invariant-loop-x
-invariant-loop-x l = (l.count ≤ l.x-index) × Counted l.leafed.store.page.now l.op l.t l.x-index l.count l.first
+invariant-loop-x l = (l.failing ≡ failing l.leafed.store.page.now l.op l.t l.x-index) × (failing_count l.failing ≤ l.x-index)

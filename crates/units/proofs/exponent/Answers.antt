@@ -1,5 +1,6 @@
 use mathlib.Core.Path.{◌≡◌, sym, ◌∙◌}
 use Rattle.std.proofs.Common.{rules, tests, arith, true, Bool, eqb, ℕ, ◌<◌, MatchOption}
+use Rattle.std.proofs.lemmas.Result.{err_from_is_err_and}
 use lib.ListN.{take}
 use borrow.Author.Tests.{eqb-true}
 use Rattle.std.proofs.lemmas.Iterator.{YieldsList-from_slice}
@@ -12,23 +13,25 @@ use Rattle.units.specs.Calls.{terms_of}
 use Rattle.units.proofs.Signed.{inside_back}
 use Rattle.units.proofs.Form.{Places, sym_at, exp_at, formed_count, formed_inside}
 use Rattle.units.proofs.Held.{places_of}
-use Rattle.units.proofs.Calls.{exponent_refused, exponent_given, seeking_start, sought_absent, sought_found, seeking_to}
+use Rattle.units.proofs.Calls.{form_ok, exponent_refused, exponent_given, seeking_start, sought_absent, sought_found, seeking_to}
 use Rattle.units.proofs.exponent.Goals as goal
 
 abbrev has : Places → ℕ → ℕ → Bool
 has u s j = eqb (sym_at u j) s
 
-pub returns-then-not-is_formed : goal.returns-then-not-is_formed
-returns-then-not-is_formed c = exponent_refused c.args.u c.args.symbol (sym c.is_formed.ensures ∙ c.if-not-is_formed.true)
+pub returns-in_err-unit_form : goal.returns-in_err-unit_form
+returns-in_err-unit_form c =
+    let p = err_from_is_err_and c.from_residual.result c.from_residual.ensures.1 in
+    rw (p.1, p.2) (exponent_refused c.args.u c.args.symbol _ (sym c.in_err-unit_form.was ∙ c.unit_form.ensures))
 
 pub shared_ref_as_front-iter : goal.shared_ref_as_front-iter
-shared_ref_as_front-iter c = formed_count places_max names_max (places_of c.args.u) (sym c.is_formed.ensures ∙ c.if-not-is_formed.false)
+shared_ref_as_front-iter c = formed_count places_max names_max (places_of c.args.u) (form_ok c.args.u (sym c.in_ok-unit_form.was ∙ c.unit_form.ensures))
 
 pub returns-in-Some : goal.returns-in-Some
 returns-in-Some c =
     let u = places_of c.args.u in
     let s = c.args.symbol in
-    let form : formed places_max names_max (terms_of c.args.u) ≡ true = sym c.is_formed.ensures ∙ c.if-not-is_formed.false in
+    let form : formed places_max names_max (terms_of c.args.u) ≡ true = form_ok c.args.u (sym c.in_ok-unit_form.was ∙ c.unit_form.ensures) in
     let few = formed_count places_max names_max u form in
     let place = position_from_yields_List (λ x. eqb x s) _ _ _ c.position.ensures.ran (YieldsList-from_slice (take u.count u.symbols) cc) (λ x b q h. search (rules, tests)) in
     let told : MatchOption c.position.result (first_to u.count (has u s) ≡ u.count) (λ (i : ℕ). (i < u.count) × (i ≡ first_to u.count (has u s))) = found_taken (λ x. eqb x s) 0 u.count u.symbols c.position.result (search rules) place in
@@ -42,7 +45,7 @@ pub returns-in-None : goal.returns-in-None
 returns-in-None c =
     let u = places_of c.args.u in
     let s = c.args.symbol in
-    let form : formed places_max names_max (terms_of c.args.u) ≡ true = sym c.is_formed.ensures ∙ c.if-not-is_formed.false in
+    let form : formed places_max names_max (terms_of c.args.u) ≡ true = form_ok c.args.u (sym c.in_ok-unit_form.was ∙ c.unit_form.ensures) in
     let few = formed_count places_max names_max u form in
     let place = position_from_yields_List (λ x. eqb x s) _ _ _ c.position.ensures.ran (YieldsList-from_slice (take u.count u.symbols) cc) (λ x b q h. search (rules, tests)) in
     let told : MatchOption c.position.result (first_to u.count (has u s) ≡ u.count) (λ (i : ℕ). (i < u.count) × (i ≡ first_to u.count (has u s))) = found_taken (λ x. eqb x s) 0 u.count u.symbols c.position.result (search rules) place in

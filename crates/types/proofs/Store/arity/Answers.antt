@@ -17,5 +17,5 @@ bounds-self-place_of c =
 pub returns : goal.returns
 returns c =
     let page = c.args.self.page.now in
-    let q = rw c.place_of.ensures at c.index.ensures.0 ∙ arity_entry page c.args.t c.if-t-lt-FIXED.false in
+    let q = rw c.place_of.ensures at c.from.ensures ∙ arity_entry page c.args.t c.if-t-lt-FIXED.false in
     (q, rw q (few_children page (held_by c.args.self.held).sound c.args.t c.requires))

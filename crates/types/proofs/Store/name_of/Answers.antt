@@ -23,4 +23,4 @@ pub returns : goal.returns
 unfolding name_of
 returns c =
     let page = c.args.self.page.now in
-    rw (c.index.ensures.0, c.place_of.ensures) (sym (name_byte_lem page (place_of page c.args.t)))
+    rw (c.from.ensures, c.place_of.ensures) (sym (name_byte_lem page (place_of page c.args.t)))

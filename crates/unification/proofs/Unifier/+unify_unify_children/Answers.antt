@@ -11,7 +11,7 @@ use Rattle.matching.specs.Matching.{is_kind}
 use Rattle.matching.proofs.Matching.{in_use_known, to_known}
 use Rattle.matching.proofs.Memo.{in_use_small}
 use Rattle.unification.specs.Unification.{unified, is_alike}
-use Rattle.unification.proofs.Growth.{settled_found, noted_settled, given_by, settled_by, extends_refl}
+use Rattle.unification.proofs.Growth.{settled_found, given_by, settled_by, extends_refl}
 use Rattle.unification.proofs.Unification.{generic_eq, adopted_eq, rest_eq, alike_eq, unify_settled}
 use Rattle.unification.proofs.Pairs.{err_ends, no_ends, paired_none, paired_more, all_end, all_uneven, all_agreed}
 use Rattle.types.proofs.Types.{held_by}
@@ -73,11 +73,6 @@ unify-returns-then-is_settled-clause-value t c =
     let n = settled_by page b g.seen.now g.settled in
     sym (settled_found page b g.seen.now n c.args.e c.args.a c.is_settled.result c.is_settled.ensures c.if-is_settled.true b (extends_refl b))
 
-pub unify-settle-requires : goal.unify-settle-requires
-unify-settle-requires t c =
-    let f = (held_by c.args.self.now.matcher.store.held).sound in
-    (in_use_small _ f c.args.e c.requires.0, in_use_small _ f c.args.a c.requires.1)
-
 pub unify_children-returns-then-n-arity-clause-value : goal.unify_children-returns-then-n-arity-clause-value
 unify_children-returns-then-n-arity-clause-value t c =
     let g = c.args.self.now in
@@ -119,8 +114,8 @@ unify_children-returns-clause-value t c =
     all_agreed page c.args.e c.args.a c.arity-n.result g.bindings c.arity-n.ensures.0
     (omega (arith, c.if-n-arity.false, c.arity.ensures.0)) l.self.bindings l.i (omega (arith, l.invariant.1.few, c.loop-i-test.false)) l.invariant.1.agreed
 
-pub unify-invariant_of-self-then-fits : goal.unify-invariant_of-self-then-fits
-unify-invariant_of-self-then-fits t c =
+pub unify-settle-requires : goal.unify-settle-requires
+unify-settle-requires t c =
     let g = c.args.self.now in
     let page = g.matcher.store.page.now in
     let f = (held_by g.matcher.store.held).sound in
@@ -134,12 +129,9 @@ unify-invariant_of-self-then-fits t c =
     let l : is_alike (kind_of page e) (kind_of page a) ≡ true = rw (← c.kind_of-kind.ensures, ← c.kind_of.ensures) (sym c.are_alike.ensures ∙ c.if-not-are_alike.false) in
     let p = alike_eq page f e a u v g.bindings k (sym c.is_adopted.ensures ∙ c.if-is_adopted.false) l in
     let r = c.unify_children in
-    let m = r.new.self in
-    let s = r.ensures.same.0.0 in
     let yes = c.in_ok-fits.was ∙ ap (λ (b : Bool). Ok b) c.if-fits.true in
-    let pair = unify_settled page f e a u v b given (unified r.result m.bindings) (r.ensures.value ∙ sym p) yes in
-    let n = rw s at (settled_by m.matcher.store.page.now m.bindings m.seen.now m.settled) in
-    record { given = m.given; settled = ∣ rw (c.settle.ensures, s) (noted_settled page m.bindings m.seen.now n e a pair) ∣₁ }
+    let pair = unify_settled page f e a u v b given (unified r.result r.new.self.bindings) (r.ensures.value ∙ sym p) yes in
+    record { small = (in_use_small _ f e u, in_use_small _ f a v); fits = rw r.ensures.same.0.0 pair }
 
 pub unify-returns-in_err-fits-clause-value : goal.unify-returns-in_err-fits-clause-value
 unify-returns-in_err-fits-clause-value t c =
@@ -168,7 +160,7 @@ unify-returns-then-fits-clause-value t c =
     let k : is_kind generic page e ≡ false = rw (← c.kind_of-kind.ensures) (ne_eqb c.kind_of-kind.result generic c.if-kind-eq-GENERIC.false) in
     let l : is_alike (kind_of page e) (kind_of page a) ≡ true = rw (← c.kind_of-kind.ensures, ← c.kind_of.ensures) (sym c.are_alike.ensures ∙ c.if-not-are_alike.false) in
     let p = alike_eq page f e a u v g.bindings k (sym c.is_adopted.ensures ∙ c.if-is_adopted.false) l in
-    rw c.in_ok-fits.was at (c.unify_children.ensures.value ∙ sym p)
+    rw c.settle.ensures.value (rw c.in_ok-fits.was at (c.unify_children.ensures.value ∙ sym p))
 
 pub unify-returns-else-fits-clause-value : goal.unify-returns-else-fits-clause-value
 unify-returns-else-fits-clause-value t c =
