@@ -3,8 +3,8 @@ use mathlib.Core.Path.{◌≡◌, refl, sym, ◌∙◌, ap}
 use mathlib.Core.Bool.{Bool, true, false, ◌&&◌, cond}
 use mathlib.Core.List.{List}
 use mathlib.Core.Logic.{◌⊎◌, inl, inr, ⊎_elim}
-use Prim.Native.Nat.{ℕ, ◌+◌, ◌-◌, ◌*◌, ◌/◌, ◌%◌, ◌^◌, ◌<◌, max}
-use native.Mathlib.Nat.{max-zero, mul-div_cancel, div-eq_of_lt, div_self, zero-div, one-mul, eq-or-lt_of_le, mul-add-mod_self_right, mod-eq_of_lt, eq_of_mul-eq-mul_right}
+use Prim.Native.Nat.{ℕ, suc, ◌+◌, ◌-◌, ◌*◌, ◌/◌, ◌%◌, ◌^◌, ◌<◌, max}
+use native.Mathlib.Nat.{max-zero, mul-div_cancel, div-eq_of_lt, div_self, zero-div, one-mul, eq-or-lt_of_le, mul-add-mod_self_right, mul_left_comm, pow-suc, div-div-eq-div-mul, mod-eq_of_lt, eq_of_mul-eq-mul_right}
 use native.Mathlib.Decide.{ℕ_discrete}
 use native.Mathlib.Omega.{arith}
 use lib.Dec.{ltb, eqb}
@@ -186,6 +186,43 @@ module _ (table : List ℕ) (row column : ℕ) where
     marking_at =
         let one : 1 * 2 ^ (p % bits) % 256 ≡ 2 ^ (p % bits) = shl_exact 1 (p % bits) 8 (omega arith) (omega arith) ∙ one-mul (2 ^ (p % bits)) in
         rw (← w.0, lt-ltb column (columns (room (length table))) w.1, one) refl
+
+-- two columns side by side, of which the first is even, stand in one byte
+module _ (table : List ℕ) (row pair : ℕ) where
+  -- the place of the second is the one after that of the first, which is even
+  next_place : (n : ℕ) → place n row (2 * pair + 1) ≡ place n row (2 * pair) + 1
+  unfolding place
+  next_place n = omega arith
+
+  even_place : (n : ℕ) → place n row (2 * pair) ≡ 2 * (row * n + pair)
+  unfolding place
+  even_place n =
+      let e : row * (2 * n) ≡ 2 * (row * n) = mul_left_comm row 2 n in
+      omega (arith, e)
+
+  -- so the two have one byte, and in it bits side by side
+  same_byte : (n : ℕ) → (place n row (2 * pair) + 1) / bits ≡ place n row (2 * pair) / bits
+  same_byte n = let e = even_place n in omega (arith, e)
+
+  next_bit : (n : ℕ) → (place n row (2 * pair) + 1) % bits ≡ suc (place n row (2 * pair) % bits)
+  next_bit n = let e = even_place n in omega (arith, e)
+
+  pub next_unmarked_beyond : Beyond table row (2 * pair) → false ≡ is_marked table row (2 * pair + 1)
+  next_unmarked_beyond (inl l) = unmarked_beyond table row (2 * pair + 1) (inl (omega (arith, l)))
+  next_unmarked_beyond (inr l) = unmarked_beyond table row (2 * pair + 1) (inr (rw (next_place (room (length table)), same_byte (room (length table))) l))
+
+  module _ (p : ℕ) (w : Within table row (2 * pair) p) where
+    pub next_marked_at : eqb (get_or table (p / bits) 0 / 2 ^ (p % bits) / 2 % 2) 1 ≡ is_marked table row (2 * pair + 1)
+    next_marked_at =
+        let n = room (length table) in
+        let b : (p + 1) / bits ≡ p / bits = rw w.0 (same_byte n) in
+        let k : (p + 1) % bits ≡ suc (p % bits) = rw w.0 (next_bit n) in
+        let u : 2 * pair + 1 < columns n = omega (arith, w.1) in
+        let l : (p + 1) / bits < length table = rw b w.2 in
+        let e : p + 1 ≡ place n row (2 * pair + 1) = rw w.0 (sym (next_place n)) in
+        let d : get_or table (p / bits) 0 / 2 ^ (p % bits) / 2 ≡ get_or table ((p + 1) / bits) 0 / 2 ^ ((p + 1) % bits) =
+        rw (b, k, pow-suc 2 (p % bits)) (div-div-eq-div-mul (get_or table (p / bits) 0) (2 ^ (p % bits)) 2) in
+        ap (λ (m : ℕ). eqb (m % 2) 1) d ∙ marked_at table row (2 * pair + 1) (p + 1) (e, u, l)
 
 -- what was marked still is
 pub marked_still : (table : List ℕ) (row column x y : ℕ) → is_marked table x y ≡ true → is_marked (marking table row column) x y ≡ true

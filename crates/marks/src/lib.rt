@@ -3,7 +3,7 @@
 // (`types::Store` says why), and a table is whatever bytes a caller has for it.
 #![tactic(auto)]
 
-ghost use Rattle.std.specs.Prelude.{◌≡◌, ◌≤◌, ◌<◌, length, MatchOption};
+ghost use Rattle.std.specs.Prelude.{◌≡◌, ◌+◌, ◌*◌, ◌≤◌, ◌<◌, length, MatchOption};
 ghost use Rattle.types.specs.Store.{types_max};
 ghost use Rattle.marks.specs.Marks.{room, Beyond, Within, is_marked, marking};
 
@@ -62,6 +62,21 @@ pub fn is_marked(table: &[u8], row: usize, column: usize) -> bool
     match place_of(table, row, column) {
         Some(place) => (table[place / BITS] >> (place % BITS)) % 2 == 1,
         None => false,
+    }
+}
+
+// Whether a row is marked in two columns side by side, of which the first is even: they stand in one byte, which is read once.
+#[tactic(auto, using(crate::proofs::Marks::marked_at, crate::proofs::Marks::next_marked_at, crate::proofs::Marks::unmarked_beyond, crate::proofs::Marks::next_unmarked_beyond))]
+pub fn are_marked(table: &[u8], row: usize, pair: usize) -> (bool, bool)
+    requires { (row < types_max) × (pair < types_max) }
+    ensures { (result.0 ≡ is_marked table.now row (2 * pair)) × (result.1 ≡ is_marked table.now row (2 * pair + 1)) }
+{
+    match place_of(table, row, 2 * pair) {
+        Some(place) => {
+            let marks = table[place / BITS] >> (place % BITS);
+            (marks % 2 == 1, marks / 2 % 2 == 1)
+        }
+        None => (false, false),
     }
 }
 

@@ -5,7 +5,7 @@ use mathlib.Core.List.{List}
 use Prim.Native.Nat.{ℕ, ◌<◌, ◌≤◌, min}
 use native.Mathlib.Omega.{arith}
 use lib.Dec.{ltb, eqb, T}
-use borrow.Author.Tests.{ltb-true, ltb-false}
+use borrow.Author.Tests.{ltb-true, ltb-false, ne_eqb}
 use Rattle.pages.specs.Quant.{all_to}
 use Rattle.pages.proofs.Quant.{and_true, all_cong}
 use Rattle.kinds.specs.Kinds.{null, is_array, is_tuple, is_map}
@@ -62,17 +62,21 @@ unfolding null_or
 elided_cong page p q a b i h = ap (λ (r : Bool). eqb (child_of page a i) null || (eqb (child_of page b i) null || r)) h
 
 module _ (page : List ℕ) (rule : ℕ → ℕ → Bool) (a b i x y : ℕ) (ex : x ≡ child_of page a i) (ey : y ≡ child_of page b i) where
-  pub elided_known : null_or rule x y ≡ true → elided page rule a b i ≡ true
-  elided_known h = rw (← ex, ← ey) h
-
-  pub elided_rule : (eqb x null || eqb y null) ≡ false → elided page rule a b i ≡ rule x y
+  pub elided_rule : (x ≡ null → ⊥) → (y ≡ null → ⊥) → elided page rule a b i ≡ rule x y
   unfolding null_or
-  elided_rule h = rw (← ex, ← ey) (go (eqb x null) (eqb y null) h)
+  elided_rule h k = rw (← ex, ← ey, ne_eqb x null h, ne_eqb y null k) refl
+
+  pub elided_left : x ≡ null → elided page rule a b i ≡ true
+  unfolding null_or
+  elided_left h = rw (← ex, h) refl
+
+  pub elided_right : y ≡ null → elided page rule a b i ≡ true
+  unfolding null_or
+  elided_right h = rw (← ey, h) (go (eqb (child_of page a i) null))
     where
-      go : (p q : Bool) → (p || q) ≡ false → (p || (q || rule x y)) ≡ rule x y
-      go true q e = absurd (subst T e tt)
-      go false true e = absurd (subst T e tt)
-      go false false e = refl
+      go : (p : Bool) → (p || true) ≡ true
+      go true = refl
+      go false = refl
 
 module _ (page : List ℕ) (f : Formed page) (a : ℕ) (u : a < types_in page) (b : ℕ) where
   array_child : both is_array page a b ≡ true → 0 < arity page a

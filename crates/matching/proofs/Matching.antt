@@ -19,10 +19,10 @@ use Rattle.types.specs.Recur.{below, cov}
 use Rattle.types.proofs.Recur.{below_lt, cov_eq}
 use Rattle.types.proofs.Types.{kind_fixed, child_lower}
 use Rattle.matching.specs.Matching.{both, is_kind, null_array_elision, null_map_elision, record_matches, enum_matches, set_matches, handle_matches, flat_matches, wild, plain_matches, any_rule, known_matches, any_matches, known_for_function, function_matches, matches, in_use}
-use Rattle.marks.specs.Marks.{is_marked, Noted}
+use Rattle.marks.specs.Marks.{is_marked, marking, Noted}
 use Rattle.matching.specs.Memo.{has_partner, found, is_free, column_of, keeps, Found, is_refuted, members_of, member_of}
 use Rattle.matching.proofs.Parts.{within_below, within_above}
-use Rattle.matching.proofs.Memo.{recalled, refuted_marks, union_alone, found_sequences, found_maps, found_union, found_flat}
+use Rattle.matching.proofs.Memo.{recalled, noted_both, refuted_marks, union_alone, found_sequences, found_maps, found_union, found_flat}
 use Rattle.matching.proofs.Elision.{array_unlike, map_unlike}
 use Rattle.matching.specs.declared.Checked.{Checked}
 use Rattle.matching.specs.declared.Checked.TheVariants.{Known, Unknown, Function}
@@ -232,14 +232,22 @@ pub refuted_so : (page : List ℕ) → Formed page → (memo : List ℕ) → Not
     → is_refuted page memo a b ≡ true → known_matches page a b ≡ false
 unfolding is_refuted keeps
 refuted_so page f memo n a u b v h =
-    let d = and_true (is_marked memo a (column_of b false)) (not (is_free page a b) && (not (both is_union page a b) || is_marked memo a (column_of b true))) h in
-    let e = and_true (not (is_free page a b)) (not (both is_union page a b) || is_marked memo a (column_of b true)) d.1 in
-    go (both is_union page a b) refl d.0 (not-true (is_free page a b) e.0) e.1
+    let d = and_true (is_marked memo a (column_of b false)) (is_marked memo a (column_of b true) || (not (is_free page a b) && not (both is_union page a b))) h in
+    go (is_marked memo a (column_of b true)) refl d.0 d.1
   where
-    go : (r : Bool) → both is_union page a b ≡ r → is_marked memo a (column_of b false) ≡ true → is_free page a b ≡ false
-        → (not r || is_marked memo a (column_of b true)) ≡ true → known_matches page a b ≡ false
-    go true k m free y = refuted_marks page memo n a b m y
-    go false k m free y = known_refuted page f b v a u free k (recalled page memo n a b false true (sym m) refl)
+    go : (r : Bool) → is_marked memo a (column_of b true) ≡ r → is_marked memo a (column_of b false) ≡ true
+        → (r || (not (is_free page a b) && not (both is_union page a b))) ≡ true → known_matches page a b ≡ false
+    go true y m t = refuted_marks page memo n a b m y
+    go false y m t =
+        let e = and_true (not (is_free page a b)) (not (both is_union page a b)) t in
+        known_refuted page f b v a u (not-true (is_free page a b) e.0) (not-true (both is_union page a b) e.1) (recalled page memo n a b false true (sym m) refl)
+
+-- where it follows from a no and from the kinds of the two, the other mark is right as well
+pub noted_refuted : (page : List ℕ) → Formed page → (memo : List ℕ) → Noted (Found page) memo → (a : ℕ) → a < types_in page → (b : ℕ) → b < types_in page
+    → is_marked memo a (column_of b false) ≡ true → is_free page a b ≡ false → both is_union page a b ≡ false → Noted (Found page) (marking memo a (column_of b true))
+unfolding keeps
+noted_refuted page f memo n a u b v m free k =
+    noted_both page memo n a b m (known_refuted page f b v a u free k (recalled page memo n a b false true (sym m) refl))
 
 -- ---- a member of a union stands for it, and so does what stands for a member
 

@@ -1,7 +1,9 @@
 -- What a call has in mind of pairs of types. Assumes nothing.
 use mathlib.Core.Path.{◌≡◌, refl, sym, ◌∙◌, ap, subst}
-use mathlib.Core.Bool.{Bool, Bool-set, true, false, not, ◌&&◌, ◌||◌, cond}
+use mathlib.Core.Bool.{Bool, Bool-set, true, false, not, beq, ◌||◌, cond}
 use mathlib.Core.Logic.{◌⊎◌, inl, inr, ⊎_elim, ∥∥₁_elim}
+use Rattle.std.proofs.Common.{Option, Some, None, MatchOption}
+use Rattle.std.specs.Option.{option_eq}
 use Rattle.std.proofs.Math.Bridge.{le_prop}
 use Rattle.std.proofs.Math.Logic.{∥∥₁_prop}
 use mathlib.Core.List.{List}
@@ -11,14 +13,14 @@ use lib.Dec.{T, eqb}
 use borrow.Author.Tests.{eqb-true, eqb-false, not-true}
 use Rattle.pages.proofs.Quant.{and_true}
 use Rattle.pages.proofs.Bytes.{and_false}
-use Rattle.kinds.specs.Kinds.{null, is_array, is_tuple, is_map, is_union}
+use Rattle.kinds.specs.Kinds.{is_array, is_tuple, is_map, is_union}
 use Rattle.types.specs.Store.{types_max, Formed}
 use Rattle.types.specs.Types.{types_in, kind_of, Held}
 use Rattle.types.proofs.Types.{whole, held_by}
 use Rattle.marks.specs.Marks.{is_marked, marking, Noted}
 use Rattle.marks.proofs.Marks.{marked_more, marked_still}
-use Rattle.matching.specs.Matching.{both, null_or, null_array_elision, null_map_elision, flat_matches, known_matches}
-use Rattle.matching.specs.Memo.{has_partner, found, column_of, keeps, Says, Found, refuting, is_elided}
+use Rattle.matching.specs.Matching.{both, null_array_elision, null_map_elision, flat_matches, known_matches}
+use Rattle.matching.specs.Memo.{has_partner, found, column_of, keeps, Says, Found, refuting}
 use Rattle.matching.proofs.Parts.{within_below, within_above}
 
 -- a type in use has a row and a column
@@ -57,6 +59,19 @@ column_same t s b answer e = (
   sym (column_type t s) ∙ ap (λ (c : ℕ). c / 2) e ∙ column_type b answer,
   sym (column_answer t s) ∙ ap (λ (c : ℕ). eqb (c % 2) 1) e ∙ column_answer b answer,
 )
+
+-- an answer is kept in mind exactly if it is what is recalled
+pub recalled_is : (memo : List ℕ) (a b : ℕ) (r : Option Bool) → MatchOption r ((keeps memo a b true ≡ false) × (keeps memo a b false ≡ false)) (λ answer. keeps memo a b answer ≡ true)
+    → (answer : Bool) → option_eq beq r (Some answer) ≡ keeps memo a b answer
+unfolding keeps
+recalled_is memo a b None h true = sym h.0
+recalled_is memo a b None h false = sym h.1
+recalled_is memo a b (Some true) h true = sym h
+recalled_is memo a b (Some true) h false =
+    let d = and_true (is_marked memo a (column_of b true)) (not (is_marked memo a (column_of b false))) h in
+    sym (not-true (is_marked memo a (column_of b false)) d.1)
+recalled_is memo a b (Some false) h true = rw h (sym (and_false (is_marked memo a (column_of b true))))
+recalled_is memo a b (Some false) h false = sym h
 
 -- what the marks of a pair say, and that they say it of all pairs
 module _ (page : List ℕ) where
@@ -136,7 +151,7 @@ module _ (page : List ℕ) where
 
   -- the other mark of a pair that is found not to stand
   module _ (memo : List ℕ) (n : Noted (Found page) memo) (a b : ℕ) (m : is_marked memo a (column_of b false) ≡ true) (h : known_matches page a b ≡ false) where
-    noted_both : Noted (Found page) (marking memo a (column_of b true))
+    pub noted_both : Noted (Found page) (marking memo a (column_of b true))
     noted_both = all_said (after memo n a b true) say
       where
         say : (x t : ℕ) (s : Bool) → is_marked (after memo n a b true) x (column_of t s) ≡ true → At (after memo n a b true) x t s
@@ -194,28 +209,6 @@ module _ (page : List ℕ) (a b : ℕ) where
   pub found_maps : both is_map page a b ≡ true → found page a b ≡ null_map_elision page a b
   unfolding found
   found_maps h = rw (maps_alone (and_true (is_map (kind_of page a)) (is_map (kind_of page b)) h).1, h) refl
-
-  -- children known to be elided are, whatever the rule is beside that of arrays
-  pub elided_so : (memo : List ℕ) → Noted (Found page) memo → is_elided page memo a b ≡ true → (rule : ℕ → ℕ → Bool)
-      → (null_array_elision page a b ≡ true → rule a b ≡ true) → null_or rule a b ≡ true
-  unfolding is_elided null_or
-  elided_so memo n h rule r = go (eqb a null) (eqb b null) h
-    where
-      go : (p q : Bool) → ((p || q) || (keeps memo a b true && (both is_array page a b || both is_tuple page a b))) ≡ true → (p || (q || rule a b)) ≡ true
-      go true q t = refl
-      go false true t = refl
-      go false false t =
-          let d = and_true (keeps memo a b true) (both is_array page a b || both is_tuple page a b) t in
-          r (sym (found_sequences d.1) ∙ recalled page memo n a b true true (sym d.0) refl)
-
-  -- and where it is not known, neither is Null
-  pub not_elided : (memo : List ℕ) → is_elided page memo a b ≡ false → (eqb a null || eqb b null) ≡ false
-  unfolding is_elided
-  not_elided memo h = go (eqb a null || eqb b null) (keeps memo a b true && (both is_array page a b || both is_tuple page a b)) h
-    where
-      go : (p q : Bool) → (p || q) ≡ false → p ≡ false
-      go true q t = absurd (subst T t tt)
-      go false q t = refl
 
   -- nor is a union
   pub union_alone : is_union (kind_of page b) ≡ true → ((both is_array page a b || both is_tuple page a b) ≡ false) × (both is_map page a b ≡ false)

@@ -3,7 +3,7 @@
 -- proofs/Matching.antt).
 use Rattle.std.specs.Prelude.{◌≡◌, Bool, not, true, false, ◌&&◌, ◌||◌, cond, List, ℕ, ◌+◌, ◌*◌, ◌/◌, ◌%◌, ◌<◌, ltb, eqb}
 use Rattle.pages.specs.Quant.{any_to}
-use Rattle.kinds.specs.Kinds.{null, is_array, is_tuple, is_map, is_union, const_matches}
+use Rattle.kinds.specs.Kinds.{is_array, is_tuple, is_map, is_union, const_matches}
 use Rattle.types.specs.Types.{types_in, kind_of, arity, child_of}
 use Rattle.marks.specs.Marks.{is_marked, marking}
 use Rattle.matching.specs.Matching.{both, wild, null_array_elision, null_map_elision, flat_matches, known_matches}
@@ -29,7 +29,7 @@ is_free page a b = eqb a b || (wild page a b || const_matches (kind_of page a) (
 unfoldable pub column_of : ℕ → Bool → ℕ
 column_of b answer = 2 * b + cond answer 1 0
 
--- is an answer kept in mind: a no by its mark, a yes by its mark alone; both marks say that a type does not stand for a union
+-- is an answer kept in mind: a no by its mark, a yes by its mark alone; both marks say that the one does not stand for the other
 unfoldable pub keeps : List ℕ → ℕ → ℕ → Bool → Bool
 keeps memo a b true = is_marked memo a (column_of b true) && not (is_marked memo a (column_of b false))
 keeps memo a b false = is_marked memo a (column_of b false)
@@ -58,14 +58,10 @@ type_number (Function t) = t
 unfoldable pub fits : ℕ → Checked → Checked → Bool
 fits n a b = ltb (type_number a) n && ltb (type_number b) n
 
--- are two children known to be elided
-unfoldable pub is_elided : List ℕ → List ℕ → ℕ → ℕ → Bool
-is_elided page memo x y = (eqb x null || eqb y null) || (keeps memo x y true && (both is_array page x y || both is_tuple page x y))
-
--- is it marked that a type does not stand for another
+-- is it known by the marks that a type does not stand for another: by both, or by a no and the kinds of the two
 unfoldable pub is_refuted : List ℕ → List ℕ → ℕ → ℕ → Bool
 is_refuted page memo a b =
-    is_marked memo a (column_of b false) && (not (is_free page a b) && (not (both is_union page a b) || is_marked memo a (column_of b true)))
+    is_marked memo a (column_of b false) && (is_marked memo a (column_of b true) || (not (is_free page a b) && not (both is_union page a b)))
 
 -- the members of a type on the actual side: what is no union is its own one member
 unfoldable pub members_of : List ℕ → ℕ → ℕ

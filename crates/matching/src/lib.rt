@@ -7,8 +7,8 @@ ghost use Rattle.types.specs.Store.{types_max};
 ghost use Rattle.kinds.specs.Kinds.{is_array, is_map, is_tuple, is_union, const_matches};
 ghost use Rattle.marks.specs.Marks.{is_marked, marking, Noted};
 ghost use Rattle.types.specs.Types.{types_in, kind_of, Held};
-ghost use Rattle.matching.specs.Matching.{both, smaller, null_array_elision, null_map_elision, record_matches, enum_matches, set_matches, handle_matches, wild, flat_matches, any_matches, known_for_function, function_matches, matches, in_use};
-ghost use Rattle.matching.specs.Memo.{type_number, fits, column_of, keeps, refuting, is_elided, is_free, is_refuted, members_of, member_of, found, Found};
+ghost use Rattle.matching.specs.Matching.{both, smaller, null_array_elision, null_map_elision, record_matches, enum_matches, set_matches, handle_matches, flat_matches, any_matches, known_for_function, function_matches, matches, in_use};
+ghost use Rattle.matching.specs.Memo.{type_number, fits, column_of, keeps, refuting, is_free, is_refuted, members_of, member_of, found, Found};
 
 use kinds::{FN, GENERIC, HANDLE, HANDLE_INFER};
 use marks::{LARGE_BYTES, SMALL_BYTES, TINY_BYTES};
@@ -69,30 +69,25 @@ fn column_of(b: usize, answer: bool) -> usize
 }
 
 // Whether an answer for a pair is kept in mind.
-#[tactic(auto, unfolding(crate::specs::Memo::keeps))]
+#[tactic(auto, using(crate::proofs::Memo::recalled_is))]
 pub fn recalls(memo: &[u8], a: usize, b: usize, answer: bool) -> bool
     requires { (a < types_max) × (b < types_max) }
     ensures { result ≡ keeps memo.now a b answer }
 {
-    if answer {
-        return marks::is_marked(memo, a, column_of(b, true))
-            & !marks::is_marked(memo, a, column_of(b, false));
-    }
-    marks::is_marked(memo, a, column_of(b, false))
+    recalled(memo, a, b) == Some(answer)
 }
 
-// The answer that is kept in mind for a pair, if one is.
+// The answer that is kept in mind for a pair, if one is: a no wherever it is marked, else a yes.
+#[tactic(auto, unfolding(crate::specs::Memo::keeps, crate::specs::Memo::column_of))]
 pub fn recalled(memo: &[u8], a: usize, b: usize) -> Option<bool>
     requires { (a < types_max) × (b < types_max) }
     ensures { MatchOption result ((keeps memo.now a b true ≡ false) × (keeps memo.now a b false ≡ false)) (λ answer. keeps memo.now a b answer ≡ true) }
 {
-    if recalls(memo, a, b, true) {
-        return Some(true);
+    match marks::are_marked(memo, a, b) {
+        (true, _) => Some(false),
+        (false, true) => Some(true),
+        (false, false) => None,
     }
-    if recalls(memo, a, b, false) {
-        return Some(false);
-    }
-    None
 }
 
 // Keeps the answer for a pair in mind.
@@ -103,8 +98,8 @@ pub fn note(memo: &mut [u8], a: usize, b: usize, answer: bool)
     marks::mark(memo, a, column_of(b, answer));
 }
 
-// Keeps in mind that a type does not stand for a union. A union's refutation is both marks, no and yes: a no alone says what `find` came
-// to by the kinds of the two, and no yes is recalled where there is a no. Where the table has no room for the no, neither is made.
+// Keeps in mind that a type does not stand for a union. A refutation is both marks, no and yes: a no alone says what `find` came to by
+// the kinds of the two, and no yes is recalled where there is a no. Where the table has no room for the no, neither is made.
 #[tactic(auto, unfolding(crate::specs::Memo::refuting))]
 fn refute(memo: &mut [u8], a: usize, b: usize)
     requires { (a < types_max) × (b < types_max) }
@@ -144,17 +139,10 @@ fn are_unions(store: Store, a: usize, b: usize) -> bool
     kinds::is_union(store.kind_of(a)) & kinds::is_union(store.kind_of(b))
 }
 
-// Whether two children are known to be elided: one is Null, or they are arrays or tuples of which it was found.
-#[tactic(auto, unfolding(crate::specs::Memo::is_elided))]
-fn is_elided(store: Store, memo: &[u8], x: usize, y: usize) -> bool
-    requires { (x < types_in store.page.now) × (y < types_in store.page.now) }
-    ensures { result ≡ is_elided store.entry.page.now memo.now x y }
-{
-    x == NULL || y == NULL || recalls(memo, x, y, true) && are_sequences(store, x, y)
-}
-
 // Whether of two arrays, or two tuples, every pair of elements has Null on a side or is such a pair itself; of tuples only shared
-// elements are compared.
+// elements are compared. The tests stand in the callers, so that a walk is begun only for a pair that is met for the first time.
+#[cycle(array_elision)]
+#[inline(always)]
 pub fn null_array_elision(store: Store, memo: &mut [u8], a: usize, b: usize) -> bool
     requires a_bound { (a < types_in store.page.now) × (b < types_in store.page.now) }
     requires noted { Noted (Found store.page.now) memo.old }
@@ -164,14 +152,26 @@ pub fn null_array_elision(store: Store, memo: &mut [u8], a: usize, b: usize) -> 
     if !are_sequences(store, a, b) {
         return false;
     }
-    if let Some(answer) = recalled(memo, a, b) {
-        return answer;
+    match recalled(memo, a, b) {
+        Some(answer) => answer,
+        None => elide_sequences(store, memo, a, b),
     }
+}
+
+// The elements of two arrays, or two tuples, pair by pair; what it comes to is kept in mind.
+#[cycle(array_elision)]
+fn elide_sequences(store: Store, memo: &mut [u8], a: usize, b: usize) -> bool
+    requires a_bound { (a < types_in store.page.now) × (b < types_in store.page.now) }
+    requires sequences { (both is_array store.page.now a b || both is_tuple store.page.now a b) ≡ true }
+    requires noted { Noted (Found store.page.now) memo.old }
+    ensures value { result ≡ null_array_elision store.entry.page.now a b }
+    ensures noted_2 { Noted (Found store.entry.page.now) memo.new }
+{
     let n = store.arity(a).min(store.arity(b));
     for i in 0..n {
         let x = store.child_of(a, i);
         let y = store.child_of(b, i);
-        if !is_elided(store, memo, x, y) && !null_array_elision(store, memo, x, y) {
+        if x != NULL && y != NULL && !null_array_elision(store, memo, x, y) {
             note(memo, a, b, false);
             return false;
         }
@@ -182,6 +182,8 @@ pub fn null_array_elision(store: Store, memo: &mut [u8], a: usize, b: usize) -> 
 
 // Whether of two maps the keys, and the values, have Null on a side, or are arrays, tuples or maps of which the same holds. One function
 // with the elision of arrays would test at each step which of the two it is, and the source has both by name.
+#[cycle(map_elision)]
+#[inline(always)]
 pub fn null_map_elision(store: Store, memo: &mut [u8], a: usize, b: usize) -> bool
     requires a_bound { (a < types_in store.page.now) × (b < types_in store.page.now) }
     requires noted { Noted (Found store.page.now) memo.old }
@@ -191,13 +193,26 @@ pub fn null_map_elision(store: Store, memo: &mut [u8], a: usize, b: usize) -> bo
     if !are_maps(store, a, b) {
         return false;
     }
-    if let Some(answer) = recalled(memo, a, b) {
-        return answer;
+    match recalled(memo, a, b) {
+        Some(answer) => answer,
+        None => elide_maps(store, memo, a, b),
     }
+}
+
+// The keys of two maps, and their values; what it comes to is kept in mind.
+#[cycle(map_elision)]
+fn elide_maps(store: Store, memo: &mut [u8], a: usize, b: usize) -> bool
+    requires a_bound { (a < types_in store.page.now) × (b < types_in store.page.now) }
+    requires maps { both is_map store.page.now a b ≡ true }
+    requires noted { Noted (Found store.page.now) memo.old }
+    ensures value { result ≡ null_map_elision store.entry.page.now a b }
+    ensures noted_2 { Noted (Found store.entry.page.now) memo.new }
+{
     for i in 0..2 {
         let x = store.child_of(a, i);
         let y = store.child_of(b, i);
-        if !is_elided(store, memo, x, y)
+        if x != NULL
+            && y != NULL
             && !null_array_elision(store, memo, x, y)
             && !null_map_elision(store, memo, x, y)
         {
@@ -267,15 +282,6 @@ pub fn handle_matches(store: Store, a: usize, b: usize) -> bool
     (ka == HANDLE_INFER) & ((kb == HANDLE_INFER) | (kb == HANDLE))
 }
 
-// Whether a type is Null, or either is a Generic.
-#[tactic(auto, unfolding(crate::specs::Matching::wild))]
-fn is_wild(store: Store, a: usize, b: usize) -> bool
-    requires { (a < types_in store.page.now) × (b < types_in store.page.now) }
-    ensures { result ≡ wild store.entry.page.now a b }
-{
-    a == NULL || store.kind_of(b) == GENERIC || store.kind_of(a) == GENERIC
-}
-
 // Whether a type stands for another by a rule that looks at no child's children.
 #[tactic(auto, unfolding(crate::specs::Matching::flat_matches))]
 fn flat_matches(store: Store, a: usize, b: usize) -> bool
@@ -314,13 +320,18 @@ fn function_matches(store: Store, f: usize, expected: Checked) -> bool
     }
 }
 
-// Whether a type stands for another whatever their children are: they are equal, one of them is wild, or one is const.
-#[tactic(auto, unfolding(crate::specs::Memo::is_free))]
+// Whether a type stands for another whatever their children are: they are equal, the one is Null, either is a Generic, or one is const.
+#[tactic(auto, unfolding(crate::specs::Memo::is_free, crate::specs::Matching::wild))]
 fn is_free(store: Store, a: usize, b: usize) -> bool
     requires { (a < types_in store.page.now) × (b < types_in store.page.now) }
     ensures { result ≡ is_free store.entry.page.now a b }
 {
-    a == b || is_wild(store, a, b) || const_matches(store, a, b)
+    if a == b || a == NULL {
+        return true;
+    }
+    let ka = store.kind_of(a);
+    let kb = store.kind_of(b);
+    kb == GENERIC || ka == GENERIC || kinds::const_matches(ka, kb)
 }
 
 // What is found of a pair whose expected type is no union: by elision, or by a rule that looks at no child's children.
@@ -341,15 +352,24 @@ fn find(store: Store, memo: &mut [u8], a: usize, b: usize) -> bool
     answer
 }
 
-// Whether it is known already that a type does not stand for another.
-#[tactic(auto, unfolding(crate::specs::Memo::is_refuted, crate::specs::Memo::keeps))]
-fn is_refuted(store: Store, memo: &[u8], a: usize, b: usize) -> bool
-    requires { (a < types_in store.page.now) × (b < types_in store.page.now) }
-    ensures { result ≡ is_refuted store.entry.page.now memo.now a b }
+// Whether it is known already that a type does not stand for another. Where it follows from a no and from the kinds of the two, the other
+// mark is made as well, so that the kinds are not asked again.
+#[tactic(auto, unfolding(crate::specs::Memo::is_refuted, crate::specs::Memo::column_of))]
+fn is_refuted(store: Store, memo: &mut [u8], a: usize, b: usize) -> bool
+    requires a_bound { (a < types_in store.page.now) × (b < types_in store.page.now) }
+    requires noted { Noted (Found store.page.now) memo.old }
+    ensures value { result ≡ is_refuted store.entry.page.now memo.old a b }
+    ensures noted_2 { Noted (Found store.entry.page.now) memo.new }
 {
-    recalls(memo, a, b, false)
-        && !is_free(store, a, b)
-        && (!are_unions(store, a, b) || marks::is_marked(memo, a, column_of(b, true)))
+    let (no, yes) = marks::are_marked(memo, a, b);
+    if !no || yes {
+        return no;
+    }
+    if is_free(store, a, b) || are_unions(store, a, b) {
+        return false;
+    }
+    note(memo, a, b, true);
+    true
 }
 
 // Whether a checked type stands for another.

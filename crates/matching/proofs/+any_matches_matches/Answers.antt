@@ -50,7 +50,7 @@ any_matches-matches-requires t c =
     let used : e.result < types_in page = omega (arith, e.ensures.1, c.requires.a_bound.1) in
     let um : c.member_of-m.result < types_in c.args.store.page.now = omega (arith, c.member_of-m.ensures.1, c.requires.a_bound.0) in (
       omega (arith, c.decreases, e.ensures.1),
-      (((in_use_known page c.member_of-m.result um, in_use_known page e.result used), c.loop-j.invariant.0)),
+      (((in_use_known page c.member_of-m.result um, in_use_known page e.result used), c.is_refuted.ensures.noted_2)),
     )
 
 pub any_matches-members-preserved-in-Some-true : goal.any_matches-members-preserved-in-Some-true
@@ -105,8 +105,8 @@ any_matches-loop-j-preserved t c =
       | any_matches-else-not-is_refuted-via-then-not-is_refuted+else-matches w ↦
           (rw w.memo-is w.matches.ensures.noted_2, more (stands_so page m c.args.b l.j e.result w.matches.result false e.ensures.0 w.matches.ensures.value w.if-matches.false))
       | any_matches-else-not-is_refuted-via-else-not-is_refuted w ↦
-          let r = refuted_so page (held_by c.args.store.held).sound l.memo l.invariant.0 m um e.result used (sym c.is_refuted.ensures ∙ w.if-not-is_refuted.false) in
-          (rw w.memo-is l.invariant.0, more (rw (← e.ensures.0) r))
+          let r = refuted_so page (held_by c.args.store.held).sound l.memo l.invariant.0 m um e.result used (sym c.is_refuted.ensures.value ∙ w.if-not-is_refuted.false) in
+          (rw w.memo-is c.is_refuted.ensures.noted_2, more (rw (← e.ensures.0) r))
     ]
 
 pub any_matches-note-requires-in-members : goal.any_matches-note-requires-in-members
