@@ -60,11 +60,12 @@ binary_verdict page names pairs op left right =
     ∷ (Broken when (store_broken page names || table_broken pairs names))
     ∷ operand_conditions page (used_of names) left right)
 
--- a check that passes has the unit of its operator's rule, refused by 8 and 9; with an error there is none
+-- what an answer comes to with its unit, which 8 and 9 may refuse
 abbrev pub beside : Outcome → Result (Option Unit) Refusal → Result Answered Refusal
 beside o (Ok u) = Ok (answered o u)
 beside o (Err r) = Err r
 
+-- a check that passes has the unit of its operator's rule; with an error there is none, and no 8 or 9
 unfoldable pub with_unit : Outcome → Result (Option Unit) Refusal → Result Answered Refusal
 with_unit o u = cond (passes o) (beside o u) (Ok (answered o no_unit))
 
@@ -99,7 +100,7 @@ unary_verdict page names op x =
     ∷ (Broken when store_broken page names)
     ∷ operand_conditions page (used_of names) x x)
 
--- − keeps its operand's unit where it passes, ! has none
+-- − has a negation's unit where it passes, ! has none
 unfoldable pub unary_unit : List ℕ → ℕ → Outcome → Option Unit → Option Unit
 unary_unit store op o u =
     cond (eqb op minus && passes o) (negation_unit (is_union (kind_of store (number_of o.checked))) u) no_unit

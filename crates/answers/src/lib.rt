@@ -152,7 +152,7 @@ fn is_formed(x: CheckedExpr) -> bool
 }
 
 // Why two operands are refused, if they are, where n numbers are in use.
-fn operands_verdict(
+pub fn operands_verdict(
     store: Store,
     n: usize,
     left: CheckedExpr,
@@ -315,8 +315,8 @@ pub fn check_unary_operator(
     unary_checked(&mut maker, &mut leaves, op, x)
 }
 
-// What indexing a target in use by a key in use answers; a union that it answers enters the store. What matching has found stays
-// right for the store that it leaves. For crates above (`check_index` is the entry call, and tests the forms).
+// What indexing a target in use by a key in use answers; a union that it answers enters the store. What matching has found is right for
+// the store as it was given, and so for the one that it leaves. For crates above (`check_index` is the entry call, and tests the forms).
 pub fn index_checked(
     maker: &mut Maker,
     memo: &mut [u8],
@@ -327,7 +327,7 @@ pub fn index_checked(
     requires noted { Noted (Found maker.old.page.now) memo.old }
     ensures value { result ≡ concluded_by (check_index maker.old.page.now key target.checked).conclusion target.unit }
     ensures page_after { maker.new.page.now ≡ store_after (check_index maker.old.page.now key target.checked) maker.old.page.now }
-    ensures noted_2 { Noted (Found maker.new.page.now) memo.new }
+    ensures noted_2 { Noted (Found maker.old.page.now) memo.new }
     ensures same { Same maker.new maker.old }
 {
     let c = target.checked;

@@ -8,7 +8,7 @@ use mathlib.Core.List.{List, [], ◌∷◌, ◌++◌}
 use Prim.Native.Nat.{ℕ, ◌+◌, ◌/◌, ◌%◌, ◌≤◌}
 use native.Mathlib.Omega.{arith}
 use lib.Dec.{eqb}
-use lib.ListN.{length, replicate, length-append}
+use lib.ListN.{length, replicate, length-append, length-replicate}
 use Rattle.refusals.specs.Lowest.{◌when◌, guarded}
 use Rattle.refusals.specs.declared.Refusal.TheVariants.{Undefined, Broken}
 use Rattle.refusals.specs.Numbers.{Verdict}
@@ -25,7 +25,6 @@ use Rattle.units.specs.Unit.{places_max}
 use Rattle.units.specs.Calls.{terms_of, product_answer, unitless}
 use Rattle.units.proofs.Form.{formed_length, length_terms}
 use Rattle.units.proofs.Calls.{result_few}
-use Rattle.values.specs.Value.{unit_max}
 use Rattle.pairs.specs.Calls.{table_broken}
 use Rattle.sums.specs.Calls.{or_empty}
 use Rattle.operators.specs.Operators.{is_operator, minus, unit_rule}
@@ -40,17 +39,17 @@ use Rattle.answers.specs.Calls.{operand_formed, operand_conditions, binary_verdi
 use Rattle.answers.specs.declared.CheckedExpr.{CheckedExpr}
 use Rattle.answers.specs.declared.Answered.{Answered}
 use Rattle.answers.proofs.Calls.{passed_formed}
-use Rattle.calls.specs.Answers.{error_bytes, answer_bytes, bytes_of_errors}
+use Rattle.calls.specs.Answers.{bytes_of_errors}
 use Rattle.operators.specs.declared.UnitRule.{UnitRule}
 
--- errors and a unit in their places
-pub answer_made : (e u : List ℕ) → length e ≡ error_bytes → length u ≡ unit_max → put (put (replicate answer_bytes 0) 0 e) error_bytes u ≡ e ++ u
-answer_made e u h k =
-    let at : error_bytes ≡ 0 + length e = omega arith in
-    let n : length (e ++ u) ≡ length (replicate {A = ℕ} answer_bytes 0) = length-append e u ∙ omega arith in
-    ap (λ (i : ℕ). put (put (replicate answer_bytes 0) 0 e) i u) at
-    ∙ put_append (replicate answer_bytes 0) 0 e u (omega arith)
-    ∙ put_whole (replicate answer_bytes 0) (e ++ u) n
+-- bytes in their places, those of errors and a unit, or those of an answer and a count
+pub both_made : {n m : ℕ} (e u : List ℕ) → length e ≡ n → length u ≡ m → put (put (replicate (n + m) 0) 0 e) n u ≡ e ++ u
+both_made {n = n} {m = m} e u h k =
+    let at : n ≡ 0 + length e = omega (arith, h) in
+    let l : length (e ++ u) ≡ length (replicate {A = ℕ} (n + m) 0) = length-append e u ∙ omega (arith, h, k, length-replicate {A = ℕ} (n + m) 0) in
+    ap (λ (i : ℕ). put (put (replicate (n + m) 0) 0 e) i u) at
+    ∙ put_append (replicate (n + m) 0) 0 e u (omega (arith, h, k, l, length-append e u))
+    ∙ put_whole (replicate (n + m) 0) (e ++ u) l
 
 -- the bytes of errors, one after another
 pub errors_said : (e : Errors)

@@ -4,3 +4,4 @@ pub mod Sums
 pub mod Types
 pub mod Bindings
 pub mod Answers
+pub mod Formulas

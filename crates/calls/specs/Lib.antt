@@ -1,3 +1,4 @@
 pub mod Codes
 pub mod Types
 pub mod Answers
+pub mod Formulas

@@ -20,22 +20,28 @@ ghost use Rattle.types.specs.Calls.{make_answer, make_page};
 ghost use Rattle.types.specs.Calls as store;
 ghost use Rattle.bindings.specs.Bindings.{bindings_max};
 ghost use Rattle.checked.specs.Calls.{matches_answer, generic_answer, into_const, into_const_page, substitute_answer, substitute_page};
+ghost use Rattle.pages.specs.Bytes.{word_bytes, big_endian};
 ghost use Rattle.pages.specs.Pad.{pad};
 ghost use Rattle.values.specs.Value.{none_count, unit_max, readable, unit_in};
 ghost use Rattle.sums.specs.Calls.{or_empty};
 ghost use Rattle.calls.specs.Types.{bytes_of_type, checked_of, bindings_in, bytes_of_bindings, number_in, const_code, bindings_after, unify_in, unify_arg_in};
 ghost use Rattle.calls.specs.Codes.{packed, number_code, found_code, nothing_code, size_code, out_after, out_after_bytes, power_code, answer_code, unit_or_broken, unitless_in, product_in, text_verdict_in, text_in, bytes_of_unit, factor_code, out_after_factor, units_verdict_in, group_sums_in, bytes_of_sums, convertible_in, units_in};
 ghost use Rattle.refusals.specs.Lowest.{lowest};
+ghost use Rattle.formulas.specs.Calls.{check_answer, check_page};
 ghost use Rattle.calls.specs.Answers.{operands_in, answered_code, bytes_of_errors, bytes_of_maybe, bytes_of_answer, out_after_answer, operand_used_in, operands_verdict_in, binary_verdict_in, binary_in, unary_verdict_in, unary_in, unary_page_in, index_in, index_page_in};
+ghost use Rattle.routes.specs.Run.{formula_lent, run_answer, run_page, run_table, RunRule};
+ghost use Rattle.calls.specs.Formulas.{formula_code, bytes_of_formula, out_after_formula, compared_code};
 
 use answers::{Answered, CheckedExpr};
 use bindings::{BINDINGS, Bindings};
+use formulas::FormulaAnswer;
 use kinds::Kind;
 use matching::Checked;
 use names::{NAME_BYTES, Symbol};
 use operators::Errors;
-use pages::{LONG_BYTES, Padded};
+use pages::{LONG_BYTES, Padded, WORD_BYTES, Word};
 use refusals::Refusal;
+use routes::Asked;
 use sums::Sums;
 use text::{TEXT_BYTES, Text};
 use types::{CHILD_BYTES, ENTRY_BYTES, Shape, Store, Tables};
@@ -863,4 +869,97 @@ pub extern "C" fn riddlepoppy_check_index(
     let x = operand_of(target, u);
     let answer = answers::check_index(page, names, x, checked_of(key));
     written_down(answer, out)
+}
+
+// How many bytes an answer takes with how many errors its formula has after it.
+pub const FORMULA_BYTES: usize = ANSWER_BYTES + WORD_BYTES;
+
+// The places of those bytes.
+type FormulaBytes = [u8; FORMULA_BYTES];
+
+// The two bytes of how many errors a formula has.
+fn error_count_bytes(errors: usize) -> Word
+    ensures { result ≡ big_endian word_bytes errors }
+{
+    let [.., high, low] = errors.to_be_bytes();
+    [high, low]
+}
+
+// The bytes of a formula: those of what its root answers, and how many errors it has.
+fn formula_bytes(formula: FormulaAnswer) -> FormulaBytes
+    requires { (or_empty formula.answer.unit).count ≤ places_max }
+    ensures { result ≡ bytes_of_formula formula }
+{
+    let answer = answer_bytes(formula.answer);
+    let errors = error_count_bytes(formula.errors);
+    let mut bytes = [0; FORMULA_BYTES];
+    pages::put_bytes(&mut bytes, 0, &answer);
+    pages::put_bytes(&mut bytes, ANSWER_BYTES, &errors);
+    bytes
+}
+
+// A formula as one number, and its bytes written down unless it is a refusal.
+fn written_formula(formula: Result<FormulaAnswer, Refusal>, out: &mut [u8; FORMULA_BYTES]) -> u32
+    requires { IfOk formula (λ f. (or_empty f.answer.unit).count ≤ places_max) }
+    ensures { (result ≡ formula_code formula) × (out.new ≡ out_after_formula formula out.old) }
+{
+    match formula {
+        Ok(f) => {
+            *out = formula_bytes(f);
+            coded(Ok(number_of(f.answer.checked)))
+        }
+        Err(r) => coded(Err(r)),
+    }
+}
+
+// What the formula of a list of nodes and a root comes to: what its root answers, and how many errors it has; unions that its nodes answer
+// enter the store.
+#[unsafe(no_mangle)]
+pub extern "C" fn riddlepoppy_check_formula(
+    page: &mut [u8],
+    names: &[u8],
+    lent: bool,
+    table: &[u8],
+    nodes: &[u8],
+    root: u32,
+    out: &mut [u8; FORMULA_BYTES],
+) -> u32
+    ensures value { (result ≡ formula_code (check_answer page.old (then_some lent names.now) table.now nodes.now root)) × (out.new ≡ out_after_formula (check_answer page.old (then_some lent names.now) table.now nodes.now root) out.old) }
+    ensures page_after { page.new ≡ check_page page.old (then_some lent names.now) table.now nodes.now root }
+{
+    let names = lent_names(names, lent);
+    let formula = formulas::check_formula(page, names, table, nodes, root as usize);
+    written_formula(formula, out)
+}
+
+// Whether the results' units of two formulas are convertible, over a table into which pairs are inserted first: 1 for yes. Unions that
+// nodes answer enter the store. What it says is what the totals of every two routes down the formulas say (`RunRule`).
+#[unsafe(no_mangle)]
+pub extern "C" fn riddlepoppy_compare_formulas(
+    page: &mut [u8],
+    names: &[u8],
+    lent: bool,
+    table: &mut [u8],
+    requests: &[u8],
+    left: &[u8],
+    left_root: u32,
+    right: &[u8],
+    right_root: u32,
+) -> u32
+    ensures value { result ≡ compared_code (run_answer page.old (then_some lent names.now) table.old requests.now (formula_lent left.now left_root) (formula_lent right.now right_root)) }
+    ensures page_after { page.new ≡ run_page page.old (then_some lent names.now) table.old requests.now (formula_lent left.now left_root) (formula_lent right.now right_root) }
+    ensures table_after { table.new ≡ run_table page.old (then_some lent names.now) table.old requests.now (formula_lent left.now left_root) (formula_lent right.now right_root) }
+    ensures route_rule { RunRule page.old (then_some lent names.now) table.old requests.now (formula_lent left.now left_root) (formula_lent right.now right_root) (run_answer page.old (then_some lent names.now) table.old requests.now (formula_lent left.now left_root) (formula_lent right.now right_root)) }
+{
+    let names = lent_names(names, lent);
+    let left = Asked {
+        nodes: left,
+        root: left_root as usize,
+    };
+    let right = Asked {
+        nodes: right,
+        root: right_root as usize,
+    };
+    let compared = routes::compare_formulas(page, names, table, requests, left, right);
+    answer_code(compared.map(|c| c.convertible))
 }

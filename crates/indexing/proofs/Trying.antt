@@ -12,13 +12,11 @@ use lib.Seq.{length-take-le}
 use borrow.Author.Tests.{lt-ltb, le-ltb}
 use Rattle.types.specs.Store.{Formed}
 use Rattle.types.specs.Types.{types_in}
-use Rattle.types.specs.Making.{Grows}
 use Rattle.types.specs.Calls.{all_below}
 use Rattle.marks.specs.Marks.{Noted}
 use Rattle.matching.specs.Memo.{Found}
 use Rattle.matching.specs.declared.Matcher.{Matcher}
 use Rattle.matching.proofs.Memo.{noted_by}
-use Rattle.matching.proofs.Grown.{noted_grown}
 use Rattle.matching.specs.declared.Checked.{Checked}
 use Rattle.matching.specs.declared.Checked.TheVariants.{Unknown}
 use Rattle.operators.specs.Outcome.{one_error, outcome, number_of, passes}
@@ -30,7 +28,7 @@ use Rattle.members.specs.Members.{size_of, member, merged, Entered, entered, uni
 use Rattle.members.specs.Trials.{fold_to, failing_count, failed_at, Tried, tried, joined, settled}
 use Rattle.members.proofs.Members.{member_used}
 use Rattle.members.proofs.Flattening.{Flattened}
-use Rattle.members.proofs.Unions.{merged_below, union_sound}
+use Rattle.members.proofs.Unions.{merged_below}
 use Rattle.indexing.specs.Indexing.{index_target, members_tried, tried_of, index_any}
 use Rattle.indexing.specs.declared.Trials.{Trials}
 use Rattle.indexing.proofs.Targets.{target_used}
@@ -135,10 +133,3 @@ module _ (page : List ℕ) (key : Checked) (t : ℕ) (results : List ℕ) (trial
 -- what a matcher's table ends as says what is right of its store
 pub noted_end : (m : Matcher) (page : List ℕ) → m.store.page.now ≡ page → (memo : List ℕ) → memo ≡ m.table.now → Noted (Found page) memo
 noted_end m page e memo k = let noted = rw e at (noted_by m.store.page.now m.table.now m.noted) in rw k noted
-
--- what is in mind stays so where their union enters the store
-pub union_noted : (page : List ℕ) → Formed page → (rs : List ℕ) → all_below (types_in page) rs ≡ true → (m : Result ℕ Refusal) (after : List ℕ)
-    → entered m after ≡ union_of page rs → Formed after → (memo : List ℕ) → Noted (Found page) memo → Noted (Found after) memo
-union_noted page f rs u m after e fa memo n =
-    let g : Grows page after = rw (← e) at (union_sound page f rs u).grown in
-    noted_grown page after f fa g memo n

@@ -115,8 +115,8 @@ fn try_members(
     trials
 }
 
-// What indexing a union comes to: every member is tried. What the memo holds stays right in the store that grows; it stands beside the
-// maker, as a `Matcher` has a store that nobody writes.
+// What indexing a union comes to: every member is tried. What the memo then holds was found in the store as it was given, and so is right
+// in one that has grown out of it; it stands beside the maker, as a `Matcher` has a store that nobody writes.
 pub fn check_index_any(
     maker: &mut Maker,
     memo: &mut [u8],
@@ -126,7 +126,7 @@ pub fn check_index_any(
     requires t_bound { (t < types_in maker.old.page.now) × (in_use maker.old.page.now key ≡ true) }
     requires noted { Noted (Found maker.old.page.now) memo.old }
     ensures page_after { concluded result maker.new.page.now ≡ index_any maker.old.page.now key t }
-    ensures noted_2 { Noted (Found maker.new.page.now) memo.new }
+    ensures noted_2 { Noted (Found maker.old.page.now) memo.new }
     ensures same { makers.Same maker.new maker.old }
 {
     // An array, whose count the trials hold, as `members::MEMBERS` says.
@@ -156,7 +156,7 @@ pub fn check_index(
     requires target_value { (in_use maker.old.page.now target ≡ true) × (in_use maker.old.page.now key ≡ true) }
     requires noted { Noted (Found maker.old.page.now) memo.old }
     ensures page_after { concluded result maker.new.page.now ≡ check_index maker.old.page.now key target }
-    ensures noted_2 { Noted (Found maker.new.page.now) memo.new }
+    ensures noted_2 { Noted (Found maker.old.page.now) memo.new }
     ensures same { makers.Same maker.new maker.old }
 {
     match target {

@@ -241,6 +241,19 @@ module _ (page : List ℕ) (t : ConversionTable) (n : ℕ) (fm : Form t n) (size
         let c : count_of after ≡ t.count = after_count in
         get_or-take (pair_bytes * count_of after) (drop count_bytes after) i 0 (omega (arith, c)) ∙ get_or-drop count_bytes after i 0 ∙ after_body i l
 
+    pub written_length : length (with_table page t) ≡ length page
+    written_length = rw after_is after_length
+
+    -- what stands behind the table stays
+    pub written_far : (m : ℕ) → size_of t.count ≤ m → drop m (with_table page t) ≡ drop m page
+    unfolding k after two one
+    written_far m l =
+        rw after_is (
+        put_drop two 0 (bytes_of k) after_fits m (omega (arith, l))
+        ∙ put_drop one (parents_at k) t.parents two_fits m (omega (arith, l, parents_length))
+        ∙ put_drop page count_bytes bodies one_fits m (omega (arith, l, bodies_length))
+        )
+
     pub written_count : count_of (with_table page t) ≡ t.count
     unfolding k
     written_count = rw after_is after_count

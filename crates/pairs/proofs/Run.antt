@@ -9,6 +9,7 @@ use mathlib.Core.Logic.{◌↔◌}
 use mathlib.Core.Bool.{Bool, true, false, not, cond}
 use mathlib.Core.List.{List, [], ◌∷◌, ◌++◌, append_assoc, append-nil}
 use Prim.Native.Nat.{ℕ, ◌+◌, ◌*◌, ◌<◌, ◌≤◌}
+use native.Mathlib.Nat.{le_refl}
 use native.Mathlib.Omega.{arith}
 use lib.Dec.{leb, ltb}
 use lib.ListN.{length, drop}
@@ -30,14 +31,14 @@ use Rattle.groups.specs.Groups.{Pair, Within, Joined, Joining, walk, parents_of,
 use Rattle.groups.proofs.UnionFind.{groups, walk_short}
 use Rattle.pairs.specs.Table.{pairs_max, pair_bytes, pair_at, listed, both_used, used_at, insert_verdict, with_pair, after_insertion}
 use Rattle.pairs.specs.Table as tables
-use Rattle.pairs.specs.Page.{size_of, bodies_in, parents_in, table_in, listed_in, holds, formed, with_table}
+use Rattle.pairs.specs.Page.{size_of, table_max, bodies_in, parents_in, table_in, listed_in, holds, formed, with_table}
 use Rattle.pairs.specs.Calls.{table_broken, pair_verdict, page_after, symbol_verdict, root_answer}
 use Rattle.pairs.specs.Runs.{after_all, taken_by, Request, asked, body_asked, UsesAtMost, accepts, after, page_after_all, accepted_pairs, TableRequest, table_asked, table_accepts, table_after, table_after_all, table_accepted_pairs}
 use Rattle.pairs.specs.declared.ConversionTable.{ConversionTable}
 use Rattle.pairs.proofs.Table.{Form, form}
 use Rattle.pairs.proofs.Page.{held_zeros, formed_parts, formed_held}
 use Rattle.pairs.proofs.Calls.{unbroken, symbol_below}
-use Rattle.pairs.proofs.Grown.{form_formed, form_within, more_used, listed_more, sized_more, form_more, written_count, written_bodies, written_listed, written_formed, bodies_more, within_all}
+use Rattle.pairs.proofs.Grown.{form_formed, form_within, more_used, listed_more, sized_more, form_more, written_length, written_far, written_count, written_bodies, written_listed, written_formed, bodies_more, within_all}
 
 -- ---- of any kind of table
 
@@ -216,6 +217,12 @@ module _ (page : List ℕ) (r : Request) (n : ℕ) (g : formed page n ≡ true) 
   added_listed =
       rw done (written_listed page grown n grown_form grown_sized room ∙ unfold grown in (listed_more (table_in page) r.symbol r.factor r.base sized few))
 
+  -- what stands behind the places that a table can take stays
+  added_far : (length (after page r) ≡ length page) × (drop table_max (after page r) ≡ drop table_max page)
+  added_far =
+      let at_most : size_of grown.count ≤ table_max = omega (arith, grown_count, k.few) in
+      (rw done (written_length page grown n grown_form grown_sized room), rw done (written_far page grown n grown_form grown_sized room table_max at_most))
+
   pub added_count : count_of (after page r) ≡ count_of page + 1
   added_count = rw done (written_count page grown n grown_form grown_sized room ∙ grown_count)
 
@@ -238,6 +245,22 @@ module _ (n : ℕ) (rs : List Request) (page : List ℕ) (g : formed page n ≡ 
   page_bodies =
       (run after accepts body_asked (λ (p : List ℕ). formed p n ≡ true) (UsesAtMost n) bodies_in page_stays
       (λ p r f l e. (added_formed p r n f l e, added_bodies p r n f l e)) rs page g all).1
+
+-- ---- the bytes behind a table
+
+-- whatever is asked for, no byte behind the places that a table can take changes, and the page keeps its length
+pub run_far : (rs : List Request) (page : List ℕ)
+    → (length (page_after_all page rs) ≡ length page) × (drop table_max (page_after_all page rs) ≡ drop table_max page)
+run_far [] page = (refl, refl)
+run_far (r ∷ rs) page = go (accepts page r) refl (run_far rs (after page r))
+  where
+    go : (d : Bool) → accepts page r ≡ d
+        → (length (page_after_all (after page r) rs) ≡ length (after page r)) × (drop table_max (page_after_all (after page r) rs) ≡ drop table_max (after page r))
+        → (length (page_after_all (after page r) rs) ≡ length page) × (drop table_max (page_after_all (after page r) rs) ≡ drop table_max page)
+    go true e ih =
+        let f = added_far page r (used_of r.names) (accepted_formed page r e) (λ _. le_refl (used_of r.names)) e in
+        (ih.0 ∙ f.0, ih.1 ∙ f.1)
+    go false e ih = let s = page_stays page r e in (ih.0 ∙ ap length s, ih.1 ∙ ap (drop table_max) s)
 
 -- no request has more names than there can be
 pub all_lend : (rs : List Request) → Every (UsesAtMost names_max) rs

@@ -17,6 +17,10 @@ parents_at k = count_bytes + pair_bytes * k
 abbrev pub size_of : ℕ → ℕ
 size_of k = parents_at k + names_max
 
+-- how many bytes a table takes at most
+abbrev pub table_max : ℕ
+table_max = size_of pairs_max
+
 -- the bytes of the pairs that a page lists
 abbrev pub bodies_in : List ℕ → List ℕ
 bodies_in page = take (pair_bytes * count_of page) (drop count_bytes page)

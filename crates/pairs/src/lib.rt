@@ -30,8 +30,11 @@ pub const FACTOR_AT: usize = 2;
 // How many bytes a pair takes.
 pub const PAIR_BYTES: usize = FACTOR_AT + pages::LONG_BYTES;
 
+// How many bytes a table takes at most: behind them no insertion changes a byte.
+pub const TABLE_BYTES: usize = COUNT_BYTES + PAIR_BYTES * PAIRS + NAMES;
+
 // The bytes of a pair: its symbol, its base and its factor.
-type Body = [u8; PAIR_BYTES];
+pub type Body = [u8; PAIR_BYTES];
 
 // The bytes of the pairs, one after another.
 pub type Bodies = [u8; PAIR_BYTES * PAIRS];
@@ -69,7 +72,7 @@ fn bodies_of(pairs: &[u8], k: usize) -> &[Body]
 }
 
 // A pair's symbol, and its base.
-fn symbols_of(body: &Body) -> (Symbol, Symbol)
+pub fn symbols_of(body: &Body) -> (Symbol, Symbol)
     ensures { (result.0 ≡ (said body.now).symbol) × (result.1 ≡ (said body.now).base) }
 {
     (Symbol::from(body[0]), Symbol::from(body[BASE_AT]))
@@ -323,6 +326,13 @@ pub fn insert_pair(
     Ok(())
 }
 
+// The factor of a pair.
+pub fn factor_of(body: &Body) -> u64
+    ensures { result ≡ (factor_said body.now).factor }
+{
+    pages::long(body, FACTOR_AT)
+}
+
 // Whether a symbol can be looked up in a page of pairs.
 fn symbol_verdict(page: &[u8], names: Option<&[u8]>, symbol: Symbol) -> Result<(), Refusal>
     ensures { result ≡ symbol_verdict page.now (option_copied names.entry) symbol }
@@ -353,7 +363,7 @@ fn factor_in(bodies: &[Body], symbol: Symbol) -> Option<Factor>
 {
     let body = bodies.iter().find(|body| symbols_of(body).0 == symbol)?;
     Some(Factor {
-        factor: pages::long(body, FACTOR_AT),
+        factor: factor_of(body),
         base: symbols_of(body).1,
     })
 }

@@ -16,9 +16,12 @@ ghost use Rattle.types.specs.Calls as store;
 ghost use Rattle.checked.specs.Calls.{matches_answer, generic_answer, into_const, into_const_page, substitute_answer, substitute_page};
 ghost use Rattle.calls.specs.Types.{bytes_of_type, checked_of, bindings_in, const_code, bindings_after, unify_in, unify_arg_in};
 ghost use Rattle.calls.specs.Codes.{packed, number_code, found_code, nothing_code, size_code, out_after, out_after_bytes, power_code, answer_code, unit_or_broken, unitless_in, product_in, text_in, bytes_of_unit, factor_code, out_after_factor, group_sums_in, bytes_of_sums, convertible_in};
+ghost use Rattle.formulas.specs.Calls.{check_answer, check_page};
 ghost use Rattle.calls.specs.Answers.{answered_code, out_after_answer, binary_in, unary_in, unary_page_in, index_in, index_page_in};
+ghost use Rattle.routes.specs.Run.{formula_lent, run_answer, run_page, run_table, RunRule};
+ghost use Rattle.calls.specs.Formulas.{formula_code, out_after_formula, compared_code};
 
-use calls::{ANSWER_BYTES, BINDING_BYTES, TYPE_BYTES};
+use calls::{ANSWER_BYTES, BINDING_BYTES, FORMULA_BYTES, TYPE_BYTES};
 use kinds::Kind;
 use names::{NAME_BYTES, Symbol};
 use pages::LONG_BYTES;
@@ -344,4 +347,46 @@ pub extern "C" fn riddlepoppy_check_index(
     ensures page_after { page.new ≡ index_page_in page.old (then_some lent names.now) target unit.now key }
 {
     calls::riddlepoppy_check_index(page, names, lent, target, unit, key, out)
+}
+
+// What the formula of a list of nodes and a root comes to: what its root answers, and how many errors it has; unions that its nodes answer
+// enter the store.
+#[unsafe(no_mangle)]
+pub extern "C" fn riddlepoppy_check_formula(
+    page: &mut [u8],
+    names: &[u8],
+    lent: bool,
+    table: &[u8],
+    nodes: &[u8],
+    root: u32,
+    out: &mut [u8; FORMULA_BYTES],
+) -> u32
+    ensures value { (result ≡ formula_code (check_answer page.old (then_some lent names.now) table.now nodes.now root)) × (out.new ≡ out_after_formula (check_answer page.old (then_some lent names.now) table.now nodes.now root) out.old) }
+    ensures page_after { page.new ≡ check_page page.old (then_some lent names.now) table.now nodes.now root }
+{
+    calls::riddlepoppy_check_formula(page, names, lent, table, nodes, root, out)
+}
+
+// Whether the results' units of two formulas are convertible, over a table into which pairs are inserted first: 1 for yes. Unions that
+// nodes answer enter the store. What it says is what the totals of every two routes down the formulas say (`RunRule`).
+#[unsafe(no_mangle)]
+pub extern "C" fn riddlepoppy_compare_formulas(
+    page: &mut [u8],
+    names: &[u8],
+    lent: bool,
+    table: &mut [u8],
+    requests: &[u8],
+    left: &[u8],
+    left_root: u32,
+    right: &[u8],
+    right_root: u32,
+) -> u32
+    ensures value { result ≡ compared_code (run_answer page.old (then_some lent names.now) table.old requests.now (formula_lent left.now left_root) (formula_lent right.now right_root)) }
+    ensures page_after { page.new ≡ run_page page.old (then_some lent names.now) table.old requests.now (formula_lent left.now left_root) (formula_lent right.now right_root) }
+    ensures table_after { table.new ≡ run_table page.old (then_some lent names.now) table.old requests.now (formula_lent left.now left_root) (formula_lent right.now right_root) }
+    ensures route_rule { RunRule page.old (then_some lent names.now) table.old requests.now (formula_lent left.now left_root) (formula_lent right.now right_root) (run_answer page.old (then_some lent names.now) table.old requests.now (formula_lent left.now left_root) (formula_lent right.now right_root)) }
+{
+    calls::riddlepoppy_compare_formulas(
+        page, names, lent, table, requests, left, left_root, right, right_root,
+    )
 }

@@ -60,6 +60,18 @@ unit_in bytes = cond (is_some bytes) (Some (unit_of (terms_at bytes (get_or byte
 abbrev pub value_in : List ℕ → Result (Option Unit) Refusal
 value_in bytes = answer_of (value_verdict bytes) (unit_in bytes)
 
+-- ---- reading from a place that has room for any unit
+
+-- a unit that says so many symbols, with the terms that stand in its places
+abbrev pub counted : ℕ → Unit → Unit
+counted n u = record { count = n; symbols = u.symbols; exponents = u.exponents }
+
+-- the unit that the bytes say, or none: a count from 9 to 254 makes a unit that breaks its form, with the first eight terms
+unfoldable pub unit_said : List ℕ → Option Unit
+unit_said bytes =
+    cond (eqb (get_or bytes 0 0) none_count) None
+    (Some (counted (get_or bytes 0 0) (unit_of (terms_at bytes (cond (ltb (get_or bytes 0 0) places_max) (get_or bytes 0 0) places_max) 1))))
+
 -- ---- looking symbols up: "the fields wholly present judged too" (below the table of refusals)
 
 -- how many symbols the bytes say, whether or not all of them stand there

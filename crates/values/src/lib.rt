@@ -7,7 +7,7 @@ ghost use Rattle.pages.specs.Bytes.{put};
 ghost use Rattle.pages.specs.Pad.{pad};
 ghost use Rattle.units.specs.Unit.{places_max};
 ghost use Rattle.units.specs.Calls.{terms_of, unit_of};
-ghost use Rattle.values.specs.Value.{term_bytes, unit_max, signed_of, terms_at, value_in, said_in, symbols_used, raw_of, bytes_in, unit_bytes};
+ghost use Rattle.values.specs.Value.{term_bytes, unit_max, signed_of, terms_at, value_in, unit_said, said_in, symbols_used, raw_of, bytes_in, unit_bytes};
 
 use names::Symbol;
 use refusals::Refusal;
@@ -76,6 +76,23 @@ pub fn read_value(bytes: &[u8]) -> Result<Option<Unit>, Refusal>
         return Err(Refusal::BadUnit);
     }
     Ok(None)
+}
+
+// The unit that the bytes say, which may break its form, or none, where there is room for any unit, for crates above (`read_value` looks
+// at the length as well).
+#[tactic(auto, unfolding(crate::specs::Value::unit_said))]
+pub fn unit_said(bytes: &[u8]) -> Option<Unit>
+    requires { unit_max ≤ length bytes.now }
+    ensures { result ≡ unit_said bytes.now }
+{
+    let count = usize::from(bytes[0]);
+    if count == NONE_COUNT {
+        return None;
+    }
+    Some(Unit {
+        count,
+        ..unit_at(bytes, count.min(PLACES))
+    })
 }
 
 // How many symbols the bytes say that there are, all there or not.

@@ -190,4 +190,34 @@ extern "C" {
         key: u32,
         out: *mut u8,
     ) -> u32;
+    pub fn riddlepoppy_check_formula(
+        page: *mut u8,
+        n: usize,
+        names: *const u8,
+        m: usize,
+        lent: bool,
+        pairs: *const u8,
+        k: usize,
+        nodes: *const u8,
+        l: usize,
+        root: u32,
+        out: *mut u8,
+    ) -> u32;
+    pub fn riddlepoppy_compare_formulas(
+        page: *mut u8,
+        n: usize,
+        names: *const u8,
+        m: usize,
+        lent: bool,
+        pairs: *mut u8,
+        k: usize,
+        requests: *const u8,
+        j: usize,
+        left: *const u8,
+        l: usize,
+        left_root: u32,
+        right: *const u8,
+        r: usize,
+        right_root: u32,
+    ) -> u32;
 }

@@ -5,6 +5,7 @@
 //! - `names`, `units`, `pairs`, `types`, `answers`: the expected answers, one file or folder per
 //!   module of the translation
 //! - `reference`: the answers of three calls, by the numbers of a store alone
+//! - `formulas`: whole formulas, and what demand 3 claims of their routes
 //! - `inputs`: the questions of a comparison, one file per module
 //! - `comparison`: asks both sides and counts where they differ
 //! - `sample`: the stored sample, its chosen rows and its format
@@ -18,6 +19,7 @@ pub mod comparison;
 pub mod expected;
 #[cfg(feature = "staticlib")]
 pub mod exports;
+pub mod formulas;
 pub mod inputs;
 pub mod limits;
 pub mod names;

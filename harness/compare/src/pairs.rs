@@ -24,7 +24,7 @@ pub struct Pair {
 
 impl Pair {
     /// Reads a P body.
-    fn read(body: &[u8]) -> Self {
+    pub fn read(body: &[u8]) -> Self {
         let factor = body[2..].try_into().expect("eight bytes");
         Self { symbol: body[0], base: body[1], factor: u64::from_be_bytes(factor) }
     }

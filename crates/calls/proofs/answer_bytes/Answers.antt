@@ -3,7 +3,7 @@ use mathlib.Core.List.{◌++◌}
 use lib.ListN.{length}
 use Rattle.values.specs.Value.{unit_max}
 use Rattle.calls.specs.Answers.{error_bytes}
-use Rattle.calls.proofs.Answers.{answer_made}
+use Rattle.calls.proofs.Answers.{both_made}
 use borrow.Author.Rules.{rules}
 use Rattle.calls.proofs.answer_bytes.Goals as goal
 
@@ -16,5 +16,5 @@ returns c =
     let n : length errors.result ≡ error_bytes = search rules in
     let m : length unit.result ≡ unit_max = search rules in
     put-bytes2.ensures
-    ∙ rw put-bytes.ensures (answer_made errors.result unit.result n m)
+    ∙ rw put-bytes.ensures (both_made errors.result unit.result n m)
     ∙ ap₂ ◌++◌ errors.ensures unit.ensures

@@ -6,7 +6,7 @@ use borrow.Author.Rules.{rules}
 use Rattle.types.specs.declared.Store.{Store}
 use Rattle.members.specs.Members.{members_max}
 use Rattle.types.proofs.Types.{formed_by}
-use Rattle.indexing.proofs.Trying.{some_failed, none_failed, no_results, some_results, results_used, noted_end, union_noted}
+use Rattle.indexing.proofs.Trying.{some_failed, none_failed, no_results, some_results, results_used, noted_end}
 use Rattle.indexing.proofs.check_index_any.Goals as goal
 
 pub returns-in-Some-clause-page_after : goal.returns-in-Some-clause-page_after
@@ -61,9 +61,4 @@ returns-clause-page_after c =
 pub returns-clause-noted_2 : goal.returns-clause-noted_2
 returns-clause-noted_2 c =
     let tried = c.try_members-trials in
-    let a = c.args in
-    let union = c.enter_union in
-    let form = formed_by c.args.maker.now.measured in
-    let used = results_used a.maker.now.page.now a.key a.t _ tried.result (rw c.store.ensures.0 at tried.ensures.result_after) form c.requires.t_bound.0 in
-    let noted = noted_end tried.new.matcher a.maker.now.page.now (ap (λ (s : Store). s.page.now) tried.ensures.same.0 ∙ c.store.ensures.0) _ (search rules) in
-    union_noted a.maker.now.page.now form _ used union.result _ union.ensures.page_after (formed_by union.new.maker.measured) _ noted
+    noted_end tried.new.matcher c.args.maker.now.page.now (ap (λ (s : Store). s.page.now) tried.ensures.same.0 ∙ c.store.ensures.0) _ (search rules)

@@ -14,4 +14,4 @@ returns-in_err-body c =
 pub returns : goal.returns
 returns c =
     let found = find_from_yields_List (λ b. eqb (said b).symbol c.args.symbol) _ _ _ c.find.ensures.ran (YieldsList-from_slice c.args.bodies.now cc) (λ x b q h. search (rules, tests)) in
-    rw (c.long.ensures, c.symbols_of.ensures.1) (ap (option_map factor_said) (rw c.in_ok-body.was at found))
+    rw (c.factor_of.ensures, c.symbols_of.ensures.1) (ap (option_map factor_said) (rw c.in_ok-body.was at found))

@@ -2,6 +2,7 @@
 //! every limit, and damaged ones. All follow from the seed.
 
 pub mod answers;
+pub mod formulas;
 pub mod names;
 pub mod pairs;
 pub mod types;

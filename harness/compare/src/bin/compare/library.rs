@@ -6,7 +6,7 @@ use compare::limits::ABSENT;
 use compare::types::store::Entry;
 
 /// What fills `out` before a call, so that a byte left unwritten shows, and one that a refused call wrote.
-const RUBBISH: u8 = 0xA5;
+pub const RUBBISH: u8 = 0xA5;
 
 /// The library's answer, or what it did that no call may do.
 pub fn ask(question: &Question) -> Result<Answer, String> {
@@ -194,9 +194,9 @@ fn call_answers(
 }
 
 /// Elements lent to the library between two guards, so that a write beside them shows.
-struct Lent<T> {
+pub struct Lent<T> {
     guarded: Vec<T>,
-    length: usize,
+    pub length: usize,
 }
 
 /// How many elements a guard has, and what each is.
@@ -204,17 +204,17 @@ const GUARDS: usize = 16;
 const GUARD: u8 = 0xC7;
 
 impl<T: Copy + PartialEq + From<u8>> Lent<T> {
-    fn new(elements: &[T]) -> Self {
+    pub fn new(elements: &[T]) -> Self {
         let guard = [T::from(GUARD); GUARDS];
         Self { guarded: [&guard, elements, &guard].concat(), length: elements.len() }
     }
 
-    fn start(&mut self) -> *mut T {
+    pub fn start(&mut self) -> *mut T {
         self.guarded[GUARDS..].as_mut_ptr()
     }
 
     /// The elements as the call left them.
-    fn elements(&self, name: &str) -> Result<Vec<T>, String> {
+    pub fn elements(&self, name: &str) -> Result<Vec<T>, String> {
         let (before, rest) = self.guarded.split_at(GUARDS);
         let (elements, after) = rest.split_at(self.length);
         if before.iter().chain(after).all(|&guard| guard == T::from(GUARD)) {
@@ -225,7 +225,7 @@ impl<T: Copy + PartialEq + From<u8>> Lent<T> {
     }
 
     /// Holds the call to what it was lent for reading only.
-    fn unchanged(&self, name: &str, elements: &[T]) -> Result<(), String> {
+    pub fn unchanged(&self, name: &str, elements: &[T]) -> Result<(), String> {
         if self.elements(name)? == elements {
             Ok(())
         } else {

@@ -1,8 +1,10 @@
 //! `compare [SEED [ROUNDS [LEVELS]]]`: asks the static library and the oracle the same questions.
 //!
 //! What the oracle could not answer in time is asked of the library and the reference, which is
-//! held to the oracle by all other questions. Ends with status 1 if an answer differs.
+//! held to the oracle by all other questions. Then pairs of formulas are answered, and what
+//! demand 3 claims of their routes is held to every route. Ends with status 1 if an answer differs.
 
+mod formulas;
 mod library;
 
 use compare::comparison::Comparison;
@@ -49,5 +51,6 @@ fn compared(seed: u64, rounds: usize, levels: usize) -> u64 {
     let mut nested = Comparison::new(library::ask, reference::expected);
     deep(seed, rounds, levels, &mut |question| nested.put(question));
     print!("{}", nested.report_below("the library, held to the reference by deep types:"));
-    library.differences() + reference.differences() + nested.differences()
+    let formulas = formulas::compared(seed, rounds);
+    library.differences() + reference.differences() + nested.differences() + formulas
 }

@@ -46,7 +46,7 @@ pub fn measure() {
     wide_index(DEEPEST - 3, false);
 }
 
-fn print(what: &str, ours: f64, rust: Option<f64>) {
+pub fn print(what: &str, ours: f64, rust: Option<f64>) {
     let rust = rust.map_or(String::new(), |rust| format!(", the Rust {:.1} µs", rust / 1e3));
     println!("{what}: {:.1} µs{rust}", ours / 1e3);
 }
@@ -187,7 +187,7 @@ fn shared_negation(levels: usize, with_rust: bool) {
 
 /// 4,077 types, most of them unions in layers, each of sixteen members of the layer below;
 /// and the number of the last union.
-fn layers() -> (Vec<Entry>, u32) {
+pub fn layers() -> (Vec<Entry>, u32) {
     let width = MAX_ENTRIES / DEEPEST;
     let mut entries = Vec::new();
     for layer in 0..DEEPEST {

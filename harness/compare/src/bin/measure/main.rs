@@ -2,6 +2,7 @@
 //! in one run; of all parts, or of one.
 
 mod answers;
+mod formulas;
 mod hostile;
 mod pairs;
 mod places;
@@ -18,12 +19,13 @@ use std::time::Instant;
 const PAGE_BYTES: usize = 65_536;
 
 /// The parts by their names, in their order.
-const PARTS: [(&str, fn()); 6] = [
+const PARTS: [(&str, fn()); 7] = [
     ("units", || units::measure(&mut full_names())),
     ("pairs", || pairs::measure(&full_names())),
     ("types", types::measure),
     ("places", places::measure),
     ("answers", answers::measure),
+    ("formulas", formulas::measure),
     ("hostile", hostile::measure),
 ];
 
