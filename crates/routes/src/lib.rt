@@ -9,7 +9,7 @@ ghost use Rattle.pairs.specs.Runs.{page_after_all};
 ghost use Rattle.names.specs.Calls.{used_of};
 ghost use Rattle.types.specs.Types.{Measured};
 ghost use Rattle.types.specs.Making.{Grows};
-ghost use Rattle.routes.specs.Run.{request_in, pairs_lent, pairs_cut, lent, formula_lent, compare_answer, compare_store, Ran};
+ghost use Rattle.routes.specs.Run.{request_in, pairs_lent, pairs_cut, lent, formula_lent, compare_answer, compare_store, run_answer, run_page, run_table, RunRule};
 
 use formulas::FormulaAnswer;
 use groups::Groups;
@@ -109,7 +109,10 @@ pub fn compare_formulas(
     left: Asked,
     right: Asked,
 ) -> Result<Compared, Refusal>
-    ensures { Ran page.old (option_copied names.entry) table.old requests.now (formula_lent left.entry.nodes.now left.entry.root) (formula_lent right.entry.nodes.now right.entry.root) result page.new table.new }
+    ensures { (result ≡ run_answer page.old (option_copied names.entry) table.old requests.now (formula_lent left.entry.nodes.now left.entry.root) (formula_lent right.entry.nodes.now right.entry.root))
+        × (page.new ≡ run_page page.old (option_copied names.entry) table.old requests.now (formula_lent left.entry.nodes.now left.entry.root) (formula_lent right.entry.nodes.now right.entry.root))
+        × (table.new ≡ run_table page.old (option_copied names.entry) table.old requests.now (formula_lent left.entry.nodes.now left.entry.root) (formula_lent right.entry.nodes.now right.entry.root))
+        × RunRule page.old (option_copied names.entry) table.old requests.now (formula_lent left.entry.nodes.now left.entry.root) (formula_lent right.entry.nodes.now right.entry.root) result }
 {
     formulas::first_verdict(formulas::nodes_lent(left.nodes))?;
     let mut tables = Tables::new();
