@@ -7,8 +7,8 @@ ghost use Rattle.refusals.specs.Lowest.{lowest};
 ghost use Rattle.types.specs.Types.{types_in};
 ghost use Rattle.types.specs.Same.{Same};
 ghost use Rattle.matching.specs.Matching.{in_use};
-ghost use Rattle.marks.specs.Marks.{large_bytes, Noted};
-ghost use Rattle.matching.specs.Memo.{Found};
+ghost use Rattle.marks.specs.Marks.{large_bytes, room, HasRows, Noted};
+ghost use Rattle.matching.specs.Memo.{fits, Found};
 ghost use Rattle.units.specs.Calls.{unitless};
 ghost use Rattle.groups.specs.Groups.{walk};
 ghost use Rattle.operators.specs.Operators.{is_operator};
@@ -335,7 +335,7 @@ pub fn index_checked(
     Ok(answer(o, target.unit))
 }
 
-// The same, over a table of N bytes of what matching has found, in a frame of its own.
+// The same, over a table of N bytes of what matching has found that has room for both types, in a frame of its own.
 #[inline(never)]
 fn index_over<const N: usize>(
     maker: &mut Maker,
@@ -344,6 +344,7 @@ fn index_over<const N: usize>(
 ) -> Result<Answered, Refusal>
     requires checked_value { (in_use maker.old.page.now target.checked ≡ true) × (in_use maker.old.page.now key ≡ true) }
     requires n_bound { N ≤ 2 * large_bytes }
+    requires room { (fits (room N) target.checked key ≡ true) × HasRows 1 N }
     ensures value { result ≡ concluded_by (check_index maker.old.page.now key target.checked).conclusion target.unit }
     ensures page_after { maker.new.page.now ≡ store_after (check_index maker.old.page.now key target.checked) maker.old.page.now }
     ensures same { Same maker.new maker.old }

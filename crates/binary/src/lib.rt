@@ -109,8 +109,10 @@ impl Check<'_> {
         )
     }
 
-    // Every pair of members is tried in turn, a member that is a union as the leaf that stands for it.
+    // Every pair of members is tried in turn, a member that is a union as the leaf that stands for it. In a frame of its own, so that the check
+    // of two plain types, of which a call may make 65,536, does not set up this one's.
     #[cycle(check_binary_any_check_binary_operator)]
+    #[inline(never)]
     pub fn check_binary_any(self, l: usize, r: usize) -> Outcome
         requires l_bound { (l < types_in self.leafed.store.page.now) × (r < types_in self.leafed.store.page.now) }
         requires r_value { either self.leafed.store.page.now l r ≡ true }

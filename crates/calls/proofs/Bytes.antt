@@ -20,8 +20,9 @@ use Rattle.pages.proofs.Quant.{and_true}
 use Rattle.pages.proofs.Bytes.{and_false}
 use Rattle.names.specs.Table.{names_max}
 use Rattle.names.specs.Table as names
-use Rattle.names.specs.Calls.{used_of}
+use Rattle.names.specs.Calls.{lent_broken, used_of}
 use Rattle.types.specs.Calls.{store_broken}
+use Rattle.types.specs.Calls as store
 use Rattle.units.specs.Unit.{places_max, Term, formed, in_use}
 use Rattle.units.specs.Calls.{terms_of, present, unit_of, form_verdict, product_answer, exponent_answer, unitless_answer}
 use Rattle.units.proofs.Calls as units
@@ -33,8 +34,8 @@ use Rattle.units.proofs.Held.{terms_unit}
 use Rattle.units.proofs.Used.{present_all}
 use Rattle.pairs.specs.Calls.{table_broken}
 use Rattle.pairs.specs.Calls as tables
-use Rattle.pairs.proofs.Calls.{table_ok, table_err}
-use Rattle.types.proofs.Calls.{unbroken_both}
+use Rattle.pairs.proofs.Calls.{unbroken, opened_ok, opened_err}
+use Rattle.types.proofs.Calls as stores
 use Rattle.sums.specs.Calls.{roots_in, or_empty, units_verdict, sums_answer, convert_answer}
 use Rattle.text.specs.Calls.{text_verdict, text_answer}
 use Rattle.values.specs.Value.{none_count, term_bytes, terms_at, is_none, is_some, readable, value_verdict, unit_in, symbols_used, value_in}
@@ -361,17 +362,28 @@ module _ (page : List ℕ) (names : Option (List ℕ)) (left : ℕ) (unit : List
         sym (rw o (first_holds Undefined ((Broken when (store_broken page names || table_broken pairs names)) ∷ conditions (used_of names)) refl))
 
     module _ (o : is_operator op ≡ true) where
-      pub binary_broken : (store_broken page names || table_broken pairs names) ≡ true → Err Broken ≡ binary_verdict_in page names pairs op left unit right other
+      binary_broken : (store_broken page names || table_broken pairs names) ≡ true → Err Broken ≡ binary_verdict_in page names pairs op left unit right other
       unfolding binary_verdict_in
       binary_broken t = sym (rw (o, t) (first_holds Broken (conditions (used_of names)) refl))
 
-      module _ (t : store_broken page names ≡ false) (n : ℕ) (is : n ≡ used_of names) where
-        pub binary_unformed : (r : Refusal) → Err r ≡ tables.form_verdict pairs n → Err r ≡ binary_verdict_in page names pairs op left unit right other
-        binary_unformed r e = let q = table_err pairs names (unbroken_both page names t).0 n is r e in rw q.1 (binary_broken (rw (t, q.0)))
+      pub binary_unpaired : (r : Refusal) → Err r ≡ tables.opened_answer pairs names → Err Broken ≡ binary_verdict_in page names pairs op left unit right other
+      binary_unpaired r e = binary_broken (rw (opened_err pairs names r e).0 (or_end (store_broken page names)))
 
-        pub binary_rest : Ok tt ≡ tables.form_verdict pairs n → lowest (conditions n) ≡ binary_verdict_in page names pairs op left unit right other
+      module _ (n : ℕ) (e : Ok n ≡ tables.opened_answer pairs names) where
+        sound : (table_broken pairs names ≡ false) × (n ≡ used_of names)
+        sound = opened_ok pairs names n e
+
+        named : lent_broken names ≡ false
+        named = (unbroken pairs names sound.0).0
+
+        pub binary_unformed : (r : Refusal) → Err r ≡ store.form_verdict page n → Err r ≡ binary_verdict_in page names pairs op left unit right other
+        binary_unformed r f =
+            let s = stores.opened_err page names r (stores.opened_unformed page names named n sound.1 r f) in
+            rw s.1 (binary_broken (rw s.0 refl))
+
+        pub binary_rest : Ok tt ≡ store.form_verdict page n → lowest (conditions n) ≡ binary_verdict_in page names pairs op left unit right other
         unfolding binary_verdict_in
-        binary_rest e = rw (o, t, table_ok pairs names (unbroken_both page names t).0 n is e, ← is)
+        binary_rest f = rw (o, (stores.opened_ok page names n (stores.opened_passed page names named n sound.1 f)).0, sound.0, ← sound.1)
 
 module _ (page : List ℕ) (names : Option (List ℕ)) (op operand : ℕ) (unit : List ℕ) where
   pub unary_alike : readable unit ≡ true

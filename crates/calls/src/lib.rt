@@ -745,7 +745,8 @@ fn written_down(answered: Result<Answered, Refusal>, out: &mut [u8; ANSWER_BYTES
     }
 }
 
-// Why a binary operator's operands are refused where the unit of one of them cannot be read.
+// Why a binary operator's operands are refused where the unit of one of them cannot be read. The pairs are tested before the store: they are
+// at most 512, and a store of 4,096 types takes longer.
 fn unread_binary(
     page: &[u8],
     names: Option<&[u8]>,
@@ -760,11 +761,11 @@ fn unread_binary(
     if !operators::is_operator(op) {
         return Refusal::Undefined;
     }
-    let mut tables = Tables::new();
-    let Ok(n) = types::opened(page, names, &mut tables) else {
+    let Ok(n) = pairs::opened(table, names) else {
         return Refusal::Broken;
     };
-    if let Err(r) = pairs::form_verdict(table, n) {
+    let mut tables = Tables::new();
+    if let Err(r) = types::survey(page, n, &mut tables) {
         return r;
     }
     unfit(tables.store(page), n, left, right)

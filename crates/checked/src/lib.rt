@@ -5,8 +5,9 @@
 ghost use Rattle.std.specs.Prelude.{◌≡◌, true, ◌&&◌, ◌*◌, ◌≤◌, ◌<◌, ltb, option_copied};
 ghost use Rattle.refusals.specs.Lowest.{answer_of};
 ghost use Rattle.types.specs.Types.{types_in};
-ghost use Rattle.marks.specs.Marks.{large_bytes};
+ghost use Rattle.marks.specs.Marks.{large_bytes, room, HasRows};
 ghost use Rattle.matching.specs.Matching.{in_use, matches};
+ghost use Rattle.matching.specs.Memo.{fits};
 ghost use Rattle.bindings.specs.Bindings.{bindings_max, Usable};
 ghost use Rattle.unification.specs.Unification.{unified, unify_arg};
 ghost use Rattle.checked.specs.Calls.{of_made, matches_answer, generic_answer, into_const, into_const_page, substitute_answer, bindings_verdict, substitute_page, kept_by, fits_bound, unify_arg_answer, unify_answer};
@@ -30,11 +31,12 @@ pub fn is_used(store: Store, c: Checked) -> bool
     }
 }
 
-// Whether a checked type in use stands for another, over a table of N bytes, in a frame of its own.
+// Whether a checked type in use stands for another, over a table of N bytes that has room for both, in a frame of its own.
 #[inline(never)]
 fn matches_over<const N: usize>(store: Store, actual: Checked, expected: Checked) -> bool
     requires actual_value { (in_use store.page.now actual ≡ true) × (in_use store.page.now expected ≡ true) }
     requires n_bound { N ≤ 2 * large_bytes }
+    requires room { (fits (room N) actual expected ≡ true) × HasRows 1 N }
     ensures { result ≡ matches store.entry.page.now actual expected }
 {
     let mut memo = [0; N];
@@ -186,7 +188,7 @@ fn fits_bound(n: usize, bound: Bindings, e: usize, actual: Checked) -> bool
     matching::fits(n, Checked::Known(e), actual) & bindings::are_below(bound, n)
 }
 
-// Whether an argument in use fits a parameter in use, over tables of M and N bytes, in a frame of its own.
+// Whether an argument in use fits a parameter in use, over tables of M and N bytes that have room for all the types, in a frame of its own.
 #[inline(never)]
 fn unify_over<const M: usize, const N: usize>(
     store: Store,
@@ -197,6 +199,7 @@ fn unify_over<const M: usize, const N: usize>(
     requires e_bound { (e < types_in store.page.now) × (in_use store.page.now actual ≡ true) }
     requires usable { Usable bound (types_in store.page.now) }
     requires m_bound { (M ≤ 2 * large_bytes) × (N ≤ large_bytes) }
+    requires room { (fits_bound (room M) bound e actual ≡ true) × (fits_bound (room N) bound e actual ≡ true) × HasRows 1 M × HasRows 2 N }
     ensures { result ≡ unify_arg store.entry.page.now e actual bound }
 {
     let mut memo = [0; M];

@@ -1,6 +1,6 @@
 -- Symbols that no byte holds: each row is what the definitions compute. Assumes nothing.
-use Rattle.std.proofs.Common.{Option, Some, Err}
-use mathlib.Core.Path.{◌≡◌, refl, sym}
+use Rattle.std.proofs.Common.{Option, Some}
+use mathlib.Core.Path.{◌≡◌, refl, sym, ap}
 use mathlib.Core.Bool.{Bool, false}
 use mathlib.Core.List.{[], ◌∷◌}
 use Prim.Native.Nat.{ℕ}
@@ -22,28 +22,28 @@ use Rattle.pairs.proofs.Fresh.{fresh_formed}
 use Rattle.sums.specs.Calls.{units_verdict, convert_answer}
 use Rattle.answers.specs.Units.{no_unit}
 use Rattle.executed.specs.Rows.{ConvertRow}
-use Rattle.refusals.specs.declared.Refusal.TheVariants.{Unused, BadUnit}
+use Rattle.refusals.specs.Numbers.{code_of}
 use Rattle.executed.proofs.Answers.{power, mm}
 
 -- ---- a unit that breaks its form
 
 module _ (u : Unit) (broken : formed places_max names_max (terms_of u) ≡ false) where
-  pub form_bad : form_verdict u ≡ Err BadUnit
-  form_bad = form_refused u broken
+  pub form_five : code_of (form_verdict u) ≡ 5
+  form_five = ap code_of (form_refused u broken)
 
   -- on the left of any unit, and on the right of m
-  pub left_bad : (d : Bool) (v : Unit) → product_answer d u v ≡ Err BadUnit
-  left_bad d v = sym (product_left d u v broken)
+  pub left_five : (d : Bool) (v : Unit) → code_of (product_answer d u v) ≡ 5
+  left_five d v = ap code_of (sym (product_left d u v broken))
 
-  pub right_bad : (d : Bool) → product_answer d (unit_of (term 0 (pos 1) ∷ [])) u ≡ Err BadUnit
+  pub right_five : (d : Bool) → code_of (product_answer d (unit_of (term 0 (pos 1) ∷ [])) u) ≡ 5
   unfolding formed pad
-  right_bad d = sym (product_right d (unit_of (term 0 (pos 1) ∷ [])) u refl broken)
+  right_five d = ap code_of (sym (product_right d (unit_of (term 0 (pos 1) ∷ [])) u refl broken))
 
 -- ---- a pair of which a symbol is not in use
 
-pub pair_unused : (n s f b : ℕ) → both_used n (pair s b) ≡ false → insertion fresh_table n s f b ≡ Err Unused
+pub pair_three : (n s f b : ℕ) → both_used n (pair s b) ≡ false → code_of (insertion fresh_table n s f b) ≡ 3
 unfolding insertion insert_verdict
-pair_unused n s f b u = rw ((fresh_formed n).0, u)
+pair_three n s f b u = rw ((fresh_formed n).0, u)
 
 -- ---- the rows of convertibility
 
@@ -56,10 +56,10 @@ nine s = Some (record {
 })
 
 pub record Wide : Type 0 where
-  pub left : ConvertRow (power 256 (pos 1)) no_unit Unused
-  pub right : ConvertRow mm (power 300 (pos 1)) Unused
-  pub eighth : ConvertRow (nine 300) no_unit Unused
-  pub ninth : ConvertRow (nine 7) no_unit BadUnit
+  pub left : ConvertRow (power 256 (pos 1)) no_unit 3
+  pub right : ConvertRow mm (power 300 (pos 1)) 3
+  pub eighth : ConvertRow (nine 300) no_unit 3
+  pub ninth : ConvertRow (nine 7) no_unit 5
 
 pub wide : Wide
 unfolding convert_answer units_verdict in_use formed is_used used_of lent_broken

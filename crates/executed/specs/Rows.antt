@@ -1,7 +1,8 @@
 -- What a row of the program looks at: no name bound, the answers of operators and indexing, and refusals.
 use Rattle.units.specs.declared.Unit.{Unit}
+use Rattle.refusals.specs.Numbers.{code_of}
 use Rattle.refusals.specs.declared.Refusal.{Refusal}
-use Rattle.std.specs.Prelude.{◌≡◌, List, [], ◌∷◌, ℕ, replicate, Result, Ok, Err, Option, Some, None}
+use Rattle.std.specs.Prelude.{◌≡◌, List, [], ◌∷◌, ℕ, replicate, Result, Ok, Option, Some, None}
 use Rattle.matching.specs.declared.Checked.{Checked}
 use Rattle.matching.specs.declared.Checked.TheVariants.{Known}
 use Rattle.bindings.specs.Bindings.{bindings_max}
@@ -54,9 +55,9 @@ IndexRow x a = (index_answer unions (Some symbols) x (Known 1) ≡ a) × (index_
 
 -- ---- refusals
 
--- the refusal of asking whether two units convert, without names lent
-abbrev pub ConvertRow : Option Unit → Option Unit → Refusal → Type 0
-ConvertRow x y r = convert_answer inch_table None x y ≡ Err r
+-- the number of the refusal of asking whether two units convert, without names lent
+abbrev pub ConvertRow : Option Unit → Option Unit → ℕ → Type 0
+ConvertRow x y r = code_of (convert_answer inch_table None x y) ≡ r
 
 -- how many names are said to be in use: more than there can be
 abbrev pub in_use_said : ℕ

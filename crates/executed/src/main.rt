@@ -4,6 +4,7 @@
 #![tactic(auto)]
 
 ghost use Rattle.std.specs.Prelude.{◌≡◌, true, false, [], ◌∷◌, ◌<◌, Err};
+ghost use Rattle.refusals.specs.Numbers.{code_of};
 ghost use Rattle.names.specs.Table.{names_max};
 ghost use Rattle.units.specs.Unit.{places_max, term};
 ghost use Rattle.units.specs.Unit as units;
@@ -243,11 +244,11 @@ fn no_bindings() -> Bindings
     }
 }
 
-// Expects that an answer is this refusal.
-fn expect_refused<T: Copy>(answer: Result<T, Refusal>, refusal: Refusal)
-    requires { answer ≡ Err refusal }
+// Expects that an answer has this number, 0 where nothing is refused.
+fn expect_code<T: Copy>(answer: Result<T, Refusal>, number: u8)
+    requires { code_of answer ≡ number }
 {
-    check::expect(answer.err() == Some(refusal));
+    check::expect(refusals::code(answer) == number);
 }
 
 // Expects of two types of a store that the first, expected, takes the second or, with `yes` false, refuses it, and that no name is bound.
@@ -293,9 +294,9 @@ fn expect_units() {
     let large = power(METRE, 1000);
     let metre = power(METRE, 1);
     let quotient = units::product(large, metre, true);
-    check::expect(quotient.is_ok());
+    expect_code(quotient, 0);
     let product = units::product(large, metre, false);
-    expect_refused(product, Refusal::Exponent);
+    expect_code(product, 8);
 }
 
 // An answer without a refusal.
@@ -399,12 +400,12 @@ fn expect_indexing() {
 }
 
 // Expects that asking whether two units convert is refused, over the table of the pair (in, mm), without names lent.
-fn expect_unconverted(left: Option<Unit>, right: Option<Unit>, refusal: Refusal)
+fn expect_unconverted(left: Option<Unit>, right: Option<Unit>, refusal: u8)
     requires { ConvertRow left right refusal }
 {
     let table = inch_table();
     let answer = sums::is_convertible_to(&table, None, left, right);
-    expect_refused(answer, refusal);
+    expect_code(answer, refusal);
 }
 
 // Expects that a unit is refused for its form (5): by itself, on the left of a product, and on the right of a quotient.
@@ -413,11 +414,11 @@ fn expect_unformed(u: Unit)
 {
     let metre = power(METRE, 1);
     let form = units::unit_form(u);
-    expect_refused(form, Refusal::BadUnit);
+    expect_code(form, 5);
     let product = units::product(u, metre, false);
-    expect_refused(product, Refusal::BadUnit);
+    expect_code(product, 5);
     let quotient = units::product(metre, u, true);
-    expect_refused(quotient, Refusal::BadUnit);
+    expect_code(quotient, 5);
 }
 
 // Expects that a pair is refused by value for a symbol not in use (3), where more names are said to be in use than there can be.
@@ -425,16 +426,16 @@ fn expect_unused(symbol: Symbol, base: Symbol)
     requires { both_used in_use_said (pair symbol base) ≡ false }
 {
     let out = pairs::inserted(pairs::fresh_table(), IN_USE, symbol, FACTOR, base);
-    expect_refused(out, Refusal::Unused);
+    expect_code(out, 3);
 }
 
 // The cases of symbols that no byte holds: a number not in use (3) wherever symbols are looked up, by value those in the eight
 // places; where none is looked up, a unit that breaks its form (5).
 fn expect_wide() {
-    expect_unconverted(WIDE_256, NO_UNIT, Refusal::Unused);
-    expect_unconverted(MM, WIDE_300, Refusal::Unused);
-    expect_unconverted(NINE_WIDE, NO_UNIT, Refusal::Unused);
-    expect_unconverted(NINE, NO_UNIT, Refusal::BadUnit);
+    expect_unconverted(WIDE_256, NO_UNIT, 3);
+    expect_unconverted(MM, WIDE_300, 3);
+    expect_unconverted(NINE_WIDE, NO_UNIT, 3);
+    expect_unconverted(NINE, NO_UNIT, 5);
     expect_unformed(power(256, 1));
     expect_unformed(power(300, 1));
     expect_unused(280, 1);

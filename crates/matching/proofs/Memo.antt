@@ -9,18 +9,20 @@ use Rattle.std.proofs.Math.Logic.{∥∥₁_prop}
 use mathlib.Core.List.{List}
 use Prim.Native.Nat.{ℕ, ◌+◌, ◌*◌, ◌/◌, ◌%◌, ◌<◌}
 use native.Mathlib.Omega.{arith}
-use lib.Dec.{T, eqb}
-use borrow.Author.Tests.{eqb-true, eqb-false, not-true}
+use lib.Dec.{T, eqb, ltb}
+use borrow.Author.Tests.{eqb-true, eqb-false, ltb-true, lt-ltb, not-true}
 use Rattle.pages.proofs.Quant.{and_true}
 use Rattle.pages.proofs.Bytes.{and_false}
-use Rattle.kinds.specs.Kinds.{is_array, is_tuple, is_map, is_union}
+use Rattle.kinds.specs.Kinds.{callback, is_array, is_tuple, is_map, is_union}
 use Rattle.types.specs.Store.{types_max, Formed}
 use Rattle.types.specs.Types.{types_in, kind_of, Held}
 use Rattle.types.proofs.Types.{whole, held_by}
 use Rattle.marks.specs.Marks.{is_marked, marking, Noted}
 use Rattle.marks.proofs.Marks.{marked_more, marked_still}
-use Rattle.matching.specs.Matching.{both, null_array_elision, null_map_elision, flat_matches, known_matches}
-use Rattle.matching.specs.Memo.{has_partner, found, column_of, keeps, Says, Found, refuting}
+use Rattle.matching.specs.declared.Checked.{Checked}
+use Rattle.matching.specs.declared.Checked.TheVariants.{Known, Unknown, Function}
+use Rattle.matching.specs.Matching.{both, is_kind, in_use, null_array_elision, null_map_elision, flat_matches, known_matches}
+use Rattle.matching.specs.Memo.{type_number, fits, has_partner, found, column_of, keeps, Says, Found, refuting}
 use Rattle.matching.proofs.Parts.{within_below, within_above}
 
 -- a type in use has a row and a column
@@ -29,6 +31,17 @@ in_use_small page f t u = omega (arith, (whole page f.names f.form).few)
 
 pub stored_small : {page offsets : List ℕ} → ∥ Held page offsets ∥₁ → (t : ℕ) → t < types_in page → t < types_max
 stored_small h t u = in_use_small _ (held_by h).sound t u
+
+-- so two types in use have room in a table for all
+number_small : (page : List ℕ) → Formed page → (c : Checked) → in_use page c ≡ true → type_number c < types_max
+unfolding in_use type_number
+number_small page f Unknown h = omega arith
+number_small page f (Known t) h = in_use_small page f t (ltb-true t (types_in page) h)
+number_small page f (Function t) h = in_use_small page f t (ltb-true t (types_in page) (and_true (ltb t (types_in page)) (is_kind callback page t) h).0)
+
+pub all_fit : (page : List ℕ) → Formed page → (a b : Checked) → in_use page a ≡ true → in_use page b ≡ true → fits types_max a b ≡ true
+unfolding fits
+all_fit page f a b h k = rw (lt-ltb (type_number a) types_max (number_small page f a h), lt-ltb (type_number b) types_max (number_small page f b k)) refl
 
 -- a column's type and answer
 column_type : (b : ℕ) (answer : Bool) → column_of b answer / 2 ≡ b

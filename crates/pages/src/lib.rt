@@ -92,7 +92,9 @@ pub fn put_bytes(page: &mut [u8], at: usize, bytes: &[u8])
     requires { at + length bytes.now ≤ length page.old }
     ensures { page.new ≡ put page.old at bytes.now }
 {
-    page[at..at + bytes.len()].copy_from_slice(bytes);
+    for (i, byte) in bytes.iter().enumerate() {
+        page[at + i] = *byte;
+    }
 }
 
 // Writes numbers into the page from index at on, two bytes each.

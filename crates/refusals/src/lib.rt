@@ -2,7 +2,7 @@
 #![tactic(auto)]
 
 ghost use Rattle.std.specs.Prelude.{◌≡◌};
-ghost use Rattle.refusals.specs.Numbers.{number_of};
+ghost use Rattle.refusals.specs.Numbers.{number_of, code_of};
 
 // Why a call gives no result.
 #[derive(Clone, Copy, Debug, PartialEq, Eq, Hash)]
@@ -49,5 +49,15 @@ impl From<Refusal> for u8 {
             Refusal::Full => 10,
             Refusal::Sheet => 11,
         }
+    }
+}
+
+// An answer as a number: 0 where nothing is refused, else the refusal's.
+pub fn code<T: Copy>(answer: Result<T, Refusal>) -> u8
+    ensures { result ≡ code_of answer }
+{
+    match answer {
+        Ok(_) => 0,
+        Err(r) => u8::from(r),
     }
 }

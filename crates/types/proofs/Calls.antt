@@ -16,7 +16,8 @@ use Rattle.refusals.specs.declared.Refusal.TheVariants.{Undefined, Broken, Unuse
 use Rattle.refusals.proofs.Lowest.{first_holds, passed_parts, answer_of_ok, one_ok, one_err, verdict_err}
 use Rattle.pages.specs.Bytes.{within, count_bytes, count_of}
 use Rattle.pages.proofs.Quant.{and_true}
-use Rattle.names.specs.Calls.{lent_broken, used_of, is_used}
+use Rattle.names.specs.Calls.{lent_broken, used_of, used_answer, is_used}
+use Rattle.names.proofs.Calls.{used_ok, used_err}
 use Rattle.kinds.specs.Kinds.{fixed_max, children_max, kind_last, is_named, is_stored, fewest, most}
 use Rattle.types.specs.Store.{depth_max, equal_to, formed}
 use Rattle.types.specs.Types.{types_in, Measured}
@@ -88,6 +89,17 @@ module _ (page : List ℕ) (names : Option (List ℕ)) where
     pub opened_passed : Ok tt ≡ form_verdict page n → Ok n ≡ opened_answer page names
     unfolding opened_answer form_verdict
     opened_passed e = let k = passed_parts Broken (not (formed page n)) [] (sym e) in rw (unbroken l (rw (← is) (not-false (formed page n) k.0)), ← is)
+
+  -- of a call that asks the names first, and the store behind it
+  pub used_refused : (r : Refusal) → Err r ≡ used_answer names → Err r ≡ opened_answer page names
+  used_refused r e = let k = used_err names r e in rw k.1 (opened_unnamed k.0)
+
+  module _ (n : ℕ) (e : Ok n ≡ used_answer names) where
+    pub used_unformed : (r : Refusal) → Err r ≡ form_verdict page n → Err r ≡ opened_answer page names
+    used_unformed r f = let k = used_ok names n e in opened_unformed k.0 n k.1 r f
+
+    pub used_formed : Ok tt ≡ form_verdict page n → Ok n ≡ opened_answer page names
+    used_formed f = let k = used_ok names n e in opened_passed k.0 n k.1 f
 
 -- ---- the parts of a type
 

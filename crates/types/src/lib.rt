@@ -238,7 +238,9 @@ impl Tables {
 }
 
 // Whether the page is a store in form, with n name numbers in use. The offsets and depths of its entries are written down, up to the
-// first that breaks it. Each entry is compared with those before it that have its print.
+// first that breaks it. Each entry is compared with those before it that have its print. In a frame of its own, which is there neither
+// while the names are tested nor while a call does its work.
+#[inline(never)]
 pub fn survey(page: &[u8], n: usize, tables: &mut Tables) -> Result<(), Refusal>
     ensures { (result ≡ form_verdict page.now n) × IfOk result (λ _. Measured page.now tables.new.offsets tables.new.depths) × (tables.new.offsets ≡ offsets_left page.now n tables.old.offsets) × (tables.new.depths ≡ depths_left page.now n tables.old.depths) }
 {
@@ -296,6 +298,14 @@ pub fn front(page: &[u8]) -> Word
     [page[0], page[1]]
 }
 
+// Where the entry of a type begins, as a table of offsets has it; for the next type's number, where the last entry ends.
+pub fn offset_of(offsets: &[usize], t: usize) -> usize
+    requires { (fixed_max ≤ t) × (t < fixed_max + length offsets.now) × (length offsets.now ≡ suc entries_max) }
+    ensures { result ≡ get_or offsets.now (t - fixed_max) 0 }
+{
+    offsets[t - FIXED]
+}
+
 impl Store<'_> {
     // How many types there are, and so the next one's number.
     pub fn count(self) -> usize
@@ -316,7 +326,7 @@ impl Store<'_> {
         requires { (fixed_max ≤ t) × (t ≤ types_in self.page.now) }
         ensures { result ≡ place_of self.entry.page.now t }
     {
-        self.offsets[t - FIXED]
+        offset_of(self.offsets, t)
     }
 
     // The kind of a type.
@@ -547,8 +557,9 @@ pub fn make_type(
     if kinds::GENERIC < kind {
         return Err(Refusal::Undefined);
     }
+    let n = names::used_in(names)?;
     let mut tables = Tables::new();
-    let n = opened(page, names, &mut tables)?;
+    survey(page, n, &mut tables)?;
     if !parts_used(page, n, kind, children, name) {
         return Err(Refusal::Unused);
     }
@@ -585,8 +596,9 @@ fn shape_of(page: &[u8], tables: &Tables, t: usize) -> Shape
 pub fn read_type(page: &[u8], names: Option<&[u8]>, t: usize) -> Result<Shape, Refusal>
     ensures { result ≡ read_answer page.now (option_copied names.entry) t }
 {
+    let n = names::used_in(names)?;
     let mut tables = Tables::new();
-    let n = opened(page, names, &mut tables)?;
+    survey(page, n, &mut tables)?;
     if count(page) <= t {
         return Err(Refusal::Unused);
     }

@@ -7,7 +7,7 @@ ghost use Rattle.types.specs.Store.{types_max};
 ghost use Rattle.kinds.specs.Kinds.{is_array};
 ghost use Rattle.types.specs.Types.{types_in, Held};
 ghost use Rattle.matching.specs.Matching.{both, in_use};
-ghost use Rattle.marks.specs.Marks.{is_marked, Noted};
+ghost use Rattle.marks.specs.Marks.{is_marked, marking, Noted};
 ghost use Rattle.matching.specs.Memo.{Found};
 ghost use Rattle.unification.specs.Unification.{unified, generic_unify, is_adopted, is_alike, all_pairs, unify, unify_arg, Settled, seen_row, seen_column, SettledAt, Given};
 
@@ -94,12 +94,15 @@ impl Unifier<'_, '_> {
         requires small { (e < types_max) × (a < types_max) }
         requires fits { Settled self.old.matcher.store.page.now self.old.bindings e a }
         ensures value { self.new.bindings ≡ self.old.bindings }
+        ensures marked { self.new.seen.now ≡ marking self.old.seen.now (seen_row e) (seen_column e a) }
         ensures same { Same self.new self.old }
     {
         marks::mark(self.seen, e / 2, column_of(e, a));
     }
 
-    // An expected generic name: what it is bound to must match, and an unbound one is bound.
+    // An expected generic name: what it is bound to must match, and an unbound one is bound. In a frame of its own, so that a level of the walk
+    // takes less.
+    #[inline(never)]
     fn unify_generic(&mut self, name: Symbol, a: usize) -> Result<bool, Refusal>
         requires { a < types_in self.old.matcher.store.page.now }
         ensures value { unified result self.new.bindings ≡ generic_unify self.old.matcher.store.page.now name a self.old.bindings }
