@@ -32,9 +32,9 @@ room n = cond (ltb n small_bytes) tiny (cond (ltb n large_bytes) small types_max
 abbrev pub columns : ℕ → ℕ
 columns n = 2 * n
 
--- a table of n bytes has a row for each type that it has room for, or one for every k of them
+-- a table of n bytes has just a row for each type that it has room for, or one for every k of them
 abbrev pub HasRows : ℕ → ℕ → Type 0
-HasRows k n = room n * columns (room n) ≤ k * n * bits
+HasRows k n = room n * columns (room n) ≡ k * n * bits
 
 -- the place of a mark, with room for n types
 unfoldable pub place : ℕ → ℕ → ℕ → ℕ

@@ -87,7 +87,7 @@ pub fn long(page: &[u8], at: usize) -> u64
     u64::from_be_bytes(page[at..at + LONG_BYTES].try_into().unwrap())
 }
 
-// Writes bytes into the page from index at on.
+// Writes bytes into the page from index at on. One by one: the library's copy of a slice has the archive ask its user for `memmove`.
 pub fn put_bytes(page: &mut [u8], at: usize, bytes: &[u8])
     requires { at + length bytes.now ≤ length page.old }
     ensures { page.new ≡ put page.old at bytes.now }

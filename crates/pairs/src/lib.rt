@@ -303,7 +303,9 @@ pub fn empty_pairs(page: &mut [u8]) -> Result<(), Refusal>
     Ok(())
 }
 
-// The insertion, in the lent page.
+// The insertion, in the lent page. A part of its callers, of which each inserts and nothing else, so that what is refused early sets up no
+// frame of its own for two tables.
+#[inline(always)]
 pub fn insert_pair(
     page: &mut [u8],
     names: Option<&[u8]>,

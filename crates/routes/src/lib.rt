@@ -54,7 +54,9 @@ fn are_cut(requests: &[u8], left: Asked, right: Asked) -> bool
     is_cut(requests) || formulas::is_cut(left.nodes) || formulas::is_cut(right.nodes)
 }
 
-// Inserts pairs, each into the table as the last one left it; a refused one changes nothing.
+// Inserts pairs, each into the table as the last one left it; a refused one changes nothing. In a frame of its own, which holds tables, and
+// is gone when formulas are answered.
+#[inline(never)]
 fn insert_all(table: &mut [u8], names: Option<&[u8]>, bodies: &[pairs::Body])
     ensures { table.new ≡ page_after_all table.old (map (request_in (option_copied names.entry)) bodies.now) }
 {
