@@ -151,8 +151,10 @@ pub fn fresh_table() -> ConversionTable
 }
 
 // The insertion, by value, with n name numbers in use: the table with one more pair. Symbol, factor and base are the arguments of the
-// source's `insert`; a struct of them would be made for each call, and taken apart at once.
+// source's `insert`; a struct of them would be made for each call, and taken apart at once. This, `insert` and `insert_pair` are parts of
+// their callers: by themselves they would each hold a table in a frame of their own, set up before anything is refused.
 #[tactic(auto, using(crate::proofs::Table::insert_broken, crate::proofs::Table::insert_unused, crate::proofs::Table::insert_full, crate::proofs::Table::insert_done, crate::proofs::Table::form, crate::proofs::Table::both_below))]
+#[inline(always)]
 pub fn inserted(
     t: ConversionTable,
     n: usize,
@@ -176,6 +178,7 @@ pub fn inserted(
 }
 
 // The insertion, in the lent table: `insert` of the source.
+#[inline(always)]
 pub fn insert(
     table: &mut ConversionTable,
     n: usize,
@@ -303,8 +306,7 @@ pub fn empty_pairs(page: &mut [u8]) -> Result<(), Refusal>
     Ok(())
 }
 
-// The insertion, in the lent page. A part of its callers, of which each inserts and nothing else, so that what is refused early sets up no
-// frame of its own for two tables.
+// The insertion, in the lent page.
 #[inline(always)]
 pub fn insert_pair(
     page: &mut [u8],
