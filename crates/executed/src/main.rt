@@ -3,7 +3,7 @@
 // indexing ("Answers"), and refusals 3 and 5 of symbols that no byte holds.
 #![tactic(auto)]
 
-ghost use Rattle.std.specs.Prelude.{◌≡◌, true, false, [], ◌∷◌, ◌<◌, Err};
+ghost use Rattle.std.specs.Prelude.{◌≡◌, true, false, [], ◌∷◌, ◌<◌};
 ghost use Rattle.refusals.specs.Numbers.{code_of};
 ghost use Rattle.names.specs.Table.{names_max};
 ghost use Rattle.units.specs.Unit.{places_max, term};

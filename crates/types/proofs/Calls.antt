@@ -98,8 +98,15 @@ module _ (page : List ℕ) (names : Option (List ℕ)) where
     pub used_unformed : (r : Refusal) → Err r ≡ form_verdict page n → Err r ≡ opened_answer page names
     used_unformed r f = let k = used_ok names n e in opened_unformed k.0 n k.1 r f
 
-    pub used_formed : Ok tt ≡ form_verdict page n → Ok n ≡ opened_answer page names
-    used_formed f = let k = used_ok names n e in opened_passed k.0 n k.1 f
+    module _ (f : Ok tt ≡ form_verdict page n) where
+      formed_both : Ok n ≡ opened_answer page names
+      formed_both = let k = used_ok names n e in opened_passed k.0 n k.1 f
+
+      pub used_sound : (store_broken page names ≡ false) × (n ≡ used_of names)
+      used_sound = opened_ok n formed_both
+
+      pub used_two : count_bytes ≤ length page
+      used_two = opened_two n formed_both
 
 -- ---- the parts of a type
 

@@ -1,7 +1,7 @@
 use Rattle.std.specs.Prelude.{option_copied}
 use Rattle.std.proofs.lemmas.Result.{err_from_is_err_and}
 use mathlib.Core.Path.{sym, ◌∙◌}
-use Rattle.types.proofs.Calls.{opened_ok, opened_two, used_refused, used_unformed, used_formed}
+use Rattle.types.proofs.Calls.{used_refused, used_unformed, used_sound, used_two}
 use Rattle.types.proofs.Reading.{read_refused, read_unused, read_given}
 use Rattle.types.proofs.read_type.Goals as goal
 
@@ -19,12 +19,12 @@ returns-in_err-survey c =
     (used_unformed a.page.now (option_copied a.names) c.in_ok-n.n (sym c.in_ok-n.was ∙ c.used_in.ensures.0) _ (sym c.in_err-survey.was ∙ c.survey.ensures.0)))
 
 pub count-requires : goal.count-requires
-count-requires c = opened_two c.args.page.now (option_copied c.args.names) c.in_ok-n.n (used_formed c.args.page.now (option_copied c.args.names) c.in_ok-n.n (sym c.in_ok-n.was ∙ c.used_in.ensures.0) (sym c.in_ok-survey.was ∙ c.survey.ensures.0))
+count-requires c = used_two c.args.page.now (option_copied c.args.names) c.in_ok-n.n (sym c.in_ok-n.was ∙ c.used_in.ensures.0) (sym c.in_ok-survey.was ∙ c.survey.ensures.0)
 
 pub returns-then-count-t : goal.returns-then-count-t
 returns-then-count-t c =
     let a = c.args in
-    let k = opened_ok a.page.now (option_copied a.names) c.in_ok-n.n (used_formed c.args.page.now (option_copied c.args.names) c.in_ok-n.n (sym c.in_ok-n.was ∙ c.used_in.ensures.0) (sym c.in_ok-survey.was ∙ c.survey.ensures.0)) in
+    let k = used_sound a.page.now (option_copied a.names) c.in_ok-n.n (sym c.in_ok-n.was ∙ c.used_in.ensures.0) (sym c.in_ok-survey.was ∙ c.survey.ensures.0) in
     read_unused a.page.now (option_copied a.names) a.t k.0 (rw c.count.ensures at c.if-count-t.true)
 
 pub shape_of-requires : goal.shape_of-requires
@@ -35,5 +35,5 @@ shape_of-requires c =
 pub returns : goal.returns
 returns c =
     let a = c.args in
-    let k = opened_ok a.page.now (option_copied a.names) c.in_ok-n.n (used_formed c.args.page.now (option_copied c.args.names) c.in_ok-n.n (sym c.in_ok-n.was ∙ c.used_in.ensures.0) (sym c.in_ok-survey.was ∙ c.survey.ensures.0)) in
+    let k = used_sound a.page.now (option_copied a.names) c.in_ok-n.n (sym c.in_ok-n.was ∙ c.used_in.ensures.0) (sym c.in_ok-survey.was ∙ c.survey.ensures.0) in
     read_given a.page.now (option_copied a.names) a.t k.0 (rw c.count.ensures at c.if-count-t.false) c.shape_of.result c.shape_of.ensures
